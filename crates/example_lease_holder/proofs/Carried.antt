@@ -11,7 +11,7 @@ use Rattle.tsc_span.proofs.Overlaps.{overlaps-each}
 use Rattle.tsc_cache.proofs.Beginnings.{begins_entries, begins_on}
 use Rattle.tsc_shared.specs.declared.answers.Receipt.{Receipt}
 use Rattle.tsc_shared.specs.declared.answers.Answer.{Answer}
-use Rattle.tsc_shared.specs.Answers.{Accepts, Learns, Meets, Looks, entry_by}
+use Rattle.tsc_shared.specs.Answers.{Accepts, Learns, Meets, AnswersLookup, entry_by}
 use Rattle.timestamp_cache.specs.Words.{Time, Owner, OwnedTime, History, BeginsWith, SeatView, FrontView}
 use Rattle.timestamp_cache.specs.Clear.{IsClearOf, IsClearOfReads, AsksEarliestAt}
 use Rattle.timestamp_cache.proofs.Deciding.{clear_or_not}
@@ -107,7 +107,7 @@ met_all (Err e) first second first' second' span reads ok meets all = absurd (tr
 
 -- and with what it sees as it looks
 pub looked_all : {E : Type 0} (r : Result Answer E) (old new : SeatView) (asked span : Interval)
-    (reads : List OwnedTime) → IsOk r → IfOk r (λ answer. Looks old new asked answer)
+    (reads : List OwnedTime) → IsOk r → IfOk r (λ answer. AnswersLookup old new asked answer)
     → All (HasRead span old.seen) reads → (new.cache ≡ old.cache) ×
     All (HasRead span new.seen) reads
 looked_all (Ok answer) old new asked span reads ok looks all =

@@ -56,6 +56,13 @@ static MANY: [Step; 3] = [
     (0, Close, Number(800_000)),
 ];
 
+/// So it is with as many seats as there may be, of which the last asks nobody.
+static ALL: [Step; 3] = [
+    (0, Open(PAGES, 64, 6_400), Done),
+    (0, AtOnce(Retried(Plan(100, Plain, Plain, Same))), Number(0)),
+    (0, Close, Number(6_400)),
+];
+
 /// Adds that bring new pages, and every other seat's with a gate, are made by their own seats. The
 /// gate is told of the gated ones alone.
 static THEIR_OWN: [Step; 6] = [
@@ -90,6 +97,11 @@ static AGAIN: [Step; 3] = [
 #[test]
 fn eight_seats_have_very_many_places_once(rt: HostRuntime) -> Result<(), Fail> {
     play(&rt, rt.alloc(), &MANY, Once)
+}
+
+#[test]
+fn sixty_four_seats_have_each_place_once(rt: HostRuntime) -> Result<(), Fail> {
+    play(&rt, rt.alloc(), &ALL, Once)
 }
 
 #[test]

@@ -5,12 +5,12 @@ use Rattle.tsc_time.specs.OwnedTime.{Owner, OwnedTime}
 use Rattle.tsc_span.specs.Span.{Interval}
 use Rattle.tsc_shared.specs.declared.answers.Answer.{Answer}
 use Rattle.tsc_shared.specs.Seats.{SeatView}
-use Rattle.tsc_shared.specs.Answers.{Looks, IsAbove}
+use Rattle.tsc_shared.specs.Answers.{AnswersLookup, IsAbove}
 use Rattle.timestamp_cache.specs.Clear.{IsClearOf, IsClearOfReads, AsksAt, AsksEarliestAt}
 use Rattle.timestamp_cache.specs.Earliest.{TellsEarliest}
 
 pub asks : (old new : SeatView) (span : Interval) (by : Owner) (at : Time) (answer : Answer)
-    (clear : Bool) → Looks old new span answer → IsAbove new span answer.value
+    (clear : Bool) → AnswersLookup old new span answer → IsAbove new span answer.value
     → IsTrue clear ↔ IsClearOf answer.value by at → AsksAt old new span by at clear
 asks old new span by at answer clear looks above told = record {
   goes_on = looks.goes_on;
@@ -20,7 +20,7 @@ asks old new span by at answer clear looks above told = record {
 }
 
 pub asks_earliest : (old new : SeatView) (span : Interval) (by : Owner) (from : Time)
-    (answer : Answer) (told : Option Time) → Looks old new span answer →
+    (answer : Answer) (told : Option Time) → AnswersLookup old new span answer →
     IsAbove new span answer.value
     → TellsEarliest (λ t. IsClearOf answer.value by t) from told →
     AsksEarliestAt old new span by from told

@@ -6,15 +6,15 @@ use Rattle.std.proofs.lemmas.List.{length-replicate}
 use Rattle.std.proofs.lemmas.List.Folds.{list_any_more}
 use Rattle.std.proofs.lemmas.Option.{slice_get-get_or}
 use Rattle.tsc_trace.specs.declared.log.Line.{Line}
-use Rattle.tsc_trace.specs.declared.log.Said.{Said}
-use Rattle.tsc_trace.specs.Sayings.{front_of}
+use Rattle.tsc_trace.specs.declared.log.CallAnswer.{CallAnswer}
+use Rattle.tsc_trace.specs.CallAnswers.{front_of}
 use Rattle.tsc_check.specs.Verdict.{is_add, is_add_at, reach, adds_in, has_add_at, reaches_above, is_misplaced, is_misplaced_line, is_wrong_place, least}
 use Rattle.tsc_check.specs.CheckParts.{last_below, holds_at, adds_there, AreOfLists, ArePlaced}
 use Rattle.tsc_check.proofs.Places.{tested}
 use Rattle.tsc_check.proofs.FirstOther.{none_from_least, least_at}
 use Rattle.tsc_check.proofs.Slots.{reach_of_add, reach_of_lookup}
 
-above_wrong : (n : ℕ) (earlier : List Line) (thread : ℕ) (s : Said) →
+above_wrong : (n : ℕ) (earlier : List Line) (thread : ℕ) (s : CallAnswer) →
     reaches_above thread (front_of s) earlier ≡ true → is_misplaced n earlier thread s ≡ true
 above_wrong n earlier thread s e =
     rw e (or_true (nat_lt n (reach s) || (is_add s && has_add_at (front_of s) earlier)))
@@ -40,14 +40,14 @@ past_bound n x = elim (tested (nat_le n x)) [
     before : (n x : ℕ) → nat_le n x ≡ false → nat_lt n (suc x) ≡ false
     before n x e = grind (arith, nat_tests)
 
-add_wrong : (n : ℕ) (earlier : List Line) (thread : ℕ) (s : Said) → is_add s ≡ true →
+add_wrong : (n : ℕ) (earlier : List Line) (thread : ℕ) (s : CallAnswer) → is_add s ≡ true →
     reaches_above thread (front_of s) earlier ≡ false →
     is_misplaced n earlier thread s ≡ (nat_le n (front_of s) || has_add_at (front_of s) earlier)
 add_wrong n earlier thread s add e =
     rw (e, reach_of_add s add, add, past_bound n (front_of s))
     (or_false (nat_le n (front_of s) || has_add_at (front_of s) earlier))
 
-lookup_wrong : (n : ℕ) (earlier : List Line) (thread : ℕ) (s : Said) → is_add s ≡ false →
+lookup_wrong : (n : ℕ) (earlier : List Line) (thread : ℕ) (s : CallAnswer) → is_add s ≡ false →
     reaches_above thread (front_of s) earlier ≡ false →
     is_misplaced n earlier thread s ≡ nat_lt n (front_of s)
 lookup_wrong n earlier thread s look e =

@@ -3,8 +3,8 @@ use Rattle.std.proofs.Common.{cond, ◌≡◌, ◌⊎◌, inl, inr, ◌∙◌, s
 use Rattle.std.proofs.lemmas.Bool.Decides.{nat_tests}
 use Rattle.std.proofs.lemmas.List.Sums.{sum_by-cons}
 use Rattle.tsc_trace.specs.declared.log.Line.{Line}
-use Rattle.tsc_trace.specs.declared.log.Said.{Said}
-use Rattle.tsc_trace.specs.Sayings.{front_of}
+use Rattle.tsc_trace.specs.declared.log.CallAnswer.{CallAnswer}
+use Rattle.tsc_trace.specs.CallAnswers.{front_of}
 use Rattle.tsc_check.specs.Verdict.{is_add, is_add_at, adds_in}
 use Rattle.tsc_check.proofs.Each.{Each, Ordered}
 
@@ -90,7 +90,7 @@ met_once place (suc n) low = elim (tested (place == n)) [
     apart : (place == n) ≡ false → (place ≡ n → ⊥)
     apart e f = true≢false (sym (same_number place n f) ∙ e)
 
-line_once : (n : ℕ) (s : Said) → ((p : ℕ) → is_add_at p s ≡ true → p < n) →
+line_once : (n : ℕ) (s : CallAnswer) → ((p : ℕ) → is_add_at p s ≡ true → p < n) →
     sum_below (λ p. one_if (is_add_at p s)) n ≡ one_if (is_add s)
 line_once n s below = by_test (is_add s) (front_of s) below
   where

@@ -15,13 +15,13 @@ use Rattle.tsc_trace_format.specs.declared.trace.Call.{Call}
 use Rattle.tsc_trace_format.specs.Traces.{Trace}
 use Rattle.tsc_trace.specs.Log.{said_after, after_call}
 use Rattle.tsc_trace.proofs.Additions.{addition_begins, addition_length, no_addition}
-use Rattle.tsc_trace.proofs.SaidOfCalls.{tells_where_adds}
+use Rattle.tsc_trace.proofs.AnswersOfCalls.{tells_where_adds}
 use Rattle.tsc_trace.specs.declared.log.Line.{Line}
-use Rattle.tsc_trace.specs.declared.log.Said.{Said}
-use Rattle.tsc_trace.specs.declared.log.Said.TheVariants as said
+use Rattle.tsc_trace.specs.declared.log.CallAnswer.{CallAnswer}
+use Rattle.tsc_trace.specs.declared.log.CallAnswer.TheVariants as said
 use Rattle.tsc_check.specs.declared.verdict.Verdict.{Verdict}
 use Rattle.tsc_check.specs.declared.verdict.Verdict.TheVariants.{Right, WrongCall, WrongPlace, WrongAnswer}
-use Rattle.tsc_trace.specs.Sayings.{front_of}
+use Rattle.tsc_trace.specs.CallAnswers.{front_of}
 use Rattle.tsc_check.specs.Verdict.{PlacedCall, calls_of, calls_of_list, calls_of_lists, is_of_kind, is_line_of, is_wrong_pair, is_wrong_call, reach, is_add, is_add_at, adds_in, reaches_above, is_wrong_place, first_adds, is_same_bit, is_same_added, is_same_value, is_same_answer, is_untrue_pair, is_wrong_answer, least, named_or, verdict_of}
 use Rattle.tsc_check.specs.TrueLog.{AreTrueLines, AreTrueLists, IsRunOf}
 use Rattle.tsc_check.specs.CheckParts.{adds_there, AreInOrder}
@@ -103,7 +103,7 @@ add_there : (lines : List Line) (i p : ℕ) (line : Line) → slice_get lines i 
     is_add_at p line.said ≡ true → adds_there lines p i ≡ true
 add_there lines i p line at add = at_line lines i line (λ l. is_add_at p l.said) at ∙ add
 
-kind_of_add : (s : Said) (p : ℕ) → is_add_at p s ≡ true → (is_add s ≡ true) × (front_of s ≡ p)
+kind_of_add : (s : CallAnswer) (p : ℕ) → is_add_at p s ≡ true → (is_add s ≡ true) × (front_of s ≡ p)
 kind_of_add s p e = let parts = both_parts (is_add s) (front_of s == p) e
     in (parts.0, is_number (front_of s) p parts.1)
 
@@ -174,7 +174,7 @@ call_at_line trace lines pass i line at c of =
     not_false false e = absurd (true≢false e)
 
 -- one entry more, where the call is of the kind of an Add's answer
-one_longer : (thread : ℕ) (g : History) (call : Call) (s : Said) → is_of_kind call s ≡ true →
+one_longer : (thread : ℕ) (g : History) (call : Call) (s : CallAnswer) → is_of_kind call s ≡ true →
     is_add s ≡ true → length (after_call thread g call) ≡ suc (length g)
 one_longer thread g call s kind add =
     let one : ◌≡◌ {A = ℕ} (cond (adds call) 1 0) 1 =
@@ -266,7 +266,7 @@ same_value v w e =
     let owner = (is_same_owner-Decides v.owner w.owner).0 parts.1 in
     λ i. record { time = time i; owner = owner i }
 
-same_said : (a b : Said) → is_same_answer a b ≡ true → front_of a ≡ front_of b → a ≡ b
+same_said : (a b : CallAnswer) → is_same_answer a b ≡ true → front_of a ≡ front_of b → a ≡ b
 same_said (said.Add p x) (said.Add q y) e f = let s = same_added x y e in λ i. said.Add (f i) (s i)
 same_said (said.Batch p x) (said.Batch q y) e f = let s =
     same_added x y e in λ i. said.Batch (f i) (s i)

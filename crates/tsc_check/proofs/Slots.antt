@@ -5,8 +5,8 @@ use Rattle.std.proofs.lemmas.Bool.Decides.{nat_tests}
 use Rattle.std.proofs.lemmas.List.Folds.{list_any_more}
 use Rattle.std.proofs.lemmas.Option.{slice_get_within, get_or_from_slice_get}
 use Rattle.tsc_trace.specs.declared.log.Line.{Line}
-use Rattle.tsc_trace.specs.declared.log.Said.{Said}
-use Rattle.tsc_trace.specs.Sayings.{front_of}
+use Rattle.tsc_trace.specs.declared.log.CallAnswer.{CallAnswer}
+use Rattle.tsc_trace.specs.CallAnswers.{front_of}
 use Rattle.tsc_check.specs.Verdict.{is_add, is_add_at, reach, adds_in, reaches_above, is_misplaced, is_misplaced_line, is_wrong_place}
 use Rattle.tsc_check.specs.CheckParts.{last_below, holds_at, is_lookup_at, adds_there, looks_up_there, ArePlaced}
 use Rattle.tsc_check.proofs.Places.{tested}
@@ -64,18 +64,18 @@ wider n old new low = elim (tested (nat_lt n old)) [
 
 -- ---- what an answer reaches
 
-pub reach_of_add : (s : Said) → is_add s ≡ true → reach s ≡ suc (front_of s)
+pub reach_of_add : (s : CallAnswer) → is_add s ≡ true → reach s ≡ suc (front_of s)
 reach_of_add s e = ap (λ b. if b then suc (front_of s) else front_of s) e
 
-pub reach_of_lookup : (s : Said) → is_add s ≡ false → reach s ≡ front_of s
+pub reach_of_lookup : (s : CallAnswer) → is_add s ≡ false → reach s ≡ front_of s
 reach_of_lookup s e = ap (λ b. if b then suc (front_of s) else front_of s) e
 
-pub front_within_reach : (s : Said) → front_of s ≤ reach s
+pub front_within_reach : (s : CallAnswer) → front_of s ≤ reach s
 front_within_reach s = elim (tested (is_add s))
     [ inl e ↦ omega (arith, reach_of_add s e) | inr e ↦ omega (arith, reach_of_lookup s e) ]
 
 -- what is known of a line that is not misplaced
-pub record IsFine (n : ℕ) (earlier : List Line) (thread : ℕ) (s : Said) : Type 0 where
+pub record IsFine (n : ℕ) (earlier : List Line) (thread : ℕ) (s : CallAnswer) : Type 0 where
   pub within : front_of s ≤ n
   pub known : reaches_above thread (front_of s) earlier ≡ false
   pub below : is_add s ≡ true → front_of s < n
@@ -87,7 +87,7 @@ or_parts false b e = (refl, e)
 not_above : (a b : ℕ) → nat_lt a b ≡ false → b ≤ a
 not_above a b e = grind (arith, nat_tests)
 
-pub fine_said : (n : ℕ) (earlier : List Line) (thread : ℕ) (s : Said) →
+pub fine_said : (n : ℕ) (earlier : List Line) (thread : ℕ) (s : CallAnswer) →
     is_misplaced n earlier thread s ≡ false → IsFine n earlier thread s
 fine_said n earlier thread s f =
     let outer = or_parts _ _ f in
@@ -120,16 +120,16 @@ lookups_more lines i f line at = ap
     (λ b. if b then Some i else last_below (looks_up_there lines f) i)
     (at_line lines i line (λ l. is_lookup_at f l.said) at)
 
-place_of_add : (s : Said) (p : ℕ) → is_add s ≡ true → is_add_at p s ≡ (front_of s == p)
+place_of_add : (s : CallAnswer) (p : ℕ) → is_add s ≡ true → is_add_at p s ≡ (front_of s == p)
 place_of_add s p e = ap (λ b. b && (front_of s == p)) e
 
-no_lookup : (s : Said) (f : ℕ) → is_add s ≡ true → is_lookup_at f s ≡ false
+no_lookup : (s : CallAnswer) (f : ℕ) → is_add s ≡ true → is_lookup_at f s ≡ false
 no_lookup s f e = ap (λ b. not b && (front_of s == f)) e
 
-no_add : (s : Said) (p : ℕ) → is_add s ≡ false → is_add_at p s ≡ false
+no_add : (s : CallAnswer) (p : ℕ) → is_add s ≡ false → is_add_at p s ≡ false
 no_add s p e = ap (λ b. b && (front_of s == p)) e
 
-front_of_lookup : (s : Said) (f : ℕ) → is_add s ≡ false → is_lookup_at f s ≡ (front_of s == f)
+front_of_lookup : (s : CallAnswer) (f : ℕ) → is_add s ≡ false → is_lookup_at f s ≡ (front_of s == f)
 front_of_lookup s f e = ap (λ b. not b && (front_of s == f)) e
 
 get_last : {X : Type 0} (xs : List X) (x d : X) (j : ℕ) → j ≡ length xs →

@@ -8,8 +8,8 @@ use Rattle.tsc_trace_format.specs.declared.trace.Call.{Call}
 use Rattle.tsc_trace_format.specs.Traces.{Trace}
 use Rattle.tsc_trace.specs.Log.{said_after, after_call}
 use Rattle.tsc_trace.specs.declared.log.Line.{Line}
-use Rattle.tsc_trace.specs.declared.log.Said.{Said}
-use Rattle.tsc_trace.specs.Sayings.{front_of}
+use Rattle.tsc_trace.specs.declared.log.CallAnswer.{CallAnswer}
+use Rattle.tsc_trace.specs.CallAnswers.{front_of}
 use Rattle.tsc_check.specs.Verdict.{PlacedCall, calls_of_list, calls_of_lists, calls_of, is_of_kind, is_line_of, is_wrong_pair, is_wrong_call, is_add, is_add_at, adds_in, has_add_at, is_misplaced, is_misplaced_line, is_wrong_place, is_wrong_answer, is_untrue_pair, is_same_answer, with_adds_at, first_adds, least}
 use Rattle.tsc_check.specs.CheckParts.{ArePlaced, first_other, last_below, holds_at, is_lookup_at, adds_there, looks_up_there, is_before_front, call_in, AreInOrder, Lowers, LowersAt}
 use Rattle.tsc_check.proofs.Places.{tested}
@@ -127,7 +127,8 @@ wrong_at trace lines i line c at of =
     ap (λ o. is_untrue_pair trace lines o (slice_get lines i)) of ∙
     ap (is_untrue_pair trace lines (Some c)) at
 
-lookup_parts : (s : Said) (f : ℕ) → is_lookup_at f s ≡ true → (is_add s ≡ false) × (front_of s ≡ f)
+lookup_parts : (s : CallAnswer) (f : ℕ) → is_lookup_at f s ≡ true →
+    (is_add s ≡ false) × (front_of s ≡ f)
 lookup_parts s f e = let parts = both_parts (not (is_add s)) (front_of s == f) e
     in (not_true (is_add s) parts.0, is_number (front_of s) f parts.1)
   where
@@ -135,7 +136,7 @@ lookup_parts s f e = let parts = both_parts (not (is_add s)) (front_of s == f) e
     not_true true h = absurd (true≢false (sym h))
     not_true false h = refl
 
-add_parts : (s : Said) (p : ℕ) → is_add_at p s ≡ true → (is_add s ≡ true) × (front_of s ≡ p)
+add_parts : (s : CallAnswer) (p : ℕ) → is_add_at p s ≡ true → (is_add s ≡ true) × (front_of s ≡ p)
 add_parts s p e = let parts = both_parts (is_add s) (front_of s == p) e
     in (parts.0, is_number (front_of s) p parts.1)
 
@@ -233,7 +234,7 @@ add_is_taken lines j p line at add taken =
     or_true true = refl
     or_true false = refl
 
-    by_said : (s : Said) → is_add_at p s ≡ true →
+    by_said : (s : CallAnswer) → is_add_at p s ≡ true →
         is_misplaced (adds_in lines) (take j lines) line.thread s ≡ true
     by_said s e =
         let parts = add_parts s p e in
@@ -513,7 +514,7 @@ below_next lines f j e =
     one_of_both true m e = e
     one_of_both false m e = rw e refl
 
-    by_said : (s : Said) → nat_lt (front_of s) (suc f) ≡ true →
+    by_said : (s : CallAnswer) → nat_lt (front_of s) (suc f) ≡ true →
         (nat_lt (front_of s) f ≡ true) ⊎ ((is_lookup_at f s || is_add_at f s) ≡ true)
     by_said s t = elim (here (front_of s) t)
         [ inl g ↦ inl g | inr g ↦ inr (one_of_both (is_add s) (front_of s == f) g) ]

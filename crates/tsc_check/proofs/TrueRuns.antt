@@ -7,8 +7,8 @@ use Rattle.tsc_trace_format.specs.Calls.{adds}
 use Rattle.tsc_trace_format.specs.declared.trace.Call.{Call}
 use Rattle.tsc_trace.specs.Log.{said_after, after_call}
 use Rattle.tsc_trace.specs.declared.log.Line.{Line}
-use Rattle.tsc_trace.proofs.SaidOfCalls.{front_in, tells_in}
-use Rattle.tsc_trace.specs.Sayings.{front_of}
+use Rattle.tsc_trace.proofs.AnswersOfCalls.{front_in, tells_in}
+use Rattle.tsc_trace.specs.CallAnswers.{front_of}
 use Rattle.tsc_check.specs.Verdict.{PlacedCall, calls_of_list, calls_of_lists, reach, is_add, adds_in}
 use Rattle.tsc_check.specs.TrueLog.{adds_of_list, adds_of_lists, IsTrueLine, AreTrueLines, AreTrueLists}
 use Rattle.tsc_check.proofs.Each.{Each, Ordered, each_append, each_weaker, ordered_append}

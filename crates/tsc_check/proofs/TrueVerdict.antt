@@ -13,12 +13,12 @@ use Rattle.tsc_trace_format.specs.declared.trace.Call.{Call}
 use Rattle.tsc_trace_format.specs.Traces.{Trace}
 use Rattle.tsc_trace.specs.Log.{said_after, entry_after, with_addition, after_call}
 use Rattle.tsc_trace.proofs.Additions.{begins_before}
-use Rattle.tsc_trace.proofs.SaidOfCalls.{kind_itself, kind_in}
+use Rattle.tsc_trace.proofs.AnswersOfCalls.{kind_itself, kind_in}
 use Rattle.tsc_trace.specs.declared.log.Line.{Line}
-use Rattle.tsc_trace.specs.declared.log.Said.{Said}
-use Rattle.tsc_trace.specs.declared.log.Said.TheVariants as said
+use Rattle.tsc_trace.specs.declared.log.CallAnswer.{CallAnswer}
+use Rattle.tsc_trace.specs.declared.log.CallAnswer.TheVariants as said
 use Rattle.tsc_check.specs.declared.verdict.Verdict.TheVariants.{Right}
-use Rattle.tsc_trace.specs.Sayings.{front_of}
+use Rattle.tsc_trace.specs.CallAnswers.{front_of}
 use Rattle.tsc_check.specs.Verdict.{PlacedCall, calls_of, is_of_kind, is_line_of, is_wrong_call, reach, is_add, is_add_at, adds_in, is_misplaced, is_misplaced_line, is_wrong_place, with_adds_at, first_adds, is_same_bit, is_same_answer, is_untrue_pair, is_wrong_answer, least, verdict_of}
 use Rattle.tsc_check.specs.TrueLog.{IsRunOf}
 use Rattle.tsc_check.proofs.Each.{Each, Ordered, each_weaker, ordered_both, before_it, each_at, none_passes, at_seam}
@@ -132,7 +132,7 @@ some_below [] p e s = absurd (no_some e s)
 some_below (x ∷ h) zero e s = omega arith
 some_below (x ∷ h) (suc p) e s = omega (arith, some_below h p e s)
 
-reach_at : (p : ℕ) (s : Said) → is_add_at p s ≡ true → (reach s ≡ suc p) × (front_of s ≡ p)
+reach_at : (p : ℕ) (s : CallAnswer) → is_add_at p s ≡ true → (reach s ≡ suc p) × (front_of s ≡ p)
 reach_at p s at =
     let parts = both_parts (is_add s) (front_of s == p) at in
     let front = is_number (front_of s) p parts.1 in
@@ -174,7 +174,7 @@ reaches_none thread n line most = by_test (line.thread == thread) refl
 within_test : (a b : ℕ) → a ≤ b → nat_lt b a ≡ false
 within_test a b e = grind (arith, nat_tests)
 
-placed : (n : ℕ) (earlier : List Line) (thread : ℕ) (s : Said)
+placed : (n : ℕ) (earlier : List Line) (thread : ℕ) (s : CallAnswer)
     → ((p : ℕ) → is_add_at p s ≡ true → p < n) → front_of s ≤ n
     → Each (λ l. (l.thread ≡ thread → reach l.said ≤ front_of s) ×
     ((p : ℕ) → is_add_at p l.said ≡ true → is_add_at p s ≡ false)) earlier
@@ -222,7 +222,7 @@ same_bits : (b : Bool) → is_same_bit b b ≡ true
 same_bits true = refl
 same_bits false = refl
 
-same_answers : (s : Said) → is_same_answer s s ≡ true
+same_answers : (s : CallAnswer) → is_same_answer s s ≡ true
 same_answers (said.Add place added) =
     rw (same_bits added.kept, same_bits added.rotated, same_number added.evicted) refl
 same_answers (said.Batch place added) =

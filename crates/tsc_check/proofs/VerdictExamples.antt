@@ -7,12 +7,12 @@ use Rattle.tsc_cache.proofs.ExampleSettings.{at, of_first, of_second, usual, twe
 use Rattle.tsc_trace_format.specs.declared.trace.Call.TheVariants.{Add, Batch, Get}
 use Rattle.tsc_trace_format.specs.Traces.{Trace}
 use Rattle.tsc_trace.specs.declared.log.Line.{Line}
-use Rattle.tsc_trace.specs.declared.log.Said.{Said}
-use Rattle.tsc_trace.specs.declared.log.Said.TheVariants as said
+use Rattle.tsc_trace.specs.declared.log.CallAnswer.{CallAnswer}
+use Rattle.tsc_trace.specs.declared.log.CallAnswer.TheVariants as said
 use Rattle.tsc_check.specs.Verdict.{verdict_of}
 use Rattle.tsc_check.specs.declared.verdict.Verdict.TheVariants.{Right, WrongCall, WrongPlace, WrongAnswer}
 
-abbrev pub line : ℕ → ℕ → Said → Line
+abbrev pub line : ℕ → ℕ → CallAnswer → Line
 line thread index answer = record { thread = thread; index = index; said = answer }
 
 -- ---- three lists

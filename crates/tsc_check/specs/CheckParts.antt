@@ -2,8 +2,8 @@
 -- order of the Adds.
 use Rattle.std.specs.Prelude.{◌≡◌, ◌⊎◌, ℕ, zero, suc, ◌==◌, ◌<◌, ◌≤◌, ◌&&◌, not, nat_lt, List, [], ◌∷◌, length, take, get_or, slice_get, Bool, true, false, Option, Some, None, if◌then◌else◌}
 use Rattle.tsc_trace.specs.declared.log.Line.{Line}
-use Rattle.tsc_trace.specs.declared.log.Said.{Said}
-use Rattle.tsc_trace.specs.Sayings.{front_of}
+use Rattle.tsc_trace.specs.declared.log.CallAnswer.{CallAnswer}
+use Rattle.tsc_trace.specs.CallAnswers.{front_of}
 use Rattle.tsc_cache.specs.State.{CacheState}
 use Rattle.tsc_cache.specs.History.{state_of}
 use Rattle.tsc_cache.specs.CacheView.{CacheView, RepresentsState}
@@ -30,7 +30,7 @@ holds_at test None = false
 holds_at test (Some line) = test line
 
 -- whether an answer is that of a lookup with this front
-abbrev pub is_lookup_at : ℕ → Said → Bool
+abbrev pub is_lookup_at : ℕ → CallAnswer → Bool
 is_lookup_at f s = not (is_add s) && (front_of s == f)
 
 -- whether a line, by its number, is that of an Add at this place, or of a lookup with this front

@@ -9,11 +9,11 @@ use Rattle.tsc_cache.specs.declared.added.Added.{Added}
 use Rattle.tsc_trace_format.specs.Calls.{kind_of, is_same_kind}
 use Rattle.tsc_trace_format.specs.declared.trace.Call.{Call}
 use Rattle.tsc_trace_format.specs.Traces.{Trace}
-use Rattle.tsc_trace.specs.Sayings.{kind_of_said, told_of, front_of}
+use Rattle.tsc_trace.specs.CallAnswers.{kind_of_answer, outcome_of, front_of}
 use Rattle.tsc_trace.specs.Log.{said_after, after_call}
 use Rattle.tsc_trace.specs.declared.log.Line.{Line}
-use Rattle.tsc_trace.specs.declared.log.Said.{Said}
-use Rattle.tsc_trace.specs.declared.log.Said.TheVariants as said
+use Rattle.tsc_trace.specs.declared.log.CallAnswer.{CallAnswer}
+use Rattle.tsc_trace.specs.declared.log.CallAnswer.TheVariants as said
 use Rattle.tsc_check.specs.declared.verdict.Verdict.{Verdict}
 use Rattle.tsc_check.specs.declared.verdict.Verdict.TheVariants.{Right, WrongCall, WrongPlace, WrongAnswer}
 
@@ -43,8 +43,8 @@ calls_of trace = calls_of_lists 0 trace.threads
 -- ---- the first test: each line is that of its call
 
 -- whether an answer is of the kind of a call
-abbrev pub is_of_kind : Call → Said → Bool
-is_of_kind call s = is_same_kind (kind_of call) (kind_of_said s)
+abbrev pub is_of_kind : Call → CallAnswer → Bool
+is_of_kind call s = is_same_kind (kind_of call) (kind_of_answer s)
 
 -- whether a line has the list, the index and the kind of a call
 abbrev pub is_line_of : PlacedCall → Line → Bool
@@ -65,15 +65,15 @@ is_wrong_call calls lines i = is_wrong_pair (slice_get calls i) (slice_get lines
 -- ---- the second test: places and fronts
 
 -- whether an answer is that of an Add
-abbrev pub is_add : Said → Bool
-is_add s = is_some (told_of s)
+abbrev pub is_add : CallAnswer → Bool
+is_add s = is_some (outcome_of s)
 
 -- whether it is that of an Add at this place
-abbrev pub is_add_at : ℕ → Said → Bool
+abbrev pub is_add_at : ℕ → CallAnswer → Bool
 is_add_at p s = is_add s && (front_of s == p)
 
 -- how many Adds a caller knows of who has had an answer: those before, and its own
-abbrev pub reach : Said → ℕ
+abbrev pub reach : CallAnswer → ℕ
 reach s = if is_add s then suc (front_of s) else front_of s
 
 -- how many Adds there are in lines
@@ -91,7 +91,7 @@ reaches_above thread n lines = list_any
 
 -- Whether the place or the front of an answer is wrong, after these lines, where there are n Adds
 -- in all: it reaches more than all, or its place is taken, or its list knew of more before.
-abbrev pub is_misplaced : ℕ → List Line → ℕ → Said → Bool
+abbrev pub is_misplaced : ℕ → List Line → ℕ → CallAnswer → Bool
 is_misplaced n earlier thread s = nat_lt n (reach s) ||
     (is_add s && has_add_at (front_of s) earlier) || reaches_above thread (front_of s) earlier
 
@@ -128,7 +128,7 @@ abbrev pub is_same_value : OwnedTime → OwnedTime → Bool
 is_same_value a b = is_same_time a.time b.time && is_same_owner a.owner b.owner
 
 -- whether two answers say the same, whatever their places and fronts
-abbrev pub is_same_answer : Said → Said → Bool
+abbrev pub is_same_answer : CallAnswer → CallAnswer → Bool
 is_same_answer (said.Add p a) (said.Add q b) = is_same_added a b
 is_same_answer (said.Batch p a) (said.Batch q b) = is_same_added a b
 is_same_answer (said.Get f v) (said.Get g w) = is_same_value v w

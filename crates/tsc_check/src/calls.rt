@@ -4,10 +4,10 @@ ghost use Rattle.tsc_trace_format.specs.Limits.{most_calls};
 ghost use Rattle.tsc_check.specs.Verdict.{PlacedCall, calls_of, calls_of_list, is_of_kind, is_line_of};
 ghost use Rattle.tsc_check.specs.CheckParts.{first_other};
 
-use tsc_trace::{Call, Line, Said, Trace};
+use tsc_trace::{Call, CallAnswer, Line, Trace};
 
 /// Whether an answer is of the kind of a call.
-fn is_of_kind(call: &Call, said: Said) -> bool
+fn is_of_kind(call: &Call, said: CallAnswer) -> bool
     ensures { result ≡ is_of_kind call.now said }
 {
     call.kind() == said.kind()

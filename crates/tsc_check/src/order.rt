@@ -1,13 +1,13 @@
 //! The lines of a log in the order of the Adds.
 ghost use Rattle.std.specs.Prelude.{◌≡◌, ◌<◌, ◌≤◌, ◌+◌, ◌^◌, ℕ, nat_lt, suc, length, get_or, is_some, false, None, IfOk, OnOk, IfNone};
 ghost use Rattle.tsc_trace_format.specs.Limits.{most_calls};
-ghost use Rattle.tsc_trace.specs.Sayings.{front_of};
+ghost use Rattle.tsc_trace.specs.CallAnswers.{front_of};
 ghost use Rattle.tsc_check.specs.Verdict.{adds_in, is_add, is_wrong_place, least, reach};
 ghost use Rattle.tsc_check.specs.CheckParts.{AreOfLists, HasPlaced};
 
 use std::alloc::Global;
 use tsc_time::NoMemory;
-use tsc_trace::{Line, Said};
+use tsc_trace::{CallAnswer, Line};
 
 /// Where lines stand among the Adds. There is a slot for each number of Adds, from none to all.
 #[derive(Drop)]
@@ -23,14 +23,14 @@ pub struct Order {
 }
 
 /// Whether an answer is that of an Add.
-pub fn is_add(said: Said) -> bool
+pub fn is_add(said: CallAnswer) -> bool
     ensures { result ≡ is_add said }
 {
     said.told().is_some()
 }
 
 /// How many Adds a caller knows of who has had an answer: those before it, and its own.
-fn reach(said: &Said) -> u64
+fn reach(said: &CallAnswer) -> u64
     requires { front_of said.now + 1 < 2 ^ 64 }
     ensures { result ≡ reach said.now }
 {

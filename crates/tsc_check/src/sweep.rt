@@ -5,7 +5,7 @@ ghost use Rattle.tsc_cache.specs.History.{History, state_of};
 ghost use Rattle.tsc_cache.specs.CacheView.{RepresentsState};
 ghost use Rattle.tsc_trace_format.specs.Calls.{call_fits, is_same_kind};
 ghost use Rattle.tsc_trace.specs.Log.{said_after, after_call};
-ghost use Rattle.tsc_trace.specs.Sayings.{kind_of_said, told_of};
+ghost use Rattle.tsc_trace.specs.CallAnswers.{kind_of_answer, outcome_of};
 ghost use Rattle.tsc_check.specs.Verdict.{adds_in, is_add, is_of_kind, is_same_answer, is_same_value, is_wrong_answer, least};
 ghost use Rattle.tsc_check.specs.CheckParts.{AreInOrder, HasAdded, HasPlaced, Lowers, LowersAt, adds_there, call_in, looks_up_there};
 
@@ -14,7 +14,7 @@ use std::alloc::Global;
 use tsc_cache::{Added, Cache, TimestampCache};
 use tsc_stream::Progress;
 use tsc_time::{NoMemory, Value};
-use tsc_trace::{Call, Line, Said, Trace, add_all_fitting, add_fitting};
+use tsc_trace::{Call, CallAnswer, Line, Trace, add_all_fitting, add_fitting};
 
 /// Whether two values are not the same.
 fn differ(value: Value, other: Value) -> bool
@@ -24,23 +24,23 @@ fn differ(value: Value, other: Value) -> bool
 }
 
 /// Whether the answer of a lookup is another than the cache gives.
-fn is_other_value(cache: &Cache, call: &Call, said: Said) -> bool
+fn is_other_value(cache: &Cache, call: &Call, said: CallAnswer) -> bool
     ensures { (settings : Settings) (h : History) →
         RepresentsState cache.now settings (state_of settings h) → is_add said ≡ false
         → result ≡ not (is_same_answer said (said_after settings h call.now)) }
 {
     match (call, said) {
-        (Call::Get { span }, Said::Get { value, .. }) => differ(value, cache.get_max(span)),
-        (Call::Low, Said::Low { time, .. }) => cache.low_water() != time,
+        (Call::Get { span }, CallAnswer::Get { value, .. }) => differ(value, cache.get_max(span)),
+        (Call::Low, CallAnswer::Low { time, .. }) => cache.low_water() != time,
         _ => true,
     }
 }
 
 /// Whether an answer tells of another addition than one of its kind that did this.
-fn is_other_added(said: Said, made: Added) -> bool
-    ensures { (answer : Said) (place : ℕ) →
-        is_same_kind (kind_of_said answer) (kind_of_said said) ≡ true
-        → told_of answer ≡ Some (record { place = place; added = made }) →
+fn is_other_added(said: CallAnswer, made: Added) -> bool
+    ensures { (answer : CallAnswer) (place : ℕ) →
+        is_same_kind (kind_of_answer answer) (kind_of_answer said) ≡ true
+        → outcome_of answer ≡ Some (record { place = place; added = made }) →
         result ≡ not (is_same_answer said answer) }
 {
     match said.told() {
@@ -50,7 +50,7 @@ fn is_other_added(said: Said, made: Added) -> bool
 }
 
 /// Makes an Add or a batch, and tells whether its answer is another.
-fn is_other_add(cache: &mut Cache, call: &Call, said: Said) -> Result<bool, NoMemory>
+fn is_other_add(cache: &mut Cache, call: &Call, said: CallAnswer) -> Result<bool, NoMemory>
     requires { call_fits cache.old.settings call.now ≡ true }
     ensures other { IfOk result (λ other. (settings : Settings) (h : History) →
         RepresentsState cache.old settings (state_of settings h) → is_add said ≡ true

@@ -1,6 +1,7 @@
 -- What Adds make of a cache that lacks some of them, and that they fit a page of it.
-use Rattle.std.proofs.Common.{◌≡◌, ◌∙◌, refl, sym, ap, subst, true, false, true≢false, ℕ, ◌+◌, ◌<◌, List, [], ◌∷◌}
-use Rattle.std.proofs.Common.{◌++◌, length, get_or, drop, take, suc, arith, append_assoc, append-nil}
+use Rattle.std.proofs.Common.{◌≡◌, ◌∙◌, refl, sym, ap, subst, true, false, true≢false, ℕ, ◌+◌, ◌<◌}
+use Rattle.std.proofs.Common.{List, [], ◌∷◌, ◌++◌, length, get_or, drop, take, suc, arith}
+use Rattle.std.proofs.Common.{append_assoc, append-nil}
 use Rattle.std.specs.Prelude.{Option, None, Some, is_some}
 use Rattle.std.specs.Arc.{arc_value}
 use Rattle.std.specs.declared.sync.Arc.{Arc}
@@ -25,7 +26,7 @@ use Rattle.tsc_left_right.specs.declared.table.Lagging.{Lagging}
 use Rattle.tsc_left_right.specs.declared.table.WriterState.{WriterState}
 use Rattle.tsc_left_right.specs.declared.table.MarkList.{MarkList}
 use Rattle.tsc_left_right.specs.declared.table.MarkList.TheVariants.{One, Many}
-use Rattle.tsc_left_right.specs.Rule.{IsAfter, IsState, Lags, HandleLags, AreOf, CanBe, marks_in}
+use Rattle.tsc_left_right.specs.Rule.{IsAfter, IsState, LagsBy, HandleLags, AreOf, CanBe, marks_in}
 use Rattle.tsc_left_right.specs.Rule.{adds_in, with_first, late_adds}
 use Rattle.tsc_combining.specs.declared.adding.InPlace.{InPlace}
 use Rattle.tsc_combining.specs.declared.adding.InPlace.TheVariants.{Made, Untouched, Spoiled}
@@ -44,7 +45,7 @@ pub state_push : (t : Setup) (h : History) (e : Entry) (p : UnappliedAdd) (cache
 state_push t h e p cache marks now stands = rw (state_of-push t.config h e, marks, now) stands
 
 -- A cache that lacks nothing stands for the whole history,
-pub lacks_none : (t : Setup) (h : History) (cache : CacheView) → Lags t h [] cache
+pub lacks_none : (t : Setup) (h : History) (cache : CacheView) → LagsBy t h [] cache
     → IsState t h cache
 lacks_none t h cache lags = by_entries lags.0 lags.1 lags.2 lags.3 lags.4
   where
@@ -56,17 +57,17 @@ lacks_none t h cache lags = by_entries lags.0 lags.1 lags.2 lags.3 lags.4
 
 -- and what stands for the whole history lacks nothing.
 pub none_lags : (t : Setup) (h : History) (cache : CacheView) → IsState t h cache
-    → Lags t h [] cache
+    → LagsBy t h [] cache
 none_lags t h cache stands = (h, [], sym (append-nil h), tt, stands)
 
 -- A cache that has had the first Add that it lacked lacks the others still.
 pub first_had : (t : Setup) (h : History) (p : UnappliedAdd) (ps : List UnappliedAdd)
     (old new : CacheView) → StandsAfterAll old new (marks_in p.marks) p.moment
-    → Lags t h (p ∷ ps) old → Lags t h ps new
+    → LagsBy t h (p ∷ ps) old → LagsBy t h ps new
 first_had t h p ps old new stands lags = by_entries lags.0 lags.1 lags.2 lags.3 lags.4
   where
     by_entries : (before es : History) → h ≡ before ++ es → AreOf es (p ∷ ps)
-        → IsState t before old → Lags t h ps new
+        → IsState t before old → LagsBy t h ps new
     by_entries before [] is are was = absurd are
     by_entries before (e ∷ es) is are was = (
       before ++ e ∷ [],
@@ -202,12 +203,12 @@ pub next_taken : (state : WriterState) (standby : Arc CacheView Global) (next : 
     → HasTaken (late_adds state.lagging) (arc_value standby) next add lagging added
     → IsNext state add next added
 next_taken state standby next add lagging added there taken =
-    let lags : (t : Setup) (h : History) (flips : ℕ) → IsAfter t h flips state
-    → Lags t h (late_adds state.lagging) (arc_value standby) =
-    λ t h flips after. subst (HandleLags t h (late_adds state.lagging)) there after.behind in
+    let lags : (t : Setup) (h : History) (head : ℕ) → IsAfter t h head state
+    → LagsBy t h (late_adds state.lagging) (arc_value standby) =
+    λ t h head after. subst (HandleLags t h (late_adds state.lagging)) there after.behind in
     record {
-      stands = λ t h flips after. taken.stands t h (lags t h flips after);
-      tells = λ t h flips after. taken.tells t h (lags t h flips after);
+      stands = λ t h head after. taken.stands t h (lags t h head after);
+      tells = λ t h head after. taken.tells t h (lags t h head after);
     }
 
 -- or one made anew from the active one.
@@ -215,8 +216,8 @@ pub next_new : (state : WriterState) (next : CacheView) (add : UnappliedAdd) (ad
     → StandsAfterAdd [] (arc_value state.active) next add
     → TellsAdd [] (arc_value state.active) add added → IsNext state add next added
 next_new state next add added stands told = record {
-  stands = λ t h flips after. stands t h (none_lags t h (arc_value state.active) after.stands);
-  tells = λ t h flips after. told t h (none_lags t h (arc_value state.active) after.stands);
+  stands = λ t h head after. stands t h (none_lags t h (arc_value state.active) after.stands);
+  tells = λ t h head after. told t h (none_lags t h (arc_value state.active) after.stands);
 }
 
 -- marks that can be made fit a page
@@ -250,7 +251,7 @@ last_fit t h before (e ∷ es) (p ∷ ps) cache legal set_up is are =
 
 -- What a cache has not had yet fits a page of it.
 pub late_fit : (t : Setup) (h : History) (ps : List UnappliedAdd) (cache : CacheView)
-    → IsLegal t.config t.seats h → Lags t h ps cache → LateFit cache ps
+    → IsLegal t.config t.seats h → LagsBy t h ps cache → LateFit cache ps
 late_fit t h ps cache legal lags =
     last_fit t h lags.0 lags.1 ps cache legal lags.4.set_up lags.2 lags.3
 
@@ -265,39 +266,38 @@ handle_fits t h (Some handle) ps add legal behind fit = (
 )
 
 -- An Add that fits a page of both copies of a legal history,
-pub all_fits : (t : Setup) (h : History) (flips : ℕ) (state : WriterState) (add : UnappliedAdd)
-    → IsLegal t.config t.seats h → IsAfter t h flips state
+pub all_fits : (t : Setup) (h : History) (head : ℕ) (state : WriterState) (add : UnappliedAdd)
+    → IsLegal t.config t.seats h → IsAfter t h head state
     → all_fit t.config (marks_in add.marks) ≡ true → AllFit state add
-all_fits t h flips state add legal after fit = record {
+all_fits t h head state add legal after fit = record {
   active = ap (λ (x : Settings). all_fit x (marks_in add.marks)) after.stands.set_up ∙ fit;
   standby = handle_fits t h state.standby (late_adds state.lagging) add legal after.behind fit;
 }
 
 -- as one does that can be made.
-pub can_fit : (t : Setup) (h : History) (flips : ℕ) (state : WriterState) (add : UnappliedAdd)
-    → IsLegal t.config t.seats h → IsAfter t h flips state → CanBe t add → AllFit state add
-can_fit t h flips state add legal after can =
-    all_fits t h flips state add legal after
+pub can_fit : (t : Setup) (h : History) (head : ℕ) (state : WriterState) (add : UnappliedAdd)
+    → IsLegal t.config t.seats h → IsAfter t h head state → CanBe t add → AllFit state add
+can_fit t h head state add legal after can =
+    all_fits t h head state add legal after
     (made_fit t.config (marks_in add.marks) (can 0 0).marks)
 
 handed_out : (old now laid : WriterState) (standby : Arc CacheView Global) (lagging : Lagging)
     (out : Option (Arc CacheView Global)) → now ≡ record old { standby = None; lagging = lagging }
     → (laid ≡ now) × (out ≡ Some standby) → KeepsOthers old laid
-    × ((t : Setup) (h : History) (flips : ℕ) → IsAfter t h flips old → IsAfter t h flips laid)
+    × ((t : Setup) (h : History) (head : ℕ) → IsAfter t h head old → IsAfter t h head laid)
     × (out ≡ None → HandleCatchesUp (late_adds old.lagging) old.standby laid.standby)
 handed_out old now laid standby lagging out is handed =
     let same : laid ≡ record old { standby = None; lagging = lagging } = handed.0 ∙ is in (
       record {
         active = ap (λ (w : WriterState). w.active) same;
         length = ap (λ (w : WriterState). w.length) same;
-        flips = ap (λ (w : WriterState). w.flips) same;
-        served = ap (λ (w : WriterState). w.served) same;
+        head = ap (λ (w : WriterState). w.head) same;
       },
-      (λ t h flips after. subst (λ (w : WriterState). IsAfter t h flips w) (sym same) (record {
+      (λ t h head after. subst (λ (w : WriterState). IsAfter t h head w) (sym same) (record {
         stands = after.stands;
         behind = tt;
         length = after.length;
-        flips_is = after.flips_is;
+        head_is = after.head_is;
       })),
       (λ none. absurd (true≢false (ap is_some (sym handed.1 ∙ none)))),
     )
@@ -314,7 +314,7 @@ pub laid_aside : (old now laid : WriterState) (standby standby' : Arc CacheView 
     → (IsUntouched tried → (laid ≡ record now { standby = Some standby' }) × (out ≡ None))
     → ((IsUntouched tried → ⊥) → (laid ≡ now) × (out ≡ Some standby'))
     → KeepsOthers old laid
-    × ((t : Setup) (h : History) (flips : ℕ) → IsAfter t h flips old → IsAfter t h flips laid)
+    × ((t : Setup) (h : History) (head : ℕ) → IsAfter t h head old → IsAfter t h head laid)
     × (out ≡ None → HandleCatchesUp (late_adds old.lagging) old.standby laid.standby)
 laid_aside old now laid standby standby' lagging marks Untouched out there is still left kept
     spoiled =
@@ -323,16 +323,15 @@ laid_aside old now laid standby standby' lagging marks Untouched out there is st
       record {
         active = ap (λ (w : WriterState). w.active) same;
         length = ap (λ (w : WriterState). w.length) same;
-        flips = ap (λ (w : WriterState). w.flips) same;
-        served = ap (λ (w : WriterState). w.served) same;
+        head = ap (λ (w : WriterState). w.head) same;
       },
-      (λ t h flips after. subst (λ (w : WriterState). IsAfter t h flips w) (sym same) (record {
+      (λ t h head after. subst (λ (w : WriterState). IsAfter t h head w) (sym same) (record {
         stands = after.stands;
         behind = still tt t h
             (subst (λ (o : Option (Arc CacheView Global)). HandleLags t h (late_adds old.lagging) o)
             there after.behind);
         length = after.length;
-        flips_is = after.flips_is;
+        head_is = after.head_is;
       })),
       (λ _. subst (λ (w : WriterState). HandleCatchesUp (late_adds old.lagging) old.standby
           w.standby) (sym same)

@@ -1,5 +1,6 @@
 -- What a cache has had of an Add, where it was made in place or left out.
-use Rattle.std.proofs.Common.{◌≡◌, ◌∙◌, inl, inr, refl, sym, ap, subst, Bool, true, false, List, [], ◌∷◌, ◌++◌, length, take, not, ◌&&◌, arith}
+use Rattle.std.proofs.Common.{◌≡◌, ◌∙◌, inl, inr, refl, sym, ap, subst, Bool, true, false, List}
+use Rattle.std.proofs.Common.{[], ◌∷◌, ◌++◌, length, take, not, ◌&&◌, arith}
 use Rattle.std.specs.Prelude.{Option, Some, Result, Ok, Err, OnOk}
 use Rattle.std.specs.Result.{is_err}
 use Rattle.std.proofs.lemmas.Bool.{cases_Bool}
@@ -21,7 +22,8 @@ use Rattle.tsc_left_right.specs.Rule.{marks_in}
 use Rattle.tsc_combining.specs.Serving.{IsMadeIn}
 use Rattle.tsc_combining.specs.declared.adding.InPlace.{InPlace}
 use Rattle.tsc_combining.specs.declared.adding.InPlace.TheVariants.{Made, Untouched, Spoiled}
-use Rattle.tsc_combining.specs.Adding.{HasHadSome, CatchesUp, IfMade, HasNoPart, IsUntouched, StillLags}
+use Rattle.tsc_combining.specs.Adding.{HasHadSome, CatchesUp, IfMade, HasNoPart, IsUntouched}
+use Rattle.tsc_combining.specs.Adding.{StillLags}
 
 -- all of them
 pub had_all : (old new : CacheView) (ms : List Mark) (now : Time) (added : Added) →

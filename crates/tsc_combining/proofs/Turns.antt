@@ -4,7 +4,6 @@ use Rattle.std.proofs.Common.{◌∷◌}
 use Rattle.std.proofs.lemmas.Option.{same_Some}
 use Rattle.std.specs.Prelude.{Option, Some, None, Box, IfSome, IfNone}
 use Rattle.std.specs.declared.alloc.Global.{Global}
-use Rattle.std.specs.Int.{bit_at}
 use Rattle.atomic_table.specs.Table.{rest}
 use Rattle.atomic_table.specs.Seated.{TableId}
 use Rattle.tsc_cache.specs.History.{own_count}
@@ -16,7 +15,7 @@ use Rattle.tsc_left_right.specs.declared.table.Slot.TheVariants.{Empty}
 use Rattle.tsc_left_right.specs.declared.table.Knowledge.{Knowledge}
 use Rattle.tsc_left_right.specs.declared.requesting.Heard.{Heard}
 use Rattle.tsc_left_right.specs.declared.requesting.Heard.TheVariants as heard
-use Rattle.tsc_left_right.specs.Rule.{request_slot, times, IsAfter, CanBe}
+use Rattle.tsc_left_right.specs.Rule.{request_slot, times, answer_bit, IsAfter, CanBe}
 use Rattle.tsc_left_right.specs.Steps.{At, state_in, with_state, number_of, seen_of, count_of}
 use Rattle.tsc_left_right.specs.Steps.{acquired}
 use Rattle.tsc_left_right.specs.RequestSteps.{withdrawn, asks_none, HearsMade}
@@ -92,9 +91,10 @@ pub acquired_releases : (v : Knowledge) (me : At) (state : WriterState) → HasA
 acquired_releases v me state a unpinned = record {
   lock = (0, None, acquired_writes v me state a unpinned);
   none = ap (λ (w : Knowledge). (state_in w).collected) a.0.after;
-  is_after = subst (λ (w : Knowledge). IsAfter w.setup (state_in w).history (state_in w).flips
+  is_told = ap (λ (w : Knowledge). (state_in w).plan) a.0.after
+      ∙ sym (ap (λ (w : Knowledge). (state_in w).head) a.0.after);
+  is_after = subst (λ (w : Knowledge). IsAfter w.setup (state_in w).history (state_in w).head
       state) (sym a.0.after) a.0.is_after;
-  served = sym (ap (λ (w : Knowledge). (state_in w).served) a.0.after);
 }
 
 -- What a seat knows that has released the lock again is as it was.
@@ -105,19 +105,19 @@ asks_again me me₁ me₂ toggle add state is a then_ =
     then_
     ∙ (λ i. (released_in (a.0.after i), []))
     ∙ (λ i. let m = is.0 i in (
-      released_in (with_state m.0 (acquired (state_in m.0) a.0.history a.0.flips state.served)),
+      released_in (with_state m.0 (acquired (state_in m.0) a.0.history a.0.head)),
       [],
     ))
     ∙ sym is.0
 
--- It may take its own request back, whose bit of SERVED differs.
+-- It may take its own request back, whose bit of HEAD differs.
 pub may_withdraw : (me me₁ : At) (toggle number : ℕ) (add : UnappliedAdd) (state : WriterState)
     → IsAsking me toggle add → HasAcquired me.0 me₁ state → number ≡ number_of me.0
-    → bit_at state.served number ≢ toggle → MayWithdraw me₁ toggle
+    → answer_bit state.head number ≢ toggle → MayWithdraw me₁ toggle
 may_withdraw me me₁ toggle number add state is a at differs =
     let unpinned : (state_in me.0).stage ≡ 0 = ap (λ (m : At). (state_in m.0).stage) is.0 in
-    let told : (state_in me₁.0).served ≡ state.served =
-    ap (λ (w : Knowledge). (state_in w).served) a.0.after in
+    let told : (state_in me₁.0).plan ≡ state.head =
+    ap (λ (w : Knowledge). (state_in w).plan) a.0.after ∙ sym a.0.is_after.head_is in
     let same : number_of me₁.0 ≡ number = ap number_of a.0.after ∙ sym at in
     let toggles : (state_in me₁.0).toggle ≡ toggle =
     ap (λ (w : Knowledge). (state_in w).toggle) a.0.after
@@ -128,7 +128,7 @@ may_withdraw me me₁ toggle number add state is a at differs =
         ap (λ (w : Knowledge). (state_in w).request) a.0.after ∙ requests me toggle add is,
       );
       new = ap (λ (w : Knowledge). times (number_of w) (state_in w).collected) a.0.after;
-      differs = λ e. differs ((λ i. bit_at (sym told i) (sym same i)) ∙ e ∙ toggles);
+      differs = λ e. differs ((λ i. answer_bit (sym told i) (sym same i)) ∙ e ∙ toggles);
       toggle_is = sym toggles;
       small = is.1;
     }
@@ -161,10 +161,8 @@ pub asked_acquired : (me me₁ me₂ me₃ : At) (toggle now : ℕ) (add : Unapp
     → me₃ ≡ (fetched_in me₂.0 false 0, rest me₂.1)
     → HasAskedFor me me₃ (asked.Acquired state back)
 asked_acquired me me₁ me₂ me₃ toggle now add state back is a w then_ =
-    let served : ℕ = state.value.served in
     let last : me₃ ≡ (
-      with_state (resting me.0)
-          (acquired (state_in (resting me.0)) a.0.history a.0.flips served),
+      with_state (resting me.0) (acquired (state_in (resting me.0)) a.0.history a.0.head),
       (0, Empty) ∷ [],
     ) =
     then_
@@ -172,7 +170,7 @@ asked_acquired me me₁ me₂ me₃ toggle now add state back is a w then_ =
     ∙ (λ i. let u = a.0.after i in
     (fetched_in (with_state u (withdrawn (state_in u) now)) false 0, a.1 i))
     ∙ (λ i. let m = is.0 i in
-    let u = with_state m.0 (acquired (state_in m.0) a.0.history a.0.flips served) in
+    let u = with_state m.0 (acquired (state_in m.0) a.0.history a.0.head) in
     (fetched_in (with_state u (withdrawn (state_in u) now)) false 0, (0, Empty) ∷ [])) in
     let request = requests me toggle add is in
     let same : back.value ≡ add = same_Some back.value add
@@ -182,14 +180,13 @@ asked_acquired me me₁ me₂ me₃ toggle now add state back is a w then_ =
       (
         record {
           history = a.0.history;
-          flips = a.0.flips;
+          head = a.0.head;
           after = ap (λ (m : At). m.0) last;
           begins = a.0.begins;
           legal = a.0.legal;
           own = subst (λ (u : Knowledge). own_count (number_of u) (state_in u).history
               ≡ (state_in u).count) a.0.after w.own;
           limit = a.0.limit;
-          few = a.0.few;
           is_after = a.0.is_after;
         },
         ap (λ (m : At). m.1) last,

@@ -19,7 +19,7 @@ use Rattle.tsc_left_right.specs.declared.table.UnappliedAdd.{UnappliedAdd}
 use Rattle.tsc_left_right.specs.declared.table.Lagging.{Lagging}
 use Rattle.tsc_left_right.specs.declared.table.WriterState.{WriterState}
 use Rattle.tsc_left_right.specs.declared.table.Setup.{Setup}
-use Rattle.tsc_left_right.specs.Rule.{marks_in, late_adds, Lags, IsAfter}
+use Rattle.tsc_left_right.specs.Rule.{marks_in, late_adds, LagsBy, IsAfter}
 use Rattle.tsc_combining.specs.declared.adding.InPlace.{InPlace}
 use Rattle.tsc_combining.specs.declared.adding.InPlace.TheVariants.{Made, Untouched, Spoiled}
 
@@ -45,19 +45,20 @@ pub record AllFit (state : WriterState) (add : UnappliedAdd) : Type 0 where
 -- A cache that lagged stands for all that was added so far, and for this Add behind it.
 abbrev pub StandsAfterAdd : List UnappliedAdd → CacheView → CacheView → UnappliedAdd → Type 0
 StandsAfterAdd late old new add =
-    (t : Setup) (h : History) → Lags t h late old
+    (t : Setup) (h : History) → LagsBy t h late old
     → RepresentsState new t.config
     (step_all t.config (state_of t.config h) (marks_in add.marks) add.moment).state
 
 -- what the last of these Adds did
 abbrev pub TellsAdd : List UnappliedAdd → CacheView → UnappliedAdd → Added → Type 0
 TellsAdd late old add added =
-    (t : Setup) (h : History) → Lags t h late old
+    (t : Setup) (h : History) → LagsBy t h late old
     → added ≡ (step_all t.config (state_of t.config h) (marks_in add.marks) add.moment).added
 
 -- a cache stands for what it stood for, and what it lacks then is said
 abbrev pub StillLags : List UnappliedAdd → List UnappliedAdd → CacheView → CacheView → Type 0
-StillLags late later old new = (t : Setup) (h : History) → Lags t h late old → Lags t h later new
+StillLags late later old new = (t : Setup) (h : History) → LagsBy t h late old →
+    LagsBy t h later new
 
 -- The standby copy lacks nothing.
 abbrev pub IsCaughtUp : Lagging → Type 0
@@ -74,18 +75,17 @@ pub record HasTaken (late : List UnappliedAdd) (old new : CacheView) (add : Unap
 -- A cache is the next one after an Add, whatever history the writer's state was after.
 pub record IsNext (state : WriterState) (add : UnappliedAdd) (next : CacheView) (added : Added)
     : Type 0 where
-  pub stands : (t : Setup) (h : History) (flips : ℕ) → IsAfter t h flips state
+  pub stands : (t : Setup) (h : History) (head : ℕ) → IsAfter t h head state
       → RepresentsState next t.config
       (step_all t.config (state_of t.config h) (marks_in add.marks) add.moment).state
-  pub tells : (t : Setup) (h : History) (flips : ℕ) → IsAfter t h flips state
+  pub tells : (t : Setup) (h : History) (head : ℕ) → IsAfter t h head state
       → added ≡ (step_all t.config (state_of t.config h) (marks_in add.marks) add.moment).added
 
 -- The active copy and all numbers are as they were.
 pub record KeepsOthers (old new : WriterState) : Type 0 where
   pub active : new.active ≡ old.active
   pub length : new.length ≡ old.length
-  pub flips : new.flips ≡ old.flips
-  pub served : new.served ≡ old.served
+  pub head : new.head ≡ old.head
 
 -- Whether the Adds that the standby copy has not had yet brought no new page, since it has rotated
 -- as often as the active one.

@@ -10,8 +10,8 @@ pub record IsSeatOf (context : AddContext) (who : Participant) : Type 0 where
   pub setup : context.setup.now ≡ who.me.0.setup
   pub number : IsNumber who.me.0 context.number
 
--- A seat between two calls that may ask another for its Add, as the first 64 seats may.
+-- A seat between two calls that may ask another for its Add, as the first 63 seats may.
 pub record MayAsk (context : AddContext) (who : Participant) : Type 0 where
   pub seat : IsSeatOf context who
   pub rest : IsAtRest who.me
-  pub small : context.number < 64
+  pub small : context.number < 63

@@ -1,5 +1,5 @@
 -- How a seat's Add is made. (For private contracts.)
-use Rattle.std.specs.Prelude.{◌≡◌, ℕ, ◌+◌, ◌<◌, ◌≤◌, List, [], ◌∷◌, ◌++◌, length, Bool, true, false}
+use Rattle.std.specs.Prelude.{◌≡◌, ℕ, ◌+◌, ◌<◌, ◌≤◌, [], ◌∷◌, ◌++◌, length, Bool, true, false}
 use Rattle.std.specs.Prelude.{Option, Some, None, Result, Ok, Err}
 use Rattle.std.specs.Arc.{arc_value}
 use Rattle.std.specs.declared.sync.Arc.{Arc}
@@ -11,12 +11,11 @@ use Rattle.tsc_cache.specs.CacheView.{CacheView}
 use Rattle.tsc_cache.specs.History.{History, own_count, state_of, BeginsWith, IsLegal}
 use Rattle.tsc_left_right.specs.declared.table.UnappliedAdd.{UnappliedAdd}
 use Rattle.tsc_left_right.specs.declared.table.WriterState.{WriterState}
-use Rattle.tsc_left_right.specs.declared.table.Collected.{Collected}
 use Rattle.tsc_left_right.specs.declared.table.Knowledge.{Knowledge}
 use Rattle.tsc_left_right.specs.declared.table.Slot.TheVariants.{Empty}
 use Rattle.tsc_left_right.specs.Rule.{at_rest, entry_of, marks_in, CanBe, IsAfter}
 use Rattle.tsc_left_right.specs.Steps.{At, state_in, with_state, seated, number_of, seen_of}
-use Rattle.tsc_left_right.specs.Steps.{count_of, acquired, own_of, with_own, grown, all_made}
+use Rattle.tsc_left_right.specs.Steps.{count_of, acquired}
 use Rattle.tsc_combining.specs.Waiting.{HasEnd}
 use Rattle.tsc_left_right.specs.Participating.{IsWriting, HasInstalled, IsReady, MayRelease}
 use Rattle.tsc_left_right.specs.Participating.{released_in}
@@ -28,23 +27,20 @@ use Rattle.tsc_combining.specs.declared.writing.NotAdded.TheVariants as not_adde
 use Rattle.tsc_combining.specs.declared.writing.Outcome.{Outcome}
 use Rattle.tsc_combining.specs.declared.writing.Outcome.TheVariants.{Busy, Made, Refused}
 use Rattle.tsc_combining.specs.Adding.{AllFit}
-use Rattle.tsc_combining.specs.Serving.{AreMade}
 
 -- A writer that has just acquired the lock: it has seen all, and nothing is cleared or collected.
 -- What it works with is in its hand.
 pub record IsNewWriter (me : At) (state : WriterState) : Type 0 where
-  pub flips : ℕ
+  pub head : ℕ
   pub is : me ≡ (
     with_state me.0
-        (acquired (at_rest (number_of me.0) (seen_of me.0) (count_of me.0)) (seen_of me.0) flips
-        state.served),
+        (acquired (at_rest (number_of me.0) (seen_of me.0) (count_of me.0)) (seen_of me.0) head),
     (0, Empty) ∷ [],
   )
   pub legal : IsLegal me.0.setup.config me.0.setup.seats (seen_of me.0)
   pub own : own_count (number_of me.0) (seen_of me.0) ≡ count_of me.0
   pub limit : length (seen_of me.0) ≤ me.0.setup.limit
-  pub few : flips ≤ length (seen_of me.0)
-  pub is_after : IsAfter me.0.setup (seen_of me.0) flips state
+  pub is_after : IsAfter me.0.setup (seen_of me.0) head state
 
 -- The same writer when it has cleared so many seats.
 pub record HoldsState (me : At) (cleared : ℕ) (state : WriterState) : Type 0 where
@@ -53,9 +49,8 @@ pub record HoldsState (me : At) (cleared : ℕ) (state : WriterState) : Type 0 w
   pub asks_none : (state_in me.0).request ≡ None
   pub seen : (state_in me.0).history ≡ seen_of me.0
   pub legal : IsLegal me.0.setup.config me.0.setup.seats (seen_of me.0)
-  pub few : (state_in me.0).flips ≤ length (seen_of me.0)
-  pub is_after : IsAfter me.0.setup (seen_of me.0) (state_in me.0).flips state
-  pub served : state.served ≡ (state_in me.0).served
+  pub is_told : (state_in me.0).plan ≡ (state_in me.0).head
+  pub is_after : IsAfter me.0.setup (seen_of me.0) (state_in me.0).head state
 
 -- The writer can make this Add, for which there is room.
 pub record MayMake (me : At) (state : WriterState) (add : UnappliedAdd) : Type 0 where
@@ -71,32 +66,17 @@ pub record IsSwapped (old : WriterState) (next : Arc CacheView Global) (add : Un
   pub own : new.lagging.own ≡ Some add
   pub others_same : new.lagging.others ≡ old.lagging.others
   pub length : new.length ≡ old.length + 1 + count
-  pub flips : new.flips ≡ old.flips + 1
-  pub served : new.served ≡ old.served
+  pub head : new.head ≡ old.head
 
 -- All is prepared that is to be published.
-pub record IsReadyToFinish (me : At) (state : WriterState) : Type 0 where
+pub record IsReadyToPublish (me : At) (state : WriterState) : Type 0 where
   pub installed : HasInstalled me.0 me (arc_value state.active) state.length me.0.setup.seats
   pub ready : IsReady me.0 state
-  pub made : AreMade me.0.setup (with_own (state_in me.0) (own_of state))
-      (state_in me.0).collected state.lagging.others.items
-  pub served : state.served ≡ (state_in me.0).served
-
--- The writer has published, and what it has made for others is not answered yet.
-pub record HasPublished (me : At) (state : WriterState) : Type 0 where
-  pub history : History
-  pub xs : List Collected
-  pub writing : IsWriting me.0 me 0 None
-  pub collected : (state_in me.0).collected ≡ all_made history xs
-  pub all : (state_in me.0).history ≡ grown history xs
-  pub is_after : IsAfter me.0.setup (state_in me.0).history (state_in me.0).flips state
-  pub made : AreMade me.0.setup history xs state.lagging.others.items
-  pub served : state.served ≡ (state_in me.0).served
 
 -- The writer of v has its Add prepared, and what it makes for others.
 pub record IsPrepared (v : Knowledge) (me : At) (add : UnappliedAdd) (state : WriterState)
     (added : Added) : Type 0 where
-  pub ready : IsReadyToFinish me state
+  pub ready : IsReadyToPublish me state
   pub own : state.lagging.own ≡ Some add
   pub same : released_in me.0 ≡ released_in v
   pub seen : (state_in me.0).history ≡ seen_of v

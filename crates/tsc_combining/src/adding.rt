@@ -328,8 +328,8 @@ pub(crate) fn take_next(
     ensures taken { OnOk result (KeepsOthers state.old state.new × IsCaughtUp state.new.lagging
         × (state.new.standby ≡ None)) }
     ensures same { OnErr result (KeepsOthers state.old state.new
-        × ((t : Setup) (h : History) (flips : ℕ) → IsAfter t h flips state.old
-        → IsAfter t h flips state.new)) }
+        × ((t : Setup) (h : History) (head : ℕ) → IsAfter t h head state.old
+        → IsAfter t h head state.new)) }
     ensures kept { IfErr result (λ spoiled. spoiled ≡ None
         → HandleCatchesUp (late_adds state.old.lagging) state.old.standby state.new.standby) }
 {

@@ -7,8 +7,8 @@ ghost use Rattle.tsc_combining.specs.Asking.{IsAsking, HasAskedFor};
 use std::sync::Wait;
 use std::{hint, thread};
 use tsc_left_right::{
-    Heard, Participant, Reply, SharedReplicas, UnappliedAdd, WriterState, acquire, hear, release,
-    rest, withdraw,
+    Heard, Participant, Reply, SharedReplicas, UnappliedAdd, WriterState, acquire, answer_bit,
+    hear, release, rest, withdraw,
 };
 
 /// What became of an Add for which a seat wanted the writer lock.
@@ -48,14 +48,14 @@ fn take_back(
     toggle: u64,
 ) -> Option<Asked>
     requires of { IsOf who.old shared.now.table_id }
-    requires number { IsNumber who.old.me.0 number × (number < 64) }
+    requires number { IsNumber who.old.me.0 number × (number < 63) }
     requires asking { (add : UnappliedAdd) × IsAsking who.old.me toggle add }
     ensures table { who.new.table_id ≡ who.old.table_id }
     ensures none { IfNone result (who.new.me ≡ who.old.me) }
     ensures asked { IfSome result (HasAskedFor who.old.me who.new.me) }
 {
     let state = acquire(shared, who, number)?;
-    if state.served >> number & 1 == toggle {
+    if answer_bit(state.head, number) == toggle {
         release(shared, who, state);
         return None;
     }
@@ -73,7 +73,7 @@ fn look(
     may_acquire: bool,
 ) -> Option<Asked>
     requires of { IsOf who.old shared.now.table_id }
-    requires number { IsNumber who.old.me.0 number × (number < 64) }
+    requires number { IsNumber who.old.me.0 number × (number < 63) }
     requires asking { (add : UnappliedAdd) × IsAsking who.old.me toggle add }
     ensures table { who.new.table_id ≡ who.old.table_id }
     ensures none { IfNone result (who.new.me ≡ who.old.me) }
@@ -104,7 +104,7 @@ pub(crate) fn wait_for_answer<R: Wait>(
     patient: bool,
 ) -> Asked
     requires of { IsOf who.old shared.now.table_id }
-    requires number { IsNumber who.old.me.0 number × (number < 64) }
+    requires number { IsNumber who.old.me.0 number × (number < 63) }
     requires asking { (add : UnappliedAdd) × IsAsking who.old.me toggle add }
     ensures table { who.new.table_id ≡ who.old.table_id }
     ensures asked { HasAskedFor who.old.me who.new.me result }

@@ -1,10 +1,11 @@
 //! How an Add is made of a cache that threads share: by its own seat, which acquires the writer
 //! lock of `tsc_left_right`, or by the seat that has the lock.
 //!
-//! That is *flat combining*. A seat that finds the lock busy asks the seat that has it. The writer
-//! makes its own Add in the standby copy, then one Add of each seat that asks, publishes all of
-//! them at once, and answers. It sends back what would rotate the pages, what is refused memory,
-//! and what the limit does not allow: the seat that asked makes that by itself.
+//! That is *flat combining*. A seat that finds the lock busy asks the seat that has it. The
+//! writer makes its own Add in the standby copy, then one Add of each seat that asks. One store
+//! publishes all of them: it swaps the copies and gives each of these seats its reply. The writer
+//! sends back what would rotate the pages, what is refused memory, and what the limit does not
+//! allow: the seat that asked makes that by itself.
 //!
 //! - [`add_by`] makes an Add, and says what became of it ([`Outcome`]).
 //! - A [`WaitPolicy`] says how a seat waits: for ever ([`Blocking`]), or for so many tries

@@ -1,13 +1,11 @@
 //! How a seat's Add is made: by the seat itself, once it has the writer lock, or by another.
-ghost use Rattle.std.specs.Prelude.{◌≡◌, ◌+◌, ◌^◌, ◌<◌, [], length, false, None, Some, IfOk};
+ghost use Rattle.std.specs.Prelude.{◌≡◌, ◌+◌, ◌^◌, ◌<◌, length, false, None, Some, IfOk};
 ghost use Rattle.std.specs.Prelude.{IfErr, OnErr, Ok};
-ghost use Rattle.tsc_left_right.specs.Rule.{CanBe};
-ghost use Rattle.tsc_left_right.specs.Steps.{own_of};
-ghost use Rattle.tsc_left_right.specs.Participating.{IsOf, IsAtRest, published_in};
-ghost use Rattle.tsc_left_right.specs.Participating.{released_in, MayRelease};
+ghost use Rattle.tsc_left_right.specs.Rule.{CanBe, standby_side};
+ghost use Rattle.tsc_left_right.specs.Participating.{IsAtRest};
 ghost use Rattle.tsc_combining.specs.Writing.{IsBusy, IsNewWriter, HoldsState, MayMake, CanMake};
 ghost use Rattle.tsc_combining.specs.Writing.{IsPrepared, MayLeave};
-ghost use Rattle.tsc_combining.specs.Writing.{IsAborted, IsReadyToFinish, HasPublished, IsSwapped};
+ghost use Rattle.tsc_combining.specs.Writing.{IsAborted, IsSwapped};
 ghost use Rattle.tsc_combining.specs.Context.{IsSeatOf, MayAsk};
 ghost use Rattle.tsc_combining.specs.Writing.{HasOutcome};
 
@@ -15,14 +13,12 @@ use crate::adding::take_next;
 use crate::asking::Turn;
 use crate::context::AddContext;
 use crate::gate::{Gate, Notice};
-use crate::serving::{Round, answer_all, send_all_back, serve_all};
+use crate::serving::{Round, send_all_back, serve_all};
 use crate::waiting::{WaitPolicy, wait_for_readers};
 use std::mem;
 use std::sync::Arc;
 use tsc_cache::{Added, Cache};
-use tsc_left_right::{
-    Participant, SharedReplicas, UnappliedAdd, WriterState, install_handles, publish, release,
-};
+use tsc_left_right::{Participant, UnappliedAdd, WriterState, install_handles, publish, release};
 use tsc_time::NoMemory;
 
 /// What the writer works with once its Add is prepared, what the Add made, and what is to be
@@ -72,16 +68,22 @@ pub enum Outcome {
     },
 }
 
+/// The side of the standby copy, by HEAD.
+fn standby_side(head: u64) -> u64
+    ensures { result ≡ standby_side head }
+{
+    1 - head % 2
+}
+
 /// Makes this copy active, which has had the writer's own Add and those of others; the one
 /// that was active until then lags by them.
 fn swap(state: &mut WriterState, next: Arc<Cache>, own: UnappliedAdd, others: u64)
-    requires { (state.old.length + 1 + others < 2 ^ 64) × (state.old.flips + 1 < 2 ^ 64) }
+    requires { state.old.length + 1 + others < 2 ^ 64 }
     ensures { IsSwapped state.old next own others state.new }
 {
     state.standby = Some(mem::replace(&mut state.active, next));
     state.lagging.own = Some(own);
     state.length += 1 + others;
-    state.flips += 1;
 }
 
 /// What an Add made, and what is to be dropped once the lock is released.
@@ -93,7 +95,7 @@ struct Ready {
 
 /// Prepares an Add that is to be published, and those that others ask for beside it. All readers
 /// have handles on their copy then. If memory is refused, what the writer works with stands for the
-/// same as before.
+/// same as before, and each seat whose request was sent back is told so.
 fn prepare(
     context: &AddContext<'_>,
     who: &mut Participant,
@@ -115,19 +117,19 @@ fn prepare(
         Err(retired) => return Err(retired),
     };
     let round = Round {
-        served: state.served,
+        plan: state.head,
         room: setup.limit - state.length - 1,
     };
-    let standby = (state.flips + 1) % 2;
+    let standby = standby_side(state.head);
     let others = &mut state.lagging.others;
-    let served = serve_all(shared, who, &mut next.cache, others, setup.seats, round);
+    let plan = serve_all(shared, who, &mut next.cache, others, setup.seats, round);
     let made = others.len();
     let adds = state.length + 1 + made as u64;
     if !install_handles(shared, who, &next.cache, adds, (setup.seats, standby), made) {
-        state.served = send_all_back(shared, who, &mut state.lagging.others, served);
+        state.head = send_all_back(shared, who, &mut state.lagging.others, plan);
         return Err(next.retired);
     }
-    state.served = served;
+    state.head = plan;
     swap(state, next.cache, add, made as u64);
     Ok(Ready {
         added: next.added,
@@ -165,7 +167,7 @@ fn prepare_copy<P: WaitPolicy>(
             why: NotAdded::NoMemory,
         });
     };
-    let standby = (state.flips + 1) % 2;
+    let standby = standby_side(state.head);
     if !wait_for_readers(policy, context.shared, who, setup.seats, standby) {
         return Err(Aborted {
             state,
@@ -185,31 +187,6 @@ fn prepare_copy<P: WaitPolicy>(
             why: NotAdded::NoMemory,
         }),
     }
-}
-
-/// Answers all whose Adds were published.
-fn answer_others(shared: &SharedReplicas, who: &mut Participant, state: &mut WriterState)
-    requires of { IsOf who.old shared.now.table_id }
-    requires published { HasPublished who.old.me state.old }
-    ensures table { who.new.table_id ≡ who.old.table_id }
-    ensures release { MayRelease who.new.me state.new }
-    ensures same { released_in who.new.me.0 ≡ released_in who.old.me.0 }
-{
-    let others = state.lagging.others.as_slice();
-    state.served = answer_all(shared, who, others, state.served, state.length);
-}
-
-/// Publishes what is prepared, answers all whose Adds were made, and releases the lock.
-fn finish(shared: &SharedReplicas, who: &mut Participant, state: Box<WriterState>)
-    requires of { IsOf who.old shared.now.table_id }
-    requires ready { IsReadyToFinish who.old.me state.value }
-    ensures table { who.new.table_id ≡ who.old.table_id }
-    ensures done { who.new.me ≡ (released_in (published_in who.old.me.0 (own_of state.value)), []) }
-{
-    let made = state.lagging.others.len();
-    let mut state = publish(shared, who, state, made);
-    answer_others(shared, who, &mut state);
-    release(shared, who, state);
 }
 
 /// Makes an Add of the seat that has just acquired the lock, and releases it.
@@ -239,7 +216,7 @@ fn add_locked<P: WaitPolicy, G: Gate>(
             },
         ) => {
             notice.give(context.number);
-            finish(context.shared, who, state);
+            publish(context.shared, who, state);
             drop(retired);
             Outcome::Made {
                 place,
@@ -327,7 +304,7 @@ pub struct Asks {
 }
 
 /// How many seats can ask at the most.
-const MOST_ASKING: u32 = 64;
+const MOST_ASKING: u32 = 63;
 
 /// Makes an Add by a copy of it, which may have been refused: by itself, or by another if it may
 /// ask.

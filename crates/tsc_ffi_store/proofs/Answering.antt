@@ -11,7 +11,7 @@ use Rattle.tsc_cache.specs.CacheView.{CacheView, RepresentsState}
 use Rattle.tsc_cache.specs.Batch.{AddsAll}
 use Rattle.tsc_shared.specs.declared.answers.Answer.{Answer}
 use Rattle.tsc_shared.specs.Seats.{SeatView}
-use Rattle.tsc_shared.specs.Answers.{Looks, IsAbove, TellsNoPart}
+use Rattle.tsc_shared.specs.Answers.{AnswersLookup, IsAbove, TellsNoPart}
 use Rattle.tsc_ffi_store.specs.Decode.{AskedSpan, AskedBatch, lookup_span}
 use Rattle.tsc_ffi_store.specs.Marks.{AreMarks}
 use Rattle.tsc_ffi_store.specs.CacheCalls.{AddsAllIn}
@@ -38,12 +38,16 @@ adds_all_in cache after asked marks now added told are moment tells adds stands 
 
 pub seat_looks : (old new : SeatView) (asked : AskedSpan) (span : Interval) (answer : Answer)
     (v : OwnedTime) → lookup_span asked ≡ Some span → answer.value ≡ v
-    → Looks old new span answer → IsAbove new span answer.value →
+    → AnswersLookup old new span answer → IsAbove new span answer.value →
     TellsNoPart new span answer.value → SeatLooks old new asked answer.front v
 seat_looks old new asked span answer v is told looks above whole = record {
   span = span;
   asked_for = is;
-  looks = subst (λ (w : OwnedTime). Looks old new span (record { value = w; front = answer.front }))
+  looks = subst (λ (w : OwnedTime). AnswersLookup old new span (record {
+    value = w;
+    front =
+        answer.front;
+  }))
       told looks;
   above = subst (λ (w : OwnedTime). IsAbove new span w) told above;
   whole = subst (λ (w : OwnedTime). TellsNoPart new span w) told whole;

@@ -14,7 +14,7 @@ use Rattle.tsc_shared.specs.declared.answers.AddFault.TheVariants.{HistoryFull, 
 use Rattle.tsc_shared.specs.declared.answers.TryAddFault.{TryAddFault}
 use Rattle.tsc_shared.specs.declared.answers.TryAddFault.TheVariants.{DeskBusy, SeatInside, Refused}
 use Rattle.tsc_shared.specs.Seats.{SharedView, SeatView, new_seats, is_seat_count}
-use Rattle.tsc_shared.specs.Answers.{GoesOn, Accepts, Refuses, Looks, IsAbove, TellsNoPart, ReadsFloor, ReadsFigures, Closes}
+use Rattle.tsc_shared.specs.Answers.{GoesOn, Accepts, Refuses, AnswersLookup, IsAbove, TellsNoPart, ReadsFloor, ReadsFigures, Closes}
 use Rattle.tsc_ffi_store.specs.declared.ctypes.TscFigures.{TscFigures}
 use Rattle.tsc_ffi_store.specs.declared.refusal.Refusal.{Refusal}
 use Rattle.tsc_ffi_store.specs.declared.refusal.Refusal.TheVariants as refusal
@@ -58,7 +58,7 @@ pub record SeatLooks (old new : SeatView) (asked : AskedSpan) (seen : ℕ) (v : 
     0 where
   pub span : Interval
   pub asked_for : lookup_span asked ≡ Some span
-  pub looks : Looks old new span (record { value = v; front = seen })
+  pub looks : AnswersLookup old new span (record { value = v; front = seen })
   pub above : IsAbove new span v
   pub whole : TellsNoPart new span v
 
@@ -116,8 +116,8 @@ pub record IsSpared (old new : SeatView) : Type 0 where
   pub goes_on : GoesOn old new
   pub refuses : Refuses old new
 
-abbrev pub Spares : SeatView → SeatView → Type 0
-Spares old new = (new ≡ old) ⊎ IsSpared old new
+abbrev pub KeepsOnRefusal : SeatView → SeatView → Type 0
+KeepsOnRefusal old new = (new ≡ old) ⊎ IsSpared old new
 
 -- The history of the seat's cache is full, and the seat has seen all of it.
 abbrev pub IsFull : Refusal → SeatView → SeatView → Type 0
@@ -158,7 +158,7 @@ pub record AnswersSeatAdd {A : Type 0} (asked : AskedAdd) (tries place : ℕ) (t
   pub added : IfOk did (λ _. SeatAdds old new asked place told)
   pub tried : IfOk did (λ _. tries ≢ 0)
   pub refused : IfErr did (λ why. RefusesSeatAdd why old new asked tries)
-  pub spared : OnErr did (Spares old new)
+  pub spared : OnErr did (KeepsOnRefusal old new)
 
 -- The span of a mark that was named costs more than the largest page may have. The seat is as it
 -- was.
@@ -181,7 +181,7 @@ pub record AnswersSeatAddAll {A : Type 0} (asked : AskedBatch) (tries place : �
   pub added : IfOk did (λ _. SeatAddsAll old new asked place told)
   pub tried : IfOk did (λ _. tries ≢ 0)
   pub refused : IfErr did (λ why. RefusesSeatAddAll why old new asked tries)
-  pub spared : OnErr did (Spares old new)
+  pub spared : OnErr did (KeepsOnRefusal old new)
 
 -- What a handle names in one store goes to the next handle of another. The handle names nothing
 -- from then on.

@@ -1,10 +1,9 @@
 -- A seat acquires the writer lock, and a writer tells all seats.
-use Rattle.std.proofs.Common.{◌≡◌, ◌∙◌, refl, sym, ap, subst, Bool, true, false, ℕ, ◌+◌, ◌%◌}
+use Rattle.std.proofs.Common.{◌≡◌, ◌≢◌, ◌∙◌, refl, sym, ap, subst, Bool, true, false, ℕ, ◌+◌, ◌%◌}
 use Rattle.std.proofs.Common.{List, [], ◌∷◌, set, arith, slice_index, length-set}
 use Rattle.std.proofs.Common.{get_or-set_other, get_or-set_same, ne_eqb}
 use Rattle.std.specs.Prelude.{Option, Some, None, ◌==◌, nat_lt}
 use Rattle.std.specs.List.{sum_by}
-use Rattle.std.specs.Int.{bit_at}
 use mathlib.Core.Logic.{dite}
 use native.Mathlib.Decide.{ℕ_discrete}
 use mathlib.Core.Option as maybe
@@ -23,11 +22,13 @@ use Rattle.tsc_left_right.specs.declared.table.Slot.TheVariants.{Writer}
 use Rattle.tsc_left_right.specs.declared.table.SeatState.{SeatState}
 use Rattle.tsc_left_right.specs.declared.table.Knowledge.{Knowledge}
 use Rattle.tsc_left_right.specs.Rule.{keeping, one_if, SharedState, LeftRightRule}
-use Rattle.tsc_left_right.specs.Rule.{StateFits, RequestState, Idle, Fetched, Posted}
-use Rattle.tsc_left_right.specs.Rule.{Taken, Made, Answered, SentBack, IsRequested, holders}
-use Rattle.tsc_left_right.specs.Rule.{head_word, served_word, epoch_word, request_word, side_slot}
+use Rattle.tsc_left_right.specs.Rule.{StateFits}
+use Rattle.tsc_left_right.specs.Rule.{holders, answer_bit}
+use Rattle.tsc_left_right.specs.Rule.{head_word, epoch_word, request_word, side_slot}
 use Rattle.tsc_left_right.specs.Rule.{request_slot, active_side, standby_side}
 use Rattle.tsc_left_right.specs.Steps.{seen_then, acquired, acquires}
+use Rattle.tsc_left_right.specs.RequestSteps.{told}
+use Rattle.tsc_left_right.proofs.Batching.{says_told}
 use Rattle.tsc_cache.proofs.Beginnings.{begins_itself}
 use Rattle.tsc_left_right.proofs.Owning.{quiet_none}
 use Rattle.tsc_left_right.proofs.Requests.{seat_same}
@@ -37,64 +38,93 @@ use Rattle.tsc_left_right.proofs.Hands.{Homes, Hand}
 use Rattle.tsc_left_right.proofs.Moves.{Board, Moved, moved_kept, of_one, only_fits, not_holding}
 use Rattle.tsc_left_right.proofs.Moves.{knows_all, none_is_no}
 
--- What is told is what is to be told.
-says_told : (setup : Setup) (h : History) (home : maybe.Option (maybe.Option Slot))
-    (toggle told plan r : ℕ) (a : RequestState) → IsRequested setup h home toggle told plan r a
-    → IsRequested setup h home toggle plan plan r a
-says_told setup h home toggle told plan r Idle says = (says.0, says.2, says.2)
-says_told setup h home toggle told plan r Fetched says = (says.1, says.1)
-says_told setup h home toggle told plan r (Posted p) says = (says.0, says.1, says.3, says.3)
-says_told setup h home toggle told plan r (Taken p) says = (says.0, says.2, says.2)
-says_told setup h home toggle told plan r (Made b p) says = (says.0, says.2, says.2)
-says_told setup h home toggle told plan r (Answered b p) says = says
-says_told setup h home toggle told plan r (SentBack p) says = says
-
 module _ (setup : Setup) (slots : ℕ) (id : ℕ) (t : Setup) (p : SeatState) (hand : Hand) where
   abbrev v : Knowledge
   v = keeping t (p ∷ [])
 
   -- The writer tells all by one store.
-  pub serve_allowed : p.holds ≡ true → Allows (LeftRightRule setup) slots id (v, hand) served_word
-      (λ _. p.served) (λ _ me'. me' ≡ (v, hand))
-  serve_allowed holds s k deep at small =
+  pub tell_allowed : p.holds ≡ true → Allows (LeftRightRule setup) slots id (v, hand) head_word
+      (λ _. p.plan) (λ _ me'. me' ≡ (keeping t (told p ∷ []), hand))
+  tell_allowed holds s k deep at small =
       let all = knows_all setup s k id t p holds at in
+      let g : SharedState = k.g in
       let taken = all.taken in
       let wide = k.wide in
-      let words : List ℕ = set s.words served_word p.served in
-      let now : slice_index words served_word ≡ k.g.served = get_or-set_same s.words served_word
-      p.served 0 (omega (arith, wide)) ∙ all.served in (
-        v,
+      let w : Knowledge = keeping t (told p ∷ []) in
+      let words : List ℕ = set s.words head_word p.plan in
+      let same : (i : ℕ) → i ≢ head_word → slice_index words i ≡ slice_index s.words i =
+      λ i apart. get_or-set_other s.words head_word i p.plan 0 apart in
+      let g' : SharedState = record {
+        history = g.history;
+        head = g.plan;
+        plan = g.plan;
+        word = g.word;
+        stage_of = g.stage_of;
+        toggle_of = g.toggle_of;
+        request_of = g.request_of;
+        cleared = g.cleared;
+        watched = g.watched;
+        collected = g.collected;
+      } in (
+        w,
         act_keeps,
         tt,
-        moved_kept setup s k id v v k.g words s.homes (record {
+        moved_kept setup s k id v w g' words s.homes (record {
           at = at;
           legal = k.legal;
           limit = k.limit;
-          few = k.few;
-          wide = length-set s.words served_word p.served ∙ k.wide;
+          side = refl;
+          wide = length-set s.words head_word p.plan ∙ k.wide;
           deep = k.deep;
-          word_is = get_or-set_other s.words served_word 0 p.served 0 (λ z. omega (arith, z))
-              ∙ k.word_is;
-          head_is = get_or-set_other s.words served_word head_word p.served 0
-              (λ z. omega (arith, z)) ∙ k.head_is;
-          seats = λ r low. seat_same setup k.g k.g s.words words s.homes s.homes r refl refl refl
-              refl refl (get_or-set_other s.words served_word (epoch_word r) p.served 0
-              (λ z. omega (arith, z))) (λ _ _. refl) (k.seats r low);
+          word_is = same 0 (λ z. omega (arith, z)) ∙ k.word_is;
+          head_is = get_or-set_same s.words head_word p.plan 0 (omega (arith, wide)) ∙ all.plan;
+          seats = λ r low. seat_same setup g g' s.words words s.homes s.homes r refl k.side refl
+              refl refl (same (epoch_word r) (λ z. omega (arith, z))) (λ _ _. refl) (k.seats r low);
           requests = λ r low. let ok = k.requests r low in record {
-            toggle = get_or-set_other s.words served_word (request_word r) p.served 0
-                (λ z. omega (arith, z)) ∙ ok.toggle;
+            toggle = same (request_word r) (λ z. omega (arith, z)) ∙ ok.toggle;
             small = ok.small;
-            says = rw now (says_told setup k.g.history (get_elem? s.homes (request_slot r))
-                (k.g.toggle_of r) (bit_at (slice_index s.words served_word) r) (bit_at k.g.served r)
-                r (k.g.request_of r) ok.says);
+            says = says_told setup g.history (get_elem? s.homes (request_slot r)) (g.toggle_of r)
+                (answer_bit g.head r) (answer_bit g.plan r) r (g.request_of r) ok.says;
           };
           collected = k.collected;
-          fits = k.views id v at;
-          others = λ other u _ e. k.views other u e;
+          fits = of_one t (told p) all.same (record {
+            begins = all.mine.begins;
+            own = all.mine.own;
+            own_seen = all.mine.own_seen;
+            at_stage = all.mine.at_stage;
+            at_toggle = all.mine.at_toggle;
+            at_request = all.mine.at_request;
+            at_fetched = all.mine.at_fetched;
+            sees = λ z. all.mine.sees (omega (arith, z, k.side));
+            holding = λ _. (
+              all.all,
+              all.taken,
+              all.cleared,
+              all.watched,
+              all.collected,
+              all.plan,
+              all.plan,
+            );
+          });
+          others = λ other u apart e. let was = k.views other u e in record {
+            settled = was.settled;
+            states = λ i x d. let f = was.states i x d in record {
+              begins = f.begins;
+              own = f.own;
+              own_seen = f.own_seen;
+              at_stage = f.at_stage;
+              at_toggle = f.at_toggle;
+              at_request = f.at_request;
+              at_fetched = f.at_fetched;
+              sees = λ z. f.sees (omega (arith, z, k.side));
+              holding = λ y. absurd (not_holding u i x (all.nobody other u apart e) d y);
+            };
+            front = was.front;
+          };
           each = λ _. refl;
           one = omega (arith, k.one);
           idle = k.idle;
-          free = k.free;
+          free = λ z. absurd (omega (arith, z, taken));
         }),
         refl,
       )
@@ -139,18 +169,17 @@ module _ (setup : Setup) (slots : ℕ) (st : Step Slot) (id : ℕ) (t : Setup) (
       let mine = only_fits setup g t p (k.views id acquirer at) in
       let same : t ≡ setup = (k.views id acquirer at).settled refl in
       let nobody : sum_by holders s.views ≡ 0 = k.one ∙ ap (λ n. one_if (nat_lt 0 n)) free in
-      let q : SeatState = acquired p h g.flips here.0.value.served in
+      let q : SeatState = acquired p h g.head in
       let w : Knowledge = keeping t (q ∷ []) in
       let n1 : ℕ = p.number + 1 in
       let words : List ℕ = set s.words 0 n1 in
       let homes : Homes = set s.homes 0 maybe.none in
       let wide = k.wide in
       let idle = k.idle free in
-      let served_same : slice_index words served_word ≡ slice_index s.words served_word =
-      get_or-set_other s.words 0 served_word n1 0 (λ z. omega (arith, z)) in
       let g' : SharedState = record {
         history = h;
-        flips = g.flips;
+        head = g.head;
+        plan = g.plan;
         word = n1;
         stage_of =
             g.stage_of;
@@ -159,13 +188,12 @@ module _ (setup : Setup) (slots : ℕ) (st : Step Slot) (id : ℕ) (t : Setup) (
         cleared = g.cleared;
         watched = None;
         collected = g.collected;
-        served = g.served;
       } in
       let moved : Moved setup s k id acquirer w g' words homes = record {
         at = at;
         legal = k.legal;
         limit = k.limit;
-        few = k.few;
+        side = k.side;
         wide = length-set s.words 0 n1 ∙ k.wide;
         deep = length-set s.homes 0 maybe.none ∙ k.deep;
         word_is = get_or-set_same s.words 0 n1 0 (omega (arith, wide));
@@ -176,13 +204,13 @@ module _ (setup : Setup) (slots : ℕ) (st : Step Slot) (id : ℕ) (t : Setup) (
               pinned = λ z. ap (λ (e : ℕ). e % 2) epoch ∙ ok.pinned z;
               active = λ n. let x = ok.active n in (
                 x.0,
-                set_else s.homes 0 (side_slot r (active_side g.flips)) maybe.none
+                set_else s.homes 0 (side_slot r (active_side g.head)) maybe.none
                     (λ z. omega (arith, z)) ∙ x.1,
                 x.2,
               );
               standby = λ c n. let x = ok.standby c n in (
                 x.0,
-                set_else s.homes 0 (side_slot r (standby_side g.flips)) maybe.none
+                set_else s.homes 0 (side_slot r (standby_side g.head)) maybe.none
                     (λ z. omega (arith, z)) ∙ x.1,
               );
               left = ok.left;
@@ -192,11 +220,8 @@ module _ (setup : Setup) (slots : ℕ) (st : Step Slot) (id : ℕ) (t : Setup) (
           toggle = get_or-set_other s.words 0 (request_word r) n1 0 (λ z. omega (arith, z))
               ∙ ok.toggle;
           small = ok.small;
-          says = rw (
-            served_same,
-            set_else s.homes 0 (request_slot r) maybe.none
-                (λ z. omega (arith, z)),
-          ) ok.says;
+          says = rw (set_else s.homes 0 (request_slot r) maybe.none (λ z. omega (arith, z)))
+              ok.says;
         };
         collected = k.collected;
         fits = of_one t q same (record {
@@ -208,7 +233,7 @@ module _ (setup : Setup) (slots : ℕ) (st : Step Slot) (id : ℕ) (t : Setup) (
           at_request = mine.at_request;
           at_fetched = mine.at_fetched;
           sees = λ z. seen_all p.request h (mine.sees z);
-          holding = λ _. (refl, omega arith, sym idle.0, refl, sym idle.1, here.3, refl);
+          holding = λ _. (refl, omega arith, sym idle.0, refl, sym idle.1, refl, sym here.3);
         });
         others = λ other u apart e. let was = k.views other u e in record {
           settled = was.settled;
@@ -242,14 +267,13 @@ module _ (setup : Setup) (slots : ℕ) (st : Step Slot) (id : ℕ) (t : Setup) (
             here.0,
             record {
               history = h;
-              flips = g.flips;
+              head = g.head;
               after = refl;
               begins = mine.begins;
               legal = rw same k.legal;
               own = own_then p.request g refl mine;
               limit =
                   rw same k.limit;
-              few = k.few;
               is_after = rw same here.2;
             },
             refl,

@@ -3,7 +3,6 @@ use Rattle.std.proofs.Common.{◌≡◌, ◌≢◌, ◌∙◌, refl, sym, ap, su
 use Rattle.std.proofs.Common.{[], ◌∷◌, set, arith, slice_index, length-set, get_or-set_other}
 use Rattle.std.proofs.Common.{get_or-set_same, append-nil}
 use Rattle.std.specs.Prelude.{Option, Some, None}
-use Rattle.std.specs.Int.{bit_at}
 use mathlib.Core.Option as maybe
 use lib.ListN.{get_elem?}
 use lib.Seq.{set-get_or}
@@ -16,9 +15,9 @@ use Rattle.tsc_left_right.specs.declared.table.Slot.{Slot}
 use Rattle.tsc_left_right.specs.declared.table.SeatState.{SeatState}
 use Rattle.tsc_left_right.specs.declared.table.Knowledge.{Knowledge}
 use Rattle.tsc_left_right.specs.Rule.{keeping, LeftRightRule, RequestState, Idle, Fetched, Posted}
-use Rattle.tsc_left_right.specs.Rule.{Taken, Made, Answered, SentBack, made_of, in_hand, add_of}
+use Rattle.tsc_left_right.specs.Rule.{Taken, Answered, SentBack, made_of, in_hand, add_of}
 use Rattle.tsc_left_right.specs.Rule.{fetched_of, toggle_seen, IsRequested, HasRequest, CanBe}
-use Rattle.tsc_left_right.specs.Rule.{times, head_word, served_word, epoch_word, request_word}
+use Rattle.tsc_left_right.specs.Rule.{times, head_word, epoch_word, request_word, answer_bit}
 use Rattle.tsc_left_right.specs.Rule.{side_slot, request_slot}
 use Rattle.tsc_left_right.specs.RequestSteps.{fetching, fetches, rests, posting, withdrawn}
 use Rattle.tsc_left_right.specs.RequestSteps.{withdraws}
@@ -35,7 +34,6 @@ quiet_is Idle none out = refl
 quiet_is Fetched none out = absurd (false_is_no (sym out))
 quiet_is (Posted p) none out = absurd (none_is_no p (sym none))
 quiet_is (Taken p) none out = absurd (none_is_no p (sym none))
-quiet_is (Made b p) none out = absurd (none_is_no p (sym none))
 quiet_is (Answered b p) none out = absurd (none_is_no p (sym none))
 quiet_is (SentBack p) none out = absurd (none_is_no p (sym none))
 
@@ -44,7 +42,6 @@ fetched_is Idle is = absurd (false_is_no is)
 fetched_is Fetched is = refl
 fetched_is (Posted p) is = absurd (false_is_no is)
 fetched_is (Taken p) is = absurd (false_is_no is)
-fetched_is (Made b p) is = absurd (false_is_no is)
 fetched_is (Answered b p) is = absurd (false_is_no is)
 fetched_is (SentBack p) is = absurd (false_is_no is)
 
@@ -70,7 +67,7 @@ module _ (setup : Setup) (slots : ℕ) (st : Step Slot) (id : ℕ) (t : Setup) (
       let is : k.g.request_of n ≡ Idle = quiet_is (k.g.request_of n) (mine.at_request ∙ none)
       (mine.at_fetched ∙ out) in
       let says = subst (IsRequested setup k.g.history (get_elem? s.homes j) (k.g.toggle_of n)
-      (bit_at (slice_index s.words served_word) n) (bit_at k.g.served n) n) is ok.says in
+      (answer_bit k.g.head n) (answer_bit k.g.plan n) n) is ok.says in
       let same : (q : ℕ) → slice_index words q ≡ slice_index s.words q =
       λ q. ap (λ (ws : List ℕ). slice_index ws q) (set-get_or s.words i 0) in
       let here_toggle = put_here k.g.toggle_of n (k.g.toggle_of n) in
@@ -85,7 +82,6 @@ module _ (setup : Setup) (slots : ℕ) (st : Step Slot) (id : ℕ) (t : Setup) (
               deep = length-set s.homes j maybe.none;
               word_same = same 0;
               head_same = same head_word;
-              served_same = same served_word;
               lock_slot_same = set_else s.homes j 0 maybe.none (λ z. omega (arith, z));
               epochs = λ r. same (epoch_word r);
               sides = λ r side less. set_else s.homes j (side_slot r side) maybe.none
@@ -98,7 +94,7 @@ module _ (setup : Setup) (slots : ℕ) (st : Step Slot) (id : ℕ) (t : Setup) (
               here = record {
                 toggle = same i ∙ ok.toggle ∙ sym here_toggle;
                 small = omega (arith, ok.small, here_toggle);
-                says = rw (here, here_toggle, same served_word) (says.1, says.2);
+                says = rw (here, here_toggle) (says.1, says.2);
               };
               was_home = ap in_hand is;
               is_home = refl;
@@ -138,7 +134,7 @@ module _ (setup : Setup) (slots : ℕ) (st : Step Slot) (id : ℕ) (t : Setup) (
         let is : k.g.request_of n ≡ Fetched = fetched_is (k.g.request_of n) (mine.at_fetched
         ∙ in_) in
         let says = subst (IsRequested setup k.g.history (get_elem? s.homes j) (k.g.toggle_of n)
-        (bit_at (slice_index s.words served_word) n) (bit_at k.g.served n) n) is ok.says in
+        (answer_bit k.g.head n) (answer_bit k.g.plan n) n) is ok.says in
         let same : (q : ℕ) → slice_index words q ≡ slice_index s.words q =
         λ q. ap (λ (ws : List ℕ). slice_index ws q) (set-get_or s.words i 0) in
         let here_toggle = put_here k.g.toggle_of n (k.g.toggle_of n) in
@@ -152,7 +148,6 @@ module _ (setup : Setup) (slots : ℕ) (st : Step Slot) (id : ℕ) (t : Setup) (
                 deep = length-set s.homes j (maybe.some x);
                 word_same = same 0;
                 head_same = same head_word;
-                served_same = same served_word;
                 lock_slot_same = set_else s.homes j 0 (maybe.some x) (λ z. omega (arith, z));
                 epochs = λ r. same (epoch_word r);
                 sides = λ r side less. set_else s.homes j (side_slot r side) (maybe.some x)
@@ -165,7 +160,7 @@ module _ (setup : Setup) (slots : ℕ) (st : Step Slot) (id : ℕ) (t : Setup) (
                 here = record {
                   toggle = same i ∙ ok.toggle ∙ sym here_toggle;
                   small = omega (arith, ok.small, here_toggle);
-                  says = rw (here, here_toggle, same served_word) (
+                  says = rw (here, here_toggle) (
                     (x, set_here s.homes j (maybe.some x) (omega (arith, tall, low))),
                     says.0,
                     says.1,
@@ -209,12 +204,10 @@ module _ (setup : Setup) (slots : ℕ) (st : Step Slot) (id : ℕ) (t : Setup) (
         let is : k.g.request_of n ≡ Fetched = fetched_is (k.g.request_of n) (mine.at_fetched
         ∙ in_) in
         let says = subst (IsRequested setup k.g.history (get_elem? s.homes j) (k.g.toggle_of n)
-        (bit_at (slice_index s.words served_word) n) (bit_at k.g.served n) n) is
+        (answer_bit k.g.head n) (answer_bit k.g.plan n) n) is
         (k.requests n low).says in
         let same : (q : ℕ) → q ≢ i → slice_index words q ≡ slice_index s.words q = λ q apart.
         get_or-set_other s.words i q toggle 0 apart in
-        let served : slice_index words served_word ≡ slice_index s.words served_word =
-        same served_word (λ z. omega (arith, z)) in
         let here_toggle = put_here k.g.toggle_of n toggle in
         let here = put_here k.g.request_of n (Posted add) in
         let at_toggle : k.g.toggle_of n ≡ p.toggle = sym (ap (toggle_seen (k.g.toggle_of n)) is)
@@ -228,7 +221,6 @@ module _ (setup : Setup) (slots : ℕ) (st : Step Slot) (id : ℕ) (t : Setup) (
                 deep = length-set s.homes j (maybe.some x);
                 word_same = same 0 (λ z. omega (arith, z));
                 head_same = same head_word (λ z. omega (arith, z));
-                served_same = served;
                 lock_slot_same = set_else s.homes j 0 (maybe.some x) (λ z. omega (arith, z));
                 epochs = λ r. same (epoch_word r) (λ z. omega (arith, z));
                 sides = λ r side less. set_else s.homes j (side_slot r side) (maybe.some x)
@@ -241,7 +233,7 @@ module _ (setup : Setup) (slots : ℕ) (st : Step Slot) (id : ℕ) (t : Setup) (
                   toggle = get_or-set_same s.words i toggle 0 (omega (arith, wide, low))
                       ∙ sym here_toggle;
                   small = omega (arith, here_toggle, other);
-                  says = rw (here, here_toggle, served) (
+                  says = rw (here, here_toggle) (
                     (x, set_here s.homes j (maybe.some x) (omega (arith, tall, low)), has),
                     subst (λ (y : Setup). CanBe y add) ((k.views id v at).settled refl) can,
                     (λ z. omega (arith, z, says.0, other, at_toggle)),
@@ -291,16 +283,14 @@ module _ (setup : Setup) (slots : ℕ) (st : Step Slot) (id : ℕ) (t : Setup) (
   )
   out_there s k h home toggle told plan r (Taken q) is kept differs says =
       absurd (omega (arith, kept))
-  out_there s k h home toggle told plan r (Made b q) is kept differs says =
-      absurd (omega (arith, kept))
   out_there s k h home toggle told plan r (Answered b q) is kept differs says =
-      absurd (differs says.2)
+      absurd (differs says.3)
   out_there s k h home toggle told plan r (SentBack q) is kept differs says =
       absurd (differs says.1)
 
   -- The writer takes back its own request, which it has not collected.
   pub withdraw_allowed : p.holds ≡ true → p.request ≡ Some add → times p.number p.collected ≡ 0
-      → bit_at p.served p.number ≢ p.toggle → st.first + p.toggle ≡ 1
+      → answer_bit p.plan p.number ≢ p.toggle → st.first + p.toggle ≡ 1
       → Allows (LeftRightRule setup) slots id (holder, hand) (request_word p.number) (λ _. st.first)
       (withdraws st (holder, hand))
   withdraw_allowed holds request new differs other s k deep at small =
@@ -318,17 +308,15 @@ module _ (setup : Setup) (slots : ℕ) (st : Step Slot) (id : ℕ) (t : Setup) (
       let at_toggle : k.g.toggle_of n ≡ p.toggle =
       sym (toggle_known add (k.g.toggle_of n) (k.g.request_of n) (mine.at_request ∙ request))
       ∙ mine.at_toggle in
-      let plan : bit_at k.g.served n ≢ k.g.toggle_of n =
-      λ z. differs (ap (λ (c : ℕ). bit_at c n) all.served ∙ z ∙ at_toggle) in
+      let plan : answer_bit k.g.plan n ≢ k.g.toggle_of n =
+      λ z. differs (ap (λ (c : ℕ). answer_bit c n) all.plan ∙ z ∙ at_toggle) in
       let home : in_hand (k.g.request_of n) ≡ 0 = sym (k.collected.each n)
       ∙ ap (times n) (sym all.collected) ∙ new in
       let x = out_there s k k.g.history (get_elem? s.homes j) (k.g.toggle_of n)
-      (bit_at (slice_index s.words served_word) n) (bit_at k.g.served n) n (k.g.request_of n)
+      (answer_bit k.g.head n) (answer_bit k.g.plan n) n (k.g.request_of n)
       (mine.at_request ∙ request) home plan ok.says in
       let same : (q : ℕ) → q ≢ i → slice_index words q ≡ slice_index s.words q = λ q apart.
       get_or-set_other s.words i q toggle 0 apart in
-      let served : slice_index words served_word ≡ slice_index s.words served_word =
-      same served_word (λ z. omega (arith, z)) in
       let own_all : own_count n p.history ≡ p.count = omega (
         arith,
         ap (own_count n) all.all,
@@ -337,15 +325,15 @@ module _ (setup : Setup) (slots : ℕ) (st : Step Slot) (id : ℕ) (t : Setup) (
       ) in
       let here_toggle = put_here k.g.toggle_of n toggle in
       let here = put_here k.g.request_of n Fetched in
-      let told_now : bit_at (slice_index s.words served_word) n ≡ toggle =
-      one_or_other (bit_at (slice_index s.words served_word) n) (k.g.toggle_of n) toggle
-      (bit_at-lt (slice_index s.words served_word) n) ok.small x.3 (omega (
+      let told_now : answer_bit k.g.head n ≡ toggle =
+      one_or_other (answer_bit k.g.head n) (k.g.toggle_of n) toggle
+      (bit_at-lt k.g.head (n + 1)) ok.small x.3 (omega (
         arith,
         other,
         at_toggle,
       )) in
-      let plan_now : bit_at k.g.served n ≡ toggle = one_or_other (bit_at k.g.served n)
-      (k.g.toggle_of n) toggle (bit_at-lt k.g.served n) ok.small plan (omega (
+      let plan_now : answer_bit k.g.plan n ≡ toggle = one_or_other (answer_bit k.g.plan n)
+      (k.g.toggle_of n) toggle (bit_at-lt k.g.plan (n + 1)) ok.small plan (omega (
         arith,
         other,
         at_toggle,
@@ -358,7 +346,6 @@ module _ (setup : Setup) (slots : ℕ) (st : Step Slot) (id : ℕ) (t : Setup) (
           deep = length-set s.homes j maybe.none;
           word_same = same 0 (λ z. omega (arith, z));
           head_same = same head_word (λ z. omega (arith, z));
-          served_same = served;
           lock_slot_same = set_else s.homes j 0 maybe.none (λ z. omega (arith, z));
           epochs = λ r. same (epoch_word r) (λ z. omega (arith, z));
           sides = λ r side less. set_else s.homes j (side_slot r side) maybe.none
@@ -371,7 +358,7 @@ module _ (setup : Setup) (slots : ℕ) (st : Step Slot) (id : ℕ) (t : Setup) (
             toggle = get_or-set_same s.words i toggle 0 (omega (arith, wide, low))
                 ∙ sym here_toggle;
             small = omega (arith, here_toggle, other);
-            says = rw (here, here_toggle, served) (told_now, plan_now);
+            says = rw (here, here_toggle) (told_now, plan_now);
           };
           was_home = home;
           is_home = refl;

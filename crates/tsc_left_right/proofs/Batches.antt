@@ -9,7 +9,7 @@ use Rattle.tsc_left_right.specs.declared.table.Setup.{Setup}
 use Rattle.tsc_left_right.specs.declared.table.UnappliedAdd.{UnappliedAdd}
 use Rattle.tsc_left_right.specs.declared.table.Collected.{Collected}
 use Rattle.tsc_left_right.specs.declared.table.SeatState.{SeatState}
-use Rattle.tsc_left_right.specs.Rule.{AreOf, Lags, IsState, entry_of, marks_in, with_first}
+use Rattle.tsc_left_right.specs.Rule.{AreOf, LagsBy, IsState, entry_of, marks_in, with_first}
 use Rattle.tsc_left_right.specs.Steps.{next_of, grown, with_own}
 
 -- the entries of a batch after a history
@@ -43,7 +43,7 @@ entries_of h (x ∷ xs) = are_more (entries h xs) (adds_of xs) (next_of (grown h
 
 -- The copy that was active lags by all of them, and by the writer's own Add before them.
 pub lags_by : (t : Setup) (p : SeatState) (own : Option UnappliedAdd) (xs : List Collected)
-    (cache : CacheView) → IsState t p.history cache → Lags t (grown (with_own p own) xs)
+    (cache : CacheView) → IsState t p.history cache → LagsBy t (grown (with_own p own) xs)
     (with_first own (adds_of xs)) cache
 lags_by t p None xs cache stands = (
   p.history,

@@ -1,11 +1,10 @@
 -- Many Adds come into the history, one after another.
-use Rattle.std.proofs.Common.{◌≡◌, ◌≢◌, ◌∙◌, refl, sym, ap, subst, true, false, ℕ, zero, suc, ◌+◌}
-use Rattle.std.proofs.Common.{◌<◌, ◌≤◌, List, [], ◌∷◌, ◌++◌, length, arith}
-use Rattle.std.specs.Prelude.{Some, ◌==◌}
+use Rattle.std.proofs.Common.{◌≡◌, ◌≢◌, ◌∙◌, refl, sym, ap, subst, true, false, ℕ, suc, ◌+◌}
+use Rattle.std.proofs.Common.{◌<◌, ◌≤◌, List, [], ◌∷◌, ◌++◌, length, set, length-set, arith}
+use Rattle.std.specs.Prelude.{◌==◌}
 use mathlib.Core.Logic.{dite}
 use native.Mathlib.Decide.{ℕ_discrete}
 use mathlib.Core.Option as maybe
-use mathlib.Core.Option.{some-injective, some-ne-none}
 use lib.ListN.{get_elem?}
 use Rattle.std.proofs.lemmas.List.{length_push}
 use Rattle.std.proofs.lemmas.List.Sums.{sum_by-cons}
@@ -16,14 +15,16 @@ use Rattle.tsc_left_right.specs.declared.table.Setup.{Setup}
 use Rattle.tsc_left_right.specs.declared.table.UnappliedAdd.{UnappliedAdd}
 use Rattle.tsc_left_right.specs.declared.table.Collected.{Collected}
 use Rattle.tsc_left_right.specs.declared.table.Slot.{Slot}
-use Rattle.tsc_left_right.specs.Rule.{one_if, RequestState, Idle, Fetched, Posted, Taken, Made}
-use Rattle.tsc_left_right.specs.Rule.{Answered, SentBack, made_of, collected_as, IsMadeAt}
-use Rattle.tsc_left_right.specs.Rule.{IsRequested, CanBe, times, entry_of}
-use Rattle.tsc_left_right.specs.Steps.{next_of, grown, all_made}
+use Rattle.tsc_left_right.specs.Rule.{one_if, RequestState, Idle, Fetched, Posted, Taken}
+use Rattle.tsc_left_right.specs.Rule.{Answered, SentBack, made_of, in_hand, IsMadeAt, HasAnswer}
+use Rattle.tsc_left_right.specs.Rule.{IsRequested, CanBe, times, entry_of, request_slot}
+use Rattle.tsc_left_right.specs.Steps.{next_of, grown}
+use Rattle.tsc_left_right.specs.Writing.{Hand, Replied}
 use Rattle.tsc_cache.proofs.Beginnings.{begins_itself, begins_on}
 use Rattle.tsc_left_right.proofs.Prefixes.{begins_more, own_append, own_of_one, own_of_other}
 use Rattle.tsc_left_right.proofs.Prefixes.{legal_push}
-use Rattle.tsc_left_right.proofs.Totals.{part}
+use Rattle.tsc_left_right.proofs.Hands.{Homes, put_all}
+use Rattle.atomic_table.proofs.Lists.{set_here, set_else}
 use Rattle.tsc_left_right.proofs.Updates.{put, put_here, put_else}
 
 is_number : (a b : ℕ) → a ≡ b → (a == b) ≡ true
@@ -81,7 +82,7 @@ grown_legal setup h (x ∷ xs) legal can =
 abbrev pub requests_made : (ℕ → RequestState) → History → List Collected → ℕ → RequestState
 requests_made request_of h [] = request_of
 requests_made request_of h (x ∷ xs) =
-    put (requests_made request_of h xs) x.seat (Made (grown h xs) x.add)
+    put (requests_made request_of h xs) x.seat (Answered (grown h xs) x.add)
 
 -- Each of these requests was taken, and is there once.
 pub record Ready (seats : ℕ) (request_of : ℕ → RequestState) (xs : List Collected)
@@ -112,7 +113,7 @@ pub request_else : (request_of : ℕ → RequestState) (h : History) (xs : List 
     → times r xs ≡ 0 → requests_made request_of h xs r ≡ request_of r
 request_else request_of h [] r none = refl
 request_else request_of h (x ∷ xs) r none =
-    put_else (requests_made request_of h xs) x.seat (Made (grown h xs) x.add) r
+    put_else (requests_made request_of h xs) x.seat (Answered (grown h xs) x.add) r
     (λ is. omega (arith, none, times_cons r x xs, ap one_if (is_number x.seat r (sym is))))
     ∙ request_else request_of h xs r (omega (arith, none, times_cons r x xs))
 
@@ -133,33 +134,33 @@ put_same {A} f request_of s c same r = dite (ℕ_discrete r s)
     (ap f (put_here request_of s c) ∙ same))
     (λ isnt. ap f (put_else request_of s c r isnt))
 
--- What is the same of Taken and of Made stays the same.
+-- What is the same of Taken and of Answered stays the same.
 pub request_same : {A : Type 0} (f : RequestState → A)
-    → ((b : History) (p : UnappliedAdd) → f (Made b p) ≡ f (Taken p))
+    → ((b : History) (p : UnappliedAdd) → f (Answered b p) ≡ f (Taken p))
     → (seats : ℕ) (request_of : ℕ → RequestState) (h : History) (xs : List Collected)
     → Ready seats request_of xs
     → (r : ℕ) → f (requests_made request_of h xs r) ≡ f (request_of r)
 request_same {A} f alike seats request_of h [] ready r = refl
 request_same {A} f alike seats request_of h (x ∷ xs) ready r =
-    put_same f (requests_made request_of h xs) x.seat (Made (grown h xs) x.add)
+    put_same f (requests_made request_of h xs) x.seat (Answered (grown h xs) x.add)
     (alike (grown h xs) x.add ∙ sym (ap f (still_taken seats request_of h x xs ready))) r
     ∙ request_same f alike seats request_of h xs (ready_rest seats request_of x xs ready) r
 
 -- One more is made for a seat that is among them.
 made_put : (request_of : ℕ → RequestState) (h : History) (s : ℕ) (p : UnappliedAdd)
     → request_of s ≡ Taken p → (r : ℕ)
-    → made_of (put request_of s (Made h p) r) ≡ made_of (request_of r) + one_if (s == r)
+    → made_of (put request_of s (Answered h p) r) ≡ made_of (request_of r) + one_if (s == r)
 made_put request_of h s p was r = dite (ℕ_discrete r s)
     (λ is. omega (
       arith,
-      ap made_of (subst (λ (q : ℕ). put request_of s (Made h p) q ≡ Made h p) (sym is)
-          (put_here request_of s (Made h p))),
+      ap made_of (subst (λ (q : ℕ). put request_of s (Answered h p) q ≡ Answered h p) (sym is)
+          (put_here request_of s (Answered h p))),
       ap made_of (subst (λ (q : ℕ). request_of q ≡ Taken p) (sym is) was),
       ap one_if (is_number s r (sym is)),
     ))
     (λ isnt. omega (
       arith,
-      ap made_of (put_else request_of s (Made h p) r isnt),
+      ap made_of (put_else request_of s (Answered h p) r isnt),
       ap one_if (no_number s r (λ z. isnt (sym z))),
     ))
 
@@ -192,81 +193,155 @@ says_more setup h home toggle told plan r Idle es none says = says
 says_more setup h home toggle told plan r Fetched es none says = says
 says_more setup h home toggle told plan r (Posted p) es none says = says
 says_more setup h home toggle told plan r (Taken p) es none says = says
-says_more setup h home toggle told plan r (Made b p) es none says =
-    (made_at_more h r b p es none says.0, says.1, says.2)
 says_more setup h home toggle told plan r (Answered b p) es none says =
-    (says.0, made_at_more h r b p es none says.1, says.2)
+    (says.0, made_at_more h r b p es none says.1, says.2, says.3)
 says_more setup h home toggle told plan r (SentBack p) es none says = says
 
--- Each seat's slot, word and bits fit what is asked for it then.
-pub request_says : (setup : Setup) (request_of : ℕ → RequestState) (h : History)
-    (xs : List Collected) → Ready setup.seats request_of xs
-    → (home : maybe.Option (maybe.Option Slot)) (toggle told plan r : ℕ)
-    → IsRequested setup h home toggle told plan r (request_of r)
-    → IsRequested setup (grown h xs) home toggle told plan r (requests_made request_of h xs r)
-request_says setup request_of h [] ready home toggle told plan r says = says
-request_says setup request_of h (x ∷ xs) ready home toggle told plan r says =
-    let g : History = grown h xs in
-    let more : History = g ++ next_of g x ∷ [] in
-    let made : RequestState = Made g x.add in
-    let asked : ℕ → RequestState = requests_made request_of h xs in
-    let so_far = request_says setup request_of h xs
-    (ready_rest setup.seats request_of x xs ready) home toggle told plan r says in
-    dite (ℕ_discrete r x.seat)
-    (λ is. let was = subst (λ (q : ℕ). IsRequested setup g home toggle told plan q (asked q)) is
-    so_far in
-    let mine = subst (IsRequested setup g home toggle told plan x.seat)
-    (still_taken setup.seats request_of h x xs ready) was in
-    subst (λ (q : ℕ). IsRequested setup more home toggle told plan q (put asked x.seat made q))
-    (sym is) (subst (IsRequested setup more home toggle told plan x.seat)
-    (sym (put_here asked x.seat made)) (
-      record {
-        begins = begins_itself more;
-        own = omega (arith, own_next x.seat g x, ap one_if (is_number x.seat x.seat refl));
-      },
-      mine.1,
-      mine.2,
-    )))
-    (λ isnt. subst (IsRequested setup more home toggle told plan r)
-    (sym (put_else asked x.seat made r isnt))
-    (says_more setup g home toggle told plan r (asked r) (next_of g x ∷ [])
-    (own_of_other r (next_of g x) (λ z. isnt (sym z))) so_far))
+-- What is asked for a seat fits still when HEAD is what it was to be.
+pub says_told : (setup : Setup) (h : History) (home : maybe.Option (maybe.Option Slot))
+    (toggle told plan r : ℕ) (a : RequestState) → IsRequested setup h home toggle told plan r a
+    → IsRequested setup h home toggle plan plan r a
+says_told setup h home toggle told plan r Idle says = (says.0, says.2, says.2)
+says_told setup h home toggle told plan r Fetched says = (says.1, says.1)
+says_told setup h home toggle told plan r (Posted p) says = (says.0, says.1, says.3, says.3)
+says_told setup h home toggle told plan r (Taken p) says = (says.0, says.2, says.2)
+says_told setup h home toggle told plan r (Answered b p) says = (says.0, says.1, says.3, says.3)
+says_told setup h home toggle told plan r (SentBack p) says = says
 
-pub made_times : (r : ℕ) (h : History) (xs : List Collected)
-    → times r (all_made h xs) ≡ times r xs
-made_times r h [] = refl
-made_times r h (x ∷ xs) = omega (
+says_grown : (setup : Setup) (h : History) (xs : List Collected)
+    (home : maybe.Option (maybe.Option Slot)) (toggle told plan r : ℕ) (a : RequestState)
+    → times r xs ≡ 0 → IsRequested setup h home toggle told plan r a
+    → IsRequested setup (grown h xs) home toggle told plan r a
+says_grown setup h [] home toggle told plan r a none says = says
+says_grown setup h (x ∷ xs) home toggle told plan r a none says =
+    let g : History = grown h xs in
+    says_more setup g home toggle told plan r a (next_of g x ∷ [])
+    (own_of_other r (next_of g x)
+    (λ is. omega (arith, none, times_cons r x xs, ap one_if (is_number x.seat r is))))
+    (says_grown setup h xs home toggle told plan r a (omega (arith, none, times_cons r x xs)) says)
+
+pub says_else : (setup : Setup) (request_of : ℕ → RequestState) (h : History) (xs : List Collected)
+    (home : maybe.Option (maybe.Option Slot)) (toggle told plan r : ℕ) → times r xs ≡ 0
+    → IsRequested setup h home toggle told plan r (request_of r)
+    → IsRequested setup (grown h xs) home toggle plan plan r (requests_made request_of h xs r)
+says_else setup request_of h xs home toggle told plan r none says =
+    subst (IsRequested setup (grown h xs) home toggle plan plan r)
+    (sym (request_else request_of h xs r none))
+    (says_told setup (grown h xs) home toggle told plan r (request_of r)
+    (says_grown setup h xs home toggle told plan r (request_of r) none says))
+
+-- The writer has fewer request slots by those of the requests.
+hand_put : (request_of : ℕ → RequestState) (h : History) (s : ℕ) (p : UnappliedAdd)
+    → request_of s ≡ Taken p → (r : ℕ)
+    → in_hand (put request_of s (Answered h p) r) + one_if (s == r) ≡ in_hand (request_of r)
+hand_put request_of h s p was r = dite (ℕ_discrete r s)
+    (λ is. omega (
+      arith,
+      ap in_hand (subst (λ (q : ℕ). put request_of s (Answered h p) q ≡ Answered h p) (sym is)
+          (put_here request_of s (Answered h p))),
+      ap in_hand (subst (λ (q : ℕ). request_of q ≡ Taken p) (sym is) was),
+      ap one_if (is_number s r (sym is)),
+    ))
+    (λ isnt. omega (
+      arith,
+      ap in_hand (put_else request_of s (Answered h p) r isnt),
+      ap one_if (no_number s r (λ z. isnt (sym z))),
+    ))
+
+pub hand_count : (seats : ℕ) (request_of : ℕ → RequestState) (h : History)
+    (xs : List Collected) → Ready seats request_of xs → (r : ℕ)
+    → in_hand (requests_made request_of h xs r) + times r xs ≡ in_hand (request_of r)
+hand_count seats request_of h [] ready r = omega arith
+hand_count seats request_of h (x ∷ xs) ready r = omega (
   arith,
-  times_cons r (record { seat = x.seat; add = x.add; before = Some (grown h xs) })
-      (all_made h xs),
+  hand_count seats request_of h xs (ready_rest seats request_of x xs ready) r,
+  hand_put (requests_made request_of h xs) (grown h xs) x.seat x.add
+      (still_taken seats request_of h x xs ready) r,
   times_cons r x xs,
-  made_times r h xs,
 )
 
--- The writer's list says so.
-pub made_listed : (seats : ℕ) (request_of : ℕ → RequestState) (h : History)
-    (xs : List Collected) → Ready seats request_of xs → (i : ℕ) (y : Collected)
-    → get_elem? (all_made h xs) i ≡ maybe.some y
-    → (y.seat < seats)
-    × (requests_made request_of h xs y.seat ≡ collected_as y.add y.before)
-made_listed seats request_of h [] ready i y e = absurd (some-ne-none y (sym e))
-made_listed seats request_of h (x ∷ xs) ready zero y e =
-    let made : Collected = record { seat = x.seat; add = x.add; before = Some (grown h xs) } in
-    subst (λ (z : Collected). (z.seat < seats)
-    × (requests_made request_of h (x ∷ xs) z.seat ≡ collected_as z.add z.before))
-    (some-injective made y e) (
-      (ready.listed 0 x refl).0,
-      put_here (requests_made request_of h xs) x.seat (Made (grown h xs) x.add),
-    )
-made_listed seats request_of h (x ∷ xs) ready (suc i) y e =
-    let l = made_listed seats request_of h xs (ready_rest seats request_of x xs ready) i y e in (
-      l.0,
-      put_else (requests_made request_of h xs) x.seat (Made (grown h xs) x.add) y.seat
-          (λ is. omega (
+-- A slot that is none of those of the requests stays as it is when their replies are at home.
+pub replied_apart : (setup : Setup) (h : History) (xs : List Collected) (replies : Hand)
+    (hs : Homes) (i : ℕ) → Replied setup h xs replies
+    → ((q : ℕ) → 0 < times q xs → i ≢ request_slot q)
+    → get_elem? (put_all hs replies) i ≡ get_elem? hs i
+replied_apart setup h [] [] hs i told apart = refl
+replied_apart setup h [] (s ∷ ss) hs i told apart = absurd told
+replied_apart setup h (x ∷ xs) [] hs i told apart = absurd told
+replied_apart setup h (x ∷ xs) (s ∷ ss) hs i told apart =
+    replied_apart setup h xs ss (set hs s.0 (maybe.some s.1)) i told.2
+    (λ q some. apart q (omega (arith, some, times_cons q x xs)))
+    ∙ set_else hs s.0 i (maybe.some s.1) (λ e. apart x.seat (omega (
+      arith,
+      times_cons x.seat x xs,
+      ap one_if (is_number x.seat x.seat refl),
+    )) (e ∙ told.0))
+
+-- A seat whose Add was made has its reply at home.
+pub record IsAnswered (setup : Setup) (request_of asked : ℕ → RequestState) (h : History)
+    (homes : Homes) (r : ℕ) : Type 0 where
+  pub before : History
+  pub add : UnappliedAdd
+  pub was : request_of r ≡ Taken add
+  pub is : asked r ≡ Answered before add
+  pub made : IsMadeAt h r before add
+  pub slot : Slot
+  pub home : get_elem? homes (request_slot r) ≡ maybe.some (maybe.some slot)
+  pub reply : HasAnswer setup before add slot
+
+pub is_answered : (setup : Setup) (request_of : ℕ → RequestState) (h : History)
+    (xs : List Collected) (replies : Hand) (hs : Homes) (r : ℕ) → Ready setup.seats request_of xs
+    → Replied setup h xs replies → 0 < times r xs → request_slot r < length hs
+    → IsAnswered setup request_of (requests_made request_of h xs) (grown h xs)
+    (put_all hs replies) r
+is_answered setup request_of h [] replies hs r ready told some low = absurd (omega (arith, some))
+is_answered setup request_of h (x ∷ xs) [] hs r ready told some low = absurd told
+is_answered setup request_of h (x ∷ xs) (s ∷ ss) hs r ready told some low =
+    let g : History = grown h xs in
+    let more : History = g ++ next_of g x ∷ [] in
+    let asked : ℕ → RequestState = requests_made request_of h xs in
+    let made : RequestState = Answered g x.add in
+    let put_in : Homes = set hs s.0 (maybe.some s.1) in
+    dite (ℕ_discrete r x.seat)
+    (λ is. subst (IsAnswered setup request_of (put asked x.seat made) more (put_all put_in ss))
+    (sym is) (record {
+      before = g;
+      add = x.add;
+      was = (ready.listed 0 x refl).1;
+      is = put_here asked x.seat made;
+      made = record {
+        begins = begins_itself more;
+        own = omega (arith, own_next x.seat g x, ap one_if (is_number x.seat x.seat refl));
+      };
+      slot = s.1;
+      home = replied_apart setup h xs ss put_in (request_slot x.seat) told.2
+          (λ q many e. omega (
             arith,
-            not_again seats request_of x xs ready,
-            made_times x.seat h xs,
-            part (λ (z : Collected). one_if (z.seat == x.seat)) (all_made h xs) i y e,
-            ap one_if (is_number y.seat x.seat is),
-          )) ∙ l.1,
-    )
+            not_again setup.seats request_of x xs ready,
+            many,
+            ap (λ (n : ℕ). times n xs) (same_slot x.seat q e),
+          ))
+          ∙ ap (get_elem? put_in) (sym told.0)
+          ∙ set_here hs s.0 (maybe.some s.1) (omega (arith, low, told.0, ap request_slot is));
+      reply = told.1;
+    }))
+    (λ isnt. let a = is_answered setup request_of h xs ss put_in r
+    (ready_rest setup.seats request_of x xs ready) told.2 (omega (
+      arith,
+      some,
+      times_cons r x xs,
+      ap one_if (no_number x.seat r (λ z. isnt (sym z))),
+    )) (omega (arith, low, length-set hs s.0 (maybe.some s.1))) in record {
+      before = a.before;
+      add = a.add;
+      was = a.was;
+      is = put_else asked x.seat made r isnt ∙ a.is;
+      made = made_at_more g r a.before a.add (next_of g x ∷ [])
+          (own_of_other r (next_of g x) (λ z. isnt (sym z))) a.made;
+      slot = a.slot;
+      home = a.home;
+      reply = a.reply;
+    })
+  where
+    same_slot : (a b : ℕ) → request_slot a ≡ request_slot b → a ≡ b
+    same_slot a b e = omega (arith, e)

@@ -72,8 +72,8 @@ read_head_at key slots st id v me is none = subst (λ (m : At). Allows (LeftRigh
 pub seen_at : (st : Step Slot) (found number : ℕ) (v : Knowledge) (me me' : At)
     → me ≡ (with_state v (staged (state_in v) 1), []) → number ≡ number_of v
     → reads_head st me found me'
-    → (x : Slot) × (flips : ℕ) × (found % 2 ≡ active_side flips)
-    × (me'.1 ≡ (side_slot number (found % 2), x) ∷ []) × SeesAll v me'.0 flips x
+    → (x : Slot) × (head : ℕ) × (found % 2 ≡ active_side head)
+    × (me'.1 ≡ (side_slot number (found % 2), x) ∷ []) × SeesAll v me'.0 head x
 seen_at st found number v me me' is same looked =
     let l : reads_head st (with_state v (staged (state_in v) 1), []) found me' =
     subst (λ (m : At). reads_head st m found me') is looked in

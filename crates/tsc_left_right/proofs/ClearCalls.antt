@@ -75,7 +75,7 @@ pub cleared_then : (st : Step Slot) (e : ℕ) (v : Knowledge) (me me' : At) (cle
     → has_left watched e ≡ true
     → (x : Slot) × (me' ≡ (
       cleared_in v (suc cleared) None,
-      (side_slot cleared (standby_side (state_in v).flips), x) ∷ slots_of
+      (side_slot cleared (standby_side (state_in v).head), x) ∷ slots_of
           (state_in v).collected ++ (0, Empty) ∷ h.slots,
     ))
 cleared_then st e v me me' cleared watched h step left =
@@ -101,15 +101,15 @@ pub cleared_more : (v : Knowledge) (me me₁ me₂ me₃ : At) (cleared slot : �
     → me₁ ≡ (
       cleared_in v (suc cleared) None,
       (
-        side_slot cleared (standby_side (state_in v).flips),
+        side_slot cleared (standby_side (state_in v).head),
         x,
       ) ∷ slots_of (state_in v).collected ++ (0, Empty) ∷ h.slots,
     )
-    → slot ≡ side_slot cleared (standby_side (state_in v).flips)
+    → slot ≡ side_slot cleared (standby_side (state_in v).head)
     → me₂ ≡ (me₁.0, (slot, Empty) ∷ rest me₁.1) → me₃ ≡ (me₂.0, turned me₂.1)
     → IsWriting v me₃ (cleared + 1) None
 cleared_more v me me₁ me₂ me₃ cleared slot watched x h is at emptied turned_is =
-    let side : ℕ = standby_side (state_in v).flips in
+    let side : ℕ = standby_side (state_in v).head in
     let requests : Hand = slots_of (state_in v).collected in
     subst (λ (n : ℕ). IsWriting v me₃ n None) (let g : suc cleared ≡ cleared + 1 = omega arith in g)
     (record {

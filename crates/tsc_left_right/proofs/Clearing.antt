@@ -17,7 +17,7 @@ use Rattle.tsc_left_right.specs.declared.table.Slot.{Slot}
 use Rattle.tsc_left_right.specs.declared.table.SeatState.{SeatState}
 use Rattle.tsc_left_right.specs.declared.table.Knowledge.{Knowledge}
 use Rattle.tsc_left_right.specs.Rule.{keeping, SharedState, LeftRightRule, SeatFits, head_word}
-use Rattle.tsc_left_right.specs.Rule.{served_word, epoch_word, request_word, side_slot}
+use Rattle.tsc_left_right.specs.Rule.{epoch_word, request_word, side_slot}
 use Rattle.tsc_left_right.specs.Rule.{request_slot, active_side, standby_side}
 use Rattle.tsc_left_right.specs.Steps.{clearing, has_left, clears}
 use Rattle.tsc_left_right.proofs.Hands.{Homes, Hand}
@@ -57,10 +57,10 @@ module _ (setup : Setup) (slots : ℕ) (st : Step Slot) (id : ℕ) (t : Setup) (
   clear_allowed holds pinned out s k deep at small =
       let all = knows_all setup s k id t p holds at in
       let g : SharedState = k.g in
-      let hidden : ℕ = standby_side g.flips in
+      let hidden : ℕ = standby_side g.head in
       let i : ℕ = epoch_word p.cleared in
       let e : ℕ = slice_index s.words i in
-      let j : ℕ = side_slot p.cleared (standby_side p.flips) in
+      let j : ℕ = side_slot p.cleared (standby_side p.head) in
       let words : List ℕ = set s.words i e in
       let same : (q : ℕ) → slice_index words q ≡ slice_index s.words q =
       λ q. ap (λ (ws : List ℕ). slice_index ws q) (set-get_or s.words i 0) in
@@ -70,14 +70,14 @@ module _ (setup : Setup) (slots : ℕ) (st : Step Slot) (id : ℕ) (t : Setup) (
         ap (λ (x : Setup). x.seats) all.same,
       ) in
       let plan = all.cleared in
-      let flips_is = all.flips in
+      let head_is = all.head in
       let taken = all.taken in
       let here = k.seats p.cleared within in
       let moved : (c : ℕ) (wt : Option ℕ) (homes : Homes) → length homes ≡ length s.homes
       → ((r : ℕ) → get_elem? homes (request_slot r) ≡ get_elem? s.homes (request_slot r))
       → ((r : ℕ) → r < setup.seats → SeatFits setup (record {
         history = g.history;
-        flips = g.flips;
+        head = g.head;
         word = g.word;
         stage_of = g.stage_of;
         toggle_of = g.toggle_of;
@@ -85,7 +85,7 @@ module _ (setup : Setup) (slots : ℕ) (st : Step Slot) (id : ℕ) (t : Setup) (
         cleared = c;
         watched = wt;
         collected = g.collected;
-        served = g.served;
+        plan = g.plan;
       }) words homes r)
       → LeftRightRule setup (record {
         words = words;
@@ -96,7 +96,7 @@ module _ (setup : Setup) (slots : ℕ) (st : Step Slot) (id : ℕ) (t : Setup) (
       = λ c wt homes as_deep slots_same seats. moved_kept setup s k id holder
       (keeping t (clearing p c wt ∷ [])) (record {
         history = g.history;
-        flips = g.flips;
+        head = g.head;
         word =
             g.word;
         stage_of = g.stage_of;
@@ -105,13 +105,13 @@ module _ (setup : Setup) (slots : ℕ) (st : Step Slot) (id : ℕ) (t : Setup) (
         cleared = c;
         watched = wt;
         collected = g.collected;
-        served = g.served;
+        plan = g.plan;
       }) words homes
       (record {
         at = at;
         legal = k.legal;
         limit = k.limit;
-        few = k.few;
+        side = k.side;
         wide = length-set s.words i e ∙ k.wide;
         deep = as_deep ∙ k.deep;
         word_is = same 0 ∙ k.word_is;
@@ -121,7 +121,7 @@ module _ (setup : Setup) (slots : ℕ) (st : Step Slot) (id : ℕ) (t : Setup) (
           toggle = same (request_word r)
               ∙ ok.toggle;
           small = ok.small;
-          says = rw (slots_same r, same served_word) ok.says;
+          says = rw (slots_same r) ok.says;
         };
         collected = k.collected;
         fits = of_one t (clearing p c wt) all.same (record {
@@ -133,7 +133,7 @@ module _ (setup : Setup) (slots : ℕ) (st : Step Slot) (id : ℕ) (t : Setup) (
           at_request = all.mine.at_request;
           at_fetched = all.mine.at_fetched;
           sees = all.mine.sees;
-          holding = λ _. (all.all, all.taken, refl, refl, all.collected, all.served, all.flips);
+          holding = λ _. (all.all, all.taken, refl, refl, all.collected, all.head, all.plan);
         });
         others = λ other u apart z. let was = k.views other u z in record {
           settled = was.settled;
@@ -163,7 +163,7 @@ module _ (setup : Setup) (slots : ℕ) (st : Step Slot) (id : ℕ) (t : Setup) (
       let homes : Homes = set s.homes j maybe.none in (
         keeping t (clearing p (suc p.cleared) None ∷ []),
         act_takes j x.0,
-        ap (λ (c : ℕ). get_elem? s.homes (side_slot p.cleared c)) (omega (arith, flips_is)) ∙ x.1,
+        ap (λ (c : ℕ). get_elem? s.homes (side_slot p.cleared c)) (omega (arith, head_is)) ∙ x.1,
         moved (suc p.cleared) None homes (length-set s.homes j maybe.none) (λ r. set_else s.homes j
             (request_slot r) maybe.none (λ z. omega (arith, z))) (λ r low. let ok = k.seats r low in
             record {
@@ -171,8 +171,8 @@ module _ (setup : Setup) (slots : ℕ) (st : Step Slot) (id : ℕ) (t : Setup) (
               pinned = λ z. ap (λ (b : ℕ). b % 2) (same (epoch_word r)) ∙ ok.pinned z;
               active = λ n. let y = ok.active n in (
                 y.0,
-                set_else s.homes j (side_slot r (active_side g.flips)) maybe.none
-                    (λ z. omega (arith, z, flips_is)) ∙ y.1,
+                set_else s.homes j (side_slot r (active_side g.head)) maybe.none
+                    (λ z. omega (arith, z, head_is)) ∙ y.1,
                 y.2,
               );
               standby = λ c n. let y = ok.standby (omega (arith, c, plan)) n in (
@@ -180,7 +180,7 @@ module _ (setup : Setup) (slots : ℕ) (st : Step Slot) (id : ℕ) (t : Setup) (
                 set_else s.homes j (side_slot r hidden) maybe.none (λ z. omega (
                   arith,
                   z,
-                  flips_is,
+                  head_is,
                   c,
                 )) ∙ y.1,
               );

@@ -1,10 +1,9 @@
--- A writer collects a request, and lays a request or a reply into its slot.
-use Rattle.std.proofs.Common.{◌≡◌, ◌≢◌, ◌∙◌, refl, sym, ap, subst, true, ℕ, zero, suc, ◌+◌, ◌^◌}
+-- A writer collects a request, and lays it back into its slot.
+use Rattle.std.proofs.Common.{◌≡◌, ◌≢◌, ◌∙◌, refl, sym, ap, subst, true, ℕ, zero, suc, ◌+◌}
 use Rattle.std.proofs.Common.{◌<◌, List, [], ◌∷◌, set, arith, slice_index, length-set}
 use Rattle.std.proofs.Common.{ne_eqb}
-use Rattle.std.specs.Prelude.{Option, Some, None, ◌==◌}
-use Rattle.std.specs.Int.{bit_at}
-use Rattle.std.proofs.lemmas.Nat.Bits.{bit_at-lt, bit_at_xor, bit_at-pow_same, bit_at-pow_other}
+use Rattle.std.specs.Prelude.{◌==◌}
+use Rattle.std.proofs.lemmas.Nat.Bits.{bit_at-lt}
 use mathlib.Core.Logic.{dite}
 use native.Mathlib.Decide.{ℕ_discrete}
 use mathlib.Core.Option as maybe
@@ -13,7 +12,6 @@ use lib.ListN.{get_elem?}
 use Rattle.atomic_table.proofs.Lists.{set_here, set_else}
 use Rattle.atomic_table.specs.Table.{Step, Act, takes as act_takes, keeps as act_keeps}
 use Rattle.atomic_table.specs.Table.{gives as act_gives, Allows, Valid, stepped, carried_after}
-use Rattle.tsc_cache.specs.History.{History}
 use Rattle.tsc_left_right.specs.declared.table.Setup.{Setup}
 use Rattle.tsc_left_right.specs.declared.table.UnappliedAdd.{UnappliedAdd}
 use Rattle.tsc_left_right.specs.declared.table.Slot.{Slot}
@@ -21,19 +19,18 @@ use Rattle.tsc_left_right.specs.declared.table.SeatState.{SeatState}
 use Rattle.tsc_left_right.specs.declared.table.Collected.{Collected}
 use Rattle.tsc_left_right.specs.declared.table.Knowledge.{Knowledge}
 use Rattle.tsc_left_right.specs.Rule.{keeping, one_if, SharedState, LeftRightRule}
-use Rattle.tsc_left_right.specs.Rule.{RequestState, Idle, Fetched, Posted, Taken, Made, Answered}
+use Rattle.tsc_left_right.specs.Rule.{RequestState, Idle, Fetched, Posted, Taken, Answered}
 use Rattle.tsc_left_right.specs.Rule.{SentBack, made_of, in_hand, add_of, fetched_of, toggle_seen}
-use Rattle.tsc_left_right.specs.Rule.{collected_as, IsRequested, CanBe}
-use Rattle.tsc_left_right.specs.Rule.{times, served_word, request_word}
+use Rattle.tsc_left_right.specs.Rule.{IsRequested, CanBe, HasRequest, answer_bit, turned_answer}
+use Rattle.tsc_left_right.specs.Rule.{times, request_word, active_side}
 use Rattle.tsc_left_right.specs.Rule.{side_slot, request_slot}
-use Rattle.tsc_left_right.specs.Requesting.{LaidFor}
-use Rattle.tsc_left_right.specs.RequestSteps.{serving, Collects, turned_bit, other_requests}
+use Rattle.tsc_left_right.specs.RequestSteps.{serving, Collects, other_requests}
 use Rattle.tsc_left_right.specs.RequestSteps.{last_seat}
 use Rattle.tsc_left_right.specs.RequestSteps.{puts_back}
 use Rattle.tsc_left_right.proofs.Totals.{part}
 use Rattle.tsc_left_right.proofs.Updates.{put, put_here, put_else}
 use Rattle.tsc_left_right.proofs.Batching.{times_cons}
-use Rattle.tsc_left_right.proofs.Requests.{hand_as}
+use Rattle.tsc_left_right.proofs.Heads.{turned_same, turned_else, turned_side}
 use Rattle.tsc_left_right.proofs.Hearing.{unmoved}
 use Rattle.tsc_left_right.proofs.Hands.{Homes, Hand}
 use Rattle.tsc_left_right.proofs.Moves.{Board, knows_all}
@@ -53,12 +50,12 @@ module _ (setup : Setup) (slots : ℕ) (id : ℕ) (t : Setup) (p : SeatState) (h
   -- the writer's list with one more
   at_list : (s : Board) (k : LeftRightRule setup s) → p.collected ≡ k.g.collected
       → in_hand (k.g.request_of r) ≡ 0 → r < setup.seats → (q : UnappliedAdd) (i : ℕ)
-      (y : Collected) → get_elem? (record { seat = r; add = q; before = None } ∷ p.collected) i
+      (y : Collected) → get_elem? (record { seat = r; add = q } ∷ p.collected) i
       ≡ maybe.some y → (y.seat < setup.seats) × (put k.g.request_of r (Taken q) y.seat
-      ≡ collected_as y.add y.before)
+      ≡ Taken y.add)
   at_list s k collected not_there low q zero y e = subst (λ (z : Collected). (z.seat < setup.seats)
-      × (put k.g.request_of r (Taken q) z.seat ≡ collected_as z.add z.before))
-      (some-injective (record { seat = r; add = q; before = None }) y e) (
+      × (put k.g.request_of r (Taken q) z.seat ≡ Taken z.add))
+      (some-injective (record { seat = r; add = q }) y e) (
         low,
         put_here k.g.request_of r (Taken q),
       )
@@ -71,38 +68,35 @@ module _ (setup : Setup) (slots : ℕ) (id : ℕ) (t : Setup) (p : SeatState) (h
           not_there,
           ap (λ (c : ℕ). in_hand (k.g.request_of c)) z,
           ap in_hand l.1,
-          hand_as y.add y.before,
         ))
             ∙ l.1,
       )
 
   collect_by : p.holds ≡ true → r < setup.seats → times r p.collected ≡ 0
       → (s : Board) (k : LeftRightRule setup s) → get_elem? s.views id ≡ maybe.some v
-      → bit_at p.served r ≢ slice_index s.words (request_word r)
-      → bit_at k.g.served r ≢ k.g.toggle_of r → in_hand (k.g.request_of r) ≡ 0
+      → answer_bit p.plan r ≢ slice_index s.words (request_word r)
+      → answer_bit k.g.plan r ≢ k.g.toggle_of r → in_hand (k.g.request_of r) ≡ 0
       → (a : RequestState) → k.g.request_of r ≡ a → IsRequested setup k.g.history
       (get_elem? s.homes (request_slot r)) (k.g.toggle_of r)
-      (bit_at (slice_index s.words served_word) r) (bit_at k.g.served r) r a → CollectsAt s
+      (answer_bit k.g.head r) (answer_bit k.g.plan r) r a → CollectsAt s
   collect_by holds low new s k at differs differs' not_there Idle is says = absurd (differs' says.2)
   collect_by holds low new s k at differs differs' not_there Fetched is says =
       absurd (differs' says.1)
   collect_by holds low new s k at differs differs' not_there (Taken q) is says =
       absurd (omega (arith, not_there, ap in_hand is))
-  collect_by holds low new s k at differs differs' not_there (Made b q) is says =
-      absurd (omega (arith, not_there, ap in_hand is))
   collect_by holds low new s k at differs differs' not_there (Answered b q) is says =
-      absurd (differs' says.2)
+      absurd (differs' says.3)
   collect_by holds low new s k at differs differs' not_there (SentBack q) is says =
       absurd (differs' says.1)
   collect_by holds low new s k at differs differs' not_there (Posted q) is says =
       let all = knows_all setup s k id t p holds at in
       let x : Slot = says.0.0 in
-      let one : Collected = record { seat = r; add = q; before = None } in
+      let one : Collected = record { seat = r; add = q } in
       let j : ℕ = request_slot r in (
-        keeping t (serving p (one ∷ p.collected) p.served ∷ []),
+        keeping t (serving p (one ∷ p.collected) p.plan ∷ []),
         act_takes j x,
         says.0.1,
-        serves_kept setup s k id t p r (Taken q) (one ∷ p.collected) p.served (request_word r)
+        serves_kept setup s k id t p r (Taken q) (one ∷ p.collected) p.plan (request_word r)
             (set s.homes j maybe.none) holds at (record {
               deep = length-set s.homes j maybe.none;
               lock_slot_same = set_else s.homes j 0 maybe.none (λ z. omega (arith, z));
@@ -113,10 +107,11 @@ module _ (setup : Setup) (slots : ℕ) (id : ℕ) (t : Setup) (p : SeatState) (h
               here = (
                 says.1,
                 says.2,
-                (λ z. says.3 (ap (λ (n : ℕ). bit_at n r) (sym all.served)
+                (λ z. says.3 (ap (λ (n : ℕ). answer_bit n r) (sym all.plan)
                     ∙ z)),
               );
-              bits = λ c _. ap (λ (n : ℕ). bit_at n c) all.served;
+              bits = λ c _. ap (λ (n : ℕ). answer_bit n c) all.plan;
+              side = ap active_side all.plan;
               same_made = sym (ap made_of is);
               same_asks = sym (ap add_of is);
               same_fetched = sym (ap fetched_of is);
@@ -155,7 +150,7 @@ module _ (setup : Setup) (slots : ℕ) (id : ℕ) (t : Setup) (p : SeatState) (h
   collect_allowed holds pinned new s k deep at small =
       let same = (k.views id v at).settled refl in
       let low : r < setup.seats = omega (arith, pinned, ap (λ (x : Setup). x.seats) same) in
-      dite (ℕ_discrete (bit_at p.served r) (slice_index s.words (request_word r)))
+      dite (ℕ_discrete (answer_bit p.plan r) (slice_index s.words (request_word r)))
       (λ is. (
         v,
         act_keeps,
@@ -165,79 +160,14 @@ module _ (setup : Setup) (slots : ℕ) (id : ℕ) (t : Setup) (p : SeatState) (h
       ))
       (λ differs. let all = knows_all setup s k id t p holds at in
       collect_by holds low new s k at differs
-      (λ z. differs (ap (λ (n : ℕ). bit_at n r) all.served ∙ z ∙ sym (k.requests r low).toggle))
+      (λ z. differs (ap (λ (n : ℕ). answer_bit n r) all.plan ∙ z ∙ sym (k.requests r low).toggle))
       (sym (k.collected.each r) ∙ ap (times r) (sym all.collected) ∙ new)
       (k.g.request_of r) refl (k.requests r low).says)
 
--- One bit is turned, and no other.
-turned_same : (served r : ℕ) → bit_at (turned_bit served r) r + bit_at served r ≡ 1
-turned_same served r = omega (
-  arith,
-  bit_at_xor served (2 ^ r) r,
-  bit_at-pow_same r,
-  bit_at-lt served r,
-)
-
-turned_else : (served r q : ℕ) → q ≢ r → bit_at (turned_bit served r) q ≡ bit_at served q
-turned_else served r q apart = omega (
-  arith,
-  bit_at_xor served (2 ^ r) q,
-  bit_at-pow_other r q apart,
-  bit_at-lt served q,
-)
-
--- what is asked for the seat then
-abbrev pub laid_as : UnappliedAdd → Option History → RequestState
-laid_as add None = SentBack add
-laid_as add (Some b) = Answered b add
-
 module _ (setup : Setup) (slots : ℕ) (st : Step Slot) (id : ℕ) (t : Setup) (p : SeatState)
     (hand : Hand) (y : Collected) (ys : List Collected) (x : Slot) where
-  lay_here : (h : History) (home : maybe.Option (maybe.Option Slot)) (toggle told plan plan' r : ℕ)
-      (add : UnappliedAdd) (before : Option History) → home ≡ maybe.some (maybe.some x)
-      → LaidFor setup add before x → plan' ≡ toggle
-      → IsRequested setup h (maybe.some maybe.none) toggle told plan r (collected_as add before)
-      → IsRequested setup h home toggle told plan' r (laid_as add before)
-  lay_here h home toggle told plan plan' r add None at laid bit says = ((x, at, laid), bit)
-  lay_here h home toggle told plan plan' r add (Some b) at laid bit says = (
-    (x, at, laid),
-    says.0,
-    bit,
-  )
-
-  lay_any : (h : History) (home home' : maybe.Option (maybe.Option Slot)) (toggle told plan r : ℕ)
-      (add : UnappliedAdd) (before : Option History) → IsRequested setup h home toggle told plan r
-      (collected_as add before) → IsRequested setup h home' toggle told plan r
-      (collected_as add before) × (plan ≢ toggle)
-  lay_any h home home' toggle told plan r add None says = (says, says.2)
-  lay_any h home home' toggle told plan r add (Some b) says = (says, says.2)
-
-  same_made' : (add : UnappliedAdd) (b : Option History) → made_of (laid_as add b)
-      ≡ made_of (collected_as add b)
-  same_made' add None = refl
-  same_made' add (Some b) = refl
-
-  same_asks' : (add : UnappliedAdd) (b : Option History) → add_of (laid_as add b)
-      ≡ add_of (collected_as add b)
-  same_asks' add None = refl
-  same_asks' add (Some b) = refl
-
-  same_fetched' : (add : UnappliedAdd) (b : Option History) → fetched_of (laid_as add b)
-      ≡ fetched_of (collected_as add b)
-  same_fetched' add None = refl
-  same_fetched' add (Some b) = refl
-
-  same_toggle' : (n : ℕ) (add : UnappliedAdd) (b : Option History) → toggle_seen n (laid_as add b)
-      ≡ toggle_seen n (collected_as add b)
-  same_toggle' n add None = refl
-  same_toggle' n add (Some b) = refl
-
-  home_now : (add : UnappliedAdd) (b : Option History) → in_hand (laid_as add b) ≡ 0
-  home_now add None = refl
-  home_now add (Some b) = refl
-
   -- The writer lays a request slot back, by a load of the lock's word.
-  pub put_back_allowed : p.holds ≡ true → p.collected ≡ y ∷ ys → LaidFor t y.add y.before x
+  pub put_back_allowed : p.holds ≡ true → p.collected ≡ y ∷ ys → HasRequest y.add x
       → Allows (LeftRightRule setup) slots id (keeping t (p ∷ []), (request_slot y.seat, x) ∷ hand)
       0 (λ n. n) (puts_back st (keeping t (p ∷ []), (request_slot y.seat, x) ∷ hand))
   put_back_allowed holds has laid s k deep at small =
@@ -245,7 +175,7 @@ module _ (setup : Setup) (slots : ℕ) (st : Step Slot) (id : ℕ) (t : Setup) (
       let g : SharedState = k.g in
       let r : ℕ = y.seat in
       let listed : k.g.collected ≡ y ∷ ys = sym all.collected ∙ has in
-      let served' : ℕ = turned_bit p.served r in
+      let plan' : ℕ = turned_answer p.plan r in
       let l = k.collected.listed 0 y (ap (λ (xs : List Collected). get_elem? xs 0) listed) in
       let low : r < setup.seats = l.0 in
       let ok = k.requests r low in
@@ -254,46 +184,43 @@ module _ (setup : Setup) (slots : ℕ) (st : Step Slot) (id : ℕ) (t : Setup) (
       let homes : Homes = set s.homes j (maybe.some x) in
       let back : get_elem? homes j ≡ maybe.some (maybe.some x) = set_here s.homes j (maybe.some x)
       (omega (arith, tall, low)) in
-      let says = lay_any g.history (get_elem? s.homes j) (maybe.some maybe.none) (g.toggle_of r)
-      (bit_at (slice_index s.words served_word) r) (bit_at g.served r) r y.add y.before
-      (subst (IsRequested setup g.history (get_elem? s.homes j) (g.toggle_of r)
-      (bit_at (slice_index s.words served_word) r) (bit_at g.served r) r) l.1 ok.says) in
-      let bit : bit_at served' r ≡ g.toggle_of r = omega (
+      let says = subst (IsRequested setup g.history (get_elem? s.homes j) (g.toggle_of r)
+      (answer_bit g.head r) (answer_bit g.plan r) r) l.1 ok.says in
+      let bit : answer_bit plan' r ≡ g.toggle_of r = omega (
         arith,
-        turned_same p.served r,
-        ap (λ (n : ℕ). bit_at n r) all.served,
+        turned_same p.plan r,
+        ap (λ (n : ℕ). answer_bit n r) all.plan,
         ok.small,
-        says.1,
-        bit_at-lt g.served r,
+        says.2,
+        bit_at-lt g.plan (r + 1),
       ) in
       let once : times r (y ∷ ys) ≡ 1 = ap (times r) (sym listed) ∙ k.collected.each r
-      ∙ ap in_hand l.1 ∙ hand_as y.add y.before in
+      ∙ ap in_hand l.1 in
       let none : times r ys ≡ 0 = omega (
         arith,
         once,
         times_cons r y ys,
         ap one_if (same_number r r refl),
       ) in
-      let a : RequestState = laid_as y.add y.before in (
-        keeping t (serving p ys served' ∷ []),
+      let a : RequestState = SentBack y.add in (
+        keeping t (serving p ys plan' ∷ []),
         act_gives,
         tt,
-        serves_kept setup s k id t p r a ys served' 0 homes holds at (record {
+        serves_kept setup s k id t p r a ys plan' 0 homes holds at (record {
           deep = length-set s.homes j (maybe.some x);
           lock_slot_same = set_else s.homes j 0 (maybe.some x) (λ z. omega (arith, z));
           sides = λ c side less. set_else s.homes j (side_slot c side) (maybe.some x)
               (λ z. omega (arith, z, less));
           slots = λ c isnt. set_else s.homes j (request_slot c) (maybe.some x)
               (λ z. isnt (omega (arith, z)));
-          here = lay_here g.history (get_elem? homes j) (g.toggle_of r)
-              (bit_at (slice_index s.words served_word) r) (bit_at g.served r) (bit_at served' r) r
-              y.add y.before back (subst (λ (z : Setup). LaidFor z y.add y.before x) all.same laid)
-              bit says.0;
-          bits = λ c isnt. turned_else p.served r c isnt ∙ ap (λ (n : ℕ). bit_at n c) all.served;
-          same_made = same_made' y.add y.before ∙ sym (ap made_of l.1);
-          same_asks = same_asks' y.add y.before ∙ sym (ap add_of l.1);
-          same_fetched = same_fetched' y.add y.before ∙ sym (ap fetched_of l.1);
-          same_toggle = λ n. same_toggle' n y.add y.before ∙ sym (ap (toggle_seen n) l.1);
+          here = ((x, back, laid), bit);
+          bits = λ c isnt. turned_else p.plan r c isnt
+              ∙ ap (λ (n : ℕ). answer_bit n c) all.plan;
+          side = turned_side p.plan r ∙ ap active_side all.plan;
+          same_made = sym (ap made_of l.1);
+          same_asks = sym (ap add_of l.1);
+          same_fetched = sym (ap fetched_of l.1);
+          same_toggle = λ n. sym (ap (toggle_seen n) l.1);
           collected = record {
             listed = λ i z e. let m = k.collected.listed (suc i) z
                 (ap (λ (xs : List Collected). get_elem? xs (suc i)) listed ∙ e) in (
@@ -307,7 +234,7 @@ module _ (setup : Setup) (slots : ℕ) (st : Step Slot) (id : ℕ) (t : Setup) (
                 );
             each = λ c. dite (ℕ_discrete c r)
                 (λ z. subst (λ (w : ℕ). times w ys ≡ in_hand (put g.request_of r a w)) (sym z) (none
-                ∙ sym (ap in_hand (put_here g.request_of r a) ∙ home_now y.add y.before)))
+                ∙ sym (ap in_hand (put_here g.request_of r a))))
                 (λ z. omega (arith, times_cons c y ys, ap one_if (ne_eqb r c (λ q. z (sym q))))
                 ∙ ap (times c) (sym listed) ∙ k.collected.each c
                 ∙ sym (ap in_hand (put_else g.request_of r a c z)));
@@ -315,7 +242,7 @@ module _ (setup : Setup) (slots : ℕ) (st : Step Slot) (id : ℕ) (t : Setup) (
         }),
         (λ i. (
           keeping t (serving p (other_requests (sym has i))
-              (turned_bit p.served (last_seat (sym has i))) ∷ []),
+              (turned_answer p.plan (last_seat (sym has i))) ∷ []),
           hand,
         )),
       )

@@ -1,6 +1,6 @@
 -- The calls of a writer fit together: what one leaves is what the next one asks for.
-use Rattle.std.proofs.Common.{◌≡◌, ◌∙◌, refl, sym, ap, subst, true, ℕ, List, [], ◌∷◌, ◌++◌}
-use Rattle.std.specs.Prelude.{Option, None}
+use Rattle.std.proofs.Common.{◌≡◌, ◌∙◌, refl, sym, ap, subst, ℕ, List, ◌∷◌, ◌++◌}
+use Rattle.std.specs.Prelude.{Option}
 use Rattle.atomic_table.specs.Table.{rest}
 use Rattle.tsc_left_right.specs.declared.table.UnappliedAdd.{UnappliedAdd}
 use Rattle.tsc_left_right.specs.declared.table.Slot.{Slot}
@@ -8,12 +8,11 @@ use Rattle.tsc_left_right.specs.declared.table.Slot.TheVariants.{Empty}
 use Rattle.tsc_left_right.specs.declared.table.SeatState.{SeatState}
 use Rattle.tsc_left_right.specs.declared.table.Collected.{Collected}
 use Rattle.tsc_left_right.specs.declared.table.Knowledge.{Knowledge}
-use Rattle.tsc_left_right.specs.Rule.{request_slot}
-use Rattle.tsc_left_right.specs.Steps.{At, state_in, with_state, with_own}
+use Rattle.tsc_left_right.specs.Rule.{request_slot, standby_side, HasRequest}
+use Rattle.tsc_left_right.specs.Steps.{At, state_in, with_state, Filled, Anything}
 use Rattle.tsc_left_right.specs.RequestSteps.{serving, put_back_by, other_requests}
-use Rattle.tsc_left_right.specs.Participating.{IsWriting, slots_of, cleared_in, published_in}
-use Rattle.tsc_left_right.specs.Requesting.{IsWriter, IsCollected, LaidFor, MayPutBack, IsPutBack}
-use Rattle.tsc_left_right.proofs.HandsTurned.{slots_made}
+use Rattle.tsc_left_right.specs.Participating.{IsWriting, slots_of, cleared_in, told_in}
+use Rattle.tsc_left_right.specs.Requesting.{IsWriter, IsCollected, MayPutBack, IsPutBack}
 
 -- a writer may collect
 pub is_writer : (v : Knowledge) (me : At) (cleared : ℕ) (watched : Option ℕ)
@@ -29,16 +28,16 @@ pub collected_writing : (me me' : At) (cleared seat : ℕ) (watched : Option ℕ
     → IsWriting me.0 me cleared watched → IsCollected me me' seat add
     → IsWriting me'.0 me' cleared watched
 collected_writing me me' cleared seat watched add h c =
-    let one : Collected = record { seat = seat; add = add; before = None } in
+    let one : Collected = record { seat = seat; add = add } in
     let p : SeatState = state_in me.0 in
-    let w : Knowledge = with_state me.0 (serving p (one ∷ p.collected) p.served) in
+    let w : Knowledge = with_state me.0 (serving p (one ∷ p.collected) p.plan) in
     let is : me' ≡ (
       cleared_in w cleared watched,
       slots_of (one ∷ p.collected) ++ (0, Empty) ∷ h.slots,
     ) =
     c.after ∙ (λ i. (
       with_state (h.is i).0
-          (serving (state_in (h.is i).0) (one ∷ p.collected) p.served),
+          (serving (state_in (h.is i).0) (one ∷ p.collected) p.plan),
       (request_slot seat, Empty) ∷ (h.is i).1,
     )) in
     subst (λ (m : At). IsWriting m.0 m cleared watched) (sym is) (record {
@@ -49,27 +48,30 @@ collected_writing me me' cleared seat watched add h c =
       unpinned = h.unpinned;
     })
 
--- It still writes once it has published, and has then cleared no seat.
-pub published_writing : (v : Knowledge) (me' : At) (own : Option UnappliedAdd)
-    → (state_in v).holds ≡ true → (state_in v).stage ≡ 0
-    → me' ≡ (published_in v own, slots_of (state_in v).collected ++ (0, Empty) ∷ [])
-    → IsWriting me'.0 me' 0 None
-published_writing v me' own holds unpinned is =
-    let p : SeatState = state_in v in
-    let same = slots_made (with_own p own) p.collected in
-    subst (λ (m : At). IsWriting m.0 m 0 None)
-    (sym (is ∙ (λ i. (published_in v own, sym same i ++ (0, Empty) ∷ [])))) (record {
-      slots = [];
+-- It still writes once it has told what came back, where that leaves the side of the active copy.
+pub told_writing : (me me' : At) (cleared : ℕ) (watched : Option ℕ)
+    → IsWriting me.0 me cleared watched
+    → standby_side (state_in me.0).plan ≡ standby_side (state_in me.0).head
+    → me' ≡ (told_in me.0, me.1) → IsWriting me'.0 me' cleared watched
+told_writing me me' cleared watched h same is =
+    let w : Knowledge = told_in me.0 in
+    let now : me' ≡ (
+      cleared_in w cleared watched,
+      slots_of (state_in me.0).collected ++ (0, Empty) ∷ h.slots,
+    ) =
+    is ∙ (λ i. (told_in (h.is i).0, (h.is i).1)) in
+    subst (λ (m : At). IsWriting m.0 m cleared watched) (sym now) (record {
+      slots = h.slots;
       is = refl;
-      filled = refl;
-      holds = holds;
-      unpinned = unpinned;
+      filled = subst (λ (n : ℕ). Filled Anything n 0 h.slots cleared) (sym same) h.filled;
+      holds = h.holds;
+      unpinned = h.unpinned;
     })
 
 -- The slot of the request that it collected last is first in its hand.
 pub may_put_back : (me : At) (cleared : ℕ) (watched : Option ℕ) (first : Collected)
     (others : List Collected) (x : Slot) → IsWriting me.0 me cleared watched
-    → (state_in me.0).collected ≡ first ∷ others → LaidFor me.0.setup first.add first.before x
+    → (state_in me.0).collected ≡ first ∷ others → HasRequest first.add x
     → MayPutBack me first.seat x
 may_put_back me cleared watched first others x h is laid =
     let hand : me.1 ≡ (request_slot first.seat, Empty) ∷ slots_of others ++ (0, Empty) ∷ h.slots =
@@ -86,11 +88,11 @@ may_put_back me cleared watched first others x h is laid =
     }
 
 -- It still writes once it has laid that slot back.
-pub put_back_writing : (me me' : At) (cleared seat told : ℕ) (watched : Option ℕ)
+pub put_back_writing : (me me' : At) (cleared seat plan : ℕ) (watched : Option ℕ)
     (first : Collected) (others : List Collected) → IsWriting me.0 me cleared watched
-    → (state_in me.0).collected ≡ first ∷ others → IsPutBack me me' seat told
+    → (state_in me.0).collected ≡ first ∷ others → IsPutBack me me' seat plan
     → IsWriting me'.0 me' cleared watched
-put_back_writing me me' cleared seat told watched first others h is back =
+put_back_writing me me' cleared seat plan watched first others h is back =
     let p : SeatState = state_in me.0 in
     let w : Knowledge = with_state me.0 (put_back_by p seat) in
     let hand : rest me.1 ≡ slots_of others ++ (0, Empty) ∷ h.slots =

@@ -194,7 +194,7 @@ home_at key s k id v at none long slots get x is =
       record {
         each = each_there key s k id v at long;
         history = k.g.history;
-        flips = k.g.flips;
+        head = k.g.head;
         legal = k.legal;
         is_after = here.2;
         fits = λ i p e. let f = (k.views id v at).states i p e in record {

@@ -160,13 +160,13 @@ what_first d [] = d
 what_first d (x ∷ xs) = x.1
 
 -- A seat at rest that was pinned, read how long the history is, and was unpinned.
-pub looked_length : (me me₁ me₂ : At) (flips number side slot length_ : ℕ) (x y : Slot)
-    → IsAtRest me → me₁.1 ≡ (side_slot number side, x) ∷ [] → SeesAll me.0 me₁.0 flips x
+pub looked_length : (me me₁ me₂ : At) (head number side slot length_ : ℕ) (x y : Slot)
+    → IsAtRest me → me₁.1 ≡ (side_slot number side, x) ∷ [] → SeesAll me.0 me₁.0 head x
     → me₁.1 ≡ (slot, y) ∷ rest me₁.1
     → HasHandle y (λ cache adds. length_ ≡ adds)
     → me₂ ≡ (with_state me₁.0 (staged (state_in me₁.0) 0), []) → (cache : CacheView)
     × HasLooked me.0 me₂ length_ cache
-looked_length me me₁ me₂ flips number side slot length_ x y rested hand sees out has left =
+looked_length me me₁ me₂ head number side slot length_ x y rested hand sees out has left =
     let same : x ≡ y = ap (what_first x) (sym hand ∙ out) in
     by_slot y (subst (Shows me.0.setup sees.history) same sees.shows) has
   where

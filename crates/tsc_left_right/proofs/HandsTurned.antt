@@ -2,12 +2,9 @@
 use Rattle.std.proofs.Common.{◌≡◌, ◌∙◌, refl, sym, ap, ℕ, zero, suc, ◌+◌, List, [], ◌∷◌, ◌++◌}
 use Rattle.std.proofs.Common.{length, append_assoc, append-nil, arith}
 use Rattle.atomic_table.specs.Table.{turned}
-use Rattle.tsc_left_right.specs.declared.table.Slot.TheVariants.{Writer}
 use Rattle.tsc_left_right.specs.declared.table.Collected.{Collected}
 use Rattle.tsc_left_right.specs.declared.table.Knowledge.{Knowledge}
-use Rattle.tsc_left_right.specs.Rule.{LaidState}
-use Rattle.tsc_cache.specs.History.{History}
-use Rattle.tsc_left_right.specs.Steps.{At, own_in, own_of, behind_handles, all_made}
+use Rattle.tsc_left_right.specs.Steps.{At}
 use Rattle.tsc_left_right.specs.Participating.{slots_of}
 use Rattle.tsc_left_right.specs.Writing.{rotated}
 use Rattle.tsc_left_right.proofs.Hands.{Hand}
@@ -43,19 +40,3 @@ turned_all v hand me n count is all = is ∙ ap (λ (k : ℕ). (v, rotated k han
 pub slots_length : (xs : List Collected) → length (slots_of xs) ≡ length xs
 slots_length [] = refl
 slots_length (x ∷ xs) = ap suc (slots_length xs)
-
--- The slots are the same, whether their Adds are made or not.
-pub slots_made : (h : History) (xs : List Collected) → slots_of (all_made h xs) ≡ slots_of xs
-slots_made h [] = refl
-slots_made h (x ∷ xs) = λ i. slots_of (x ∷ []) ++ slots_made h xs i
-
--- No handle is among them and the writer's slot, which says what the writer's own Add is.
-pub no_handles : (xs : List Collected) (state : LaidState)
-    → behind_handles (slots_of xs ++ (0, Writer state) ∷ []) ≡ slots_of xs ++ (0, Writer state) ∷ []
-no_handles [] state = refl
-no_handles (x ∷ xs) state = refl
-
-pub own_is : (xs : List Collected) (state : LaidState)
-    → own_in (slots_of xs ++ (0, Writer state) ∷ []) ≡ own_of state.value
-own_is [] state = refl
-own_is (x ∷ xs) state = own_is xs state

@@ -2,7 +2,6 @@
 use Rattle.std.proofs.Common.{◌≡◌, ◌∙◌, refl, sym, ap, subst, ℕ, ◌+◌, ◌<◌, List, [], ◌∷◌}
 use Rattle.std.proofs.Common.{◌++◌, length, set, arith, slice_index, length-set}
 use Rattle.std.specs.Prelude.{Some}
-use Rattle.std.specs.Int.{bit_at}
 use mathlib.Core.Logic.{dite}
 use native.Mathlib.Decide.{ℕ_discrete, dec_le}
 use mathlib.Core.Option as maybe
@@ -23,10 +22,10 @@ use Rattle.tsc_left_right.specs.declared.table.SeatState.{SeatState}
 use Rattle.tsc_left_right.specs.declared.table.Knowledge.{Knowledge}
 use Rattle.tsc_left_right.specs.Rule.{keeping, LeftRightRule}
 use Rattle.tsc_left_right.specs.Rule.{StateFits, RequestState, Idle, Fetched, Posted}
-use Rattle.tsc_left_right.specs.Rule.{Taken, Made, Answered, SentBack, made_of, in_hand, add_of}
+use Rattle.tsc_left_right.specs.Rule.{Taken, Answered, SentBack, made_of, in_hand, add_of}
 use Rattle.tsc_left_right.specs.Rule.{fetched_of, toggle_seen, IsRequested, IsMadeAt}
 use Rattle.tsc_left_right.specs.Rule.{HasRequest, HasAnswer, entry_of, head_word}
-use Rattle.tsc_left_right.specs.Rule.{served_word, epoch_word, request_word, side_slot}
+use Rattle.tsc_left_right.specs.Rule.{epoch_word, request_word, side_slot, answer_bit}
 use Rattle.tsc_left_right.specs.Rule.{request_slot}
 use Rattle.tsc_left_right.specs.Steps.{with_state}
 use Rattle.tsc_left_right.specs.RequestSteps.{asks_none, hears, hearing}
@@ -82,18 +81,23 @@ module _ (setup : Setup) (slots : ℕ) (st : Step Slot) (id : ℕ) (t : Setup) (
 
   abbrev HearsAt : Board → Type 0
   HearsAt s = (w : Knowledge) × (a : Act Slot) × Valid s.homes hand a × LeftRightRule setup
-      (stepped s served_word (slice_index s.words served_word) id hand w a)
-      × hears st (v, hand) (slice_index s.words served_word) (w, carried_after hand a)
+      (stepped s head_word (slice_index s.words head_word) id hand w a)
+      × hears st (v, hand) (slice_index s.words head_word) (w, carried_after hand a)
+
+  -- what is found in HEAD
+  found_is : (s : Board) (k : LeftRightRule setup s)
+      → answer_bit (slice_index s.words head_word) p.number ≡ answer_bit k.g.head p.number
+  found_is s k = ap (λ (n : ℕ). answer_bit n p.number) k.head_is
 
   -- The seat has its slot in hand, and asks for nothing any more.
   taken_home : (s : Board) (k : LeftRightRule setup s) → get_elem? s.views id ≡ maybe.some v
-      → k.g.toggle_of p.number ≡ p.toggle → bit_at (slice_index s.words served_word) p.number
-      ≡ p.toggle → bit_at k.g.served p.number ≡ p.toggle → in_hand (k.g.request_of p.number) ≡ 0
+      → k.g.toggle_of p.number ≡ p.toggle → answer_bit k.g.head p.number
+      ≡ p.toggle → answer_bit k.g.plan p.number ≡ p.toggle → in_hand (k.g.request_of p.number) ≡ 0
       → (q : SeatState) → q.number ≡ p.number → q.holds ≡ p.holds
       → StateFits (requests_now k.g p.number Fetched (k.g.toggle_of p.number)) q
       → LeftRightRule setup
       (record {
-        words = set s.words served_word (slice_index s.words served_word);
+        words = set s.words head_word (slice_index s.words head_word);
         homes =
             set s.homes (request_slot p.number) maybe.none;
         views =
@@ -102,21 +106,20 @@ module _ (setup : Setup) (slots : ℕ) (st : Step Slot) (id : ℕ) (t : Setup) (
   taken_home s k at toggle_is told plan home q number holds fits =
       let n : ℕ = p.number in
       let j : ℕ = request_slot n in
-      let e : ℕ = slice_index s.words served_word in
-      let words : List ℕ = set s.words served_word e in
+      let e : ℕ = slice_index s.words head_word in
+      let words : List ℕ = set s.words head_word e in
       let homes : Homes = set s.homes j maybe.none in
       let low : n < setup.seats = low_number setup s k v id at 0 p refl in
       let ok = k.requests n low in
       let mine = only_fits setup k.g t p (k.views id v at) in
       let same : (i : ℕ) → slice_index words i ≡ slice_index s.words i =
-      λ i. ap (λ (ws : List ℕ). slice_index ws i) (set-get_or s.words served_word 0) in
+      λ i. ap (λ (ws : List ℕ). slice_index ws i) (set-get_or s.words head_word 0) in
       let here_toggle = put_here k.g.toggle_of n (k.g.toggle_of n) in
       requests_kept setup s k id t p q Fetched (k.g.toggle_of n) words homes at (record {
-        wide = length-set s.words served_word e;
+        wide = length-set s.words head_word e;
         deep = length-set s.homes j maybe.none;
         word_same = same 0;
         head_same = same head_word;
-        served_same = same served_word;
         lock_slot_same = set_else s.homes j 0 maybe.none (λ z. omega (arith, z));
         epochs = λ r. same (epoch_word r);
         sides = λ r side small. set_else s.homes j (side_slot r side) maybe.none
@@ -130,8 +133,7 @@ module _ (setup : Setup) (slots : ℕ) (st : Step Slot) (id : ℕ) (t : Setup) (
           toggle = same (request_word n) ∙ ok.toggle ∙ sym here_toggle;
           small = omega (arith, ok.small, here_toggle);
           says = rw (put_here k.g.request_of n Fetched, here_toggle) (
-            ap (λ (x : ℕ). bit_at x n)
-                (same served_word) ∙ told ∙ sym toggle_is,
+            told ∙ sym toggle_is,
             plan ∙ sym toggle_is,
           );
         };
@@ -144,8 +146,8 @@ module _ (setup : Setup) (slots : ℕ) (st : Step Slot) (id : ℕ) (t : Setup) (
 
   -- The Add was not made.
   hear_back : p.request ≡ Some add → (s : Board) (k : LeftRightRule setup s) → get_elem? s.views id
-      ≡ maybe.some v → bit_at (slice_index s.words served_word) p.number ≡ p.toggle
-      → (r : UnappliedAdd) → k.g.request_of p.number ≡ SentBack r → bit_at k.g.served p.number
+      ≡ maybe.some v → answer_bit k.g.head p.number ≡ p.toggle
+      → (r : UnappliedAdd) → k.g.request_of p.number ≡ SentBack r → answer_bit k.g.plan p.number
       ≡ p.toggle → (x : Slot) → get_elem? s.homes (request_slot p.number) ≡ maybe.some
       (maybe.some x) → HasRequest r x → HearsAt s
   hear_back request s k at told r is plan Empty home has = absurd has
@@ -173,14 +175,17 @@ module _ (setup : Setup) (slots : ℕ) (st : Step Slot) (id : ℕ) (t : Setup) (
           sees = mine.sees;
           holding = mine.holding;
         }),
-        ((λ not. absurd (not told)), (λ _. (Request b, refl, rw request (refl, has ∙ same)))),
+        (
+          (λ not. absurd (not (found_is s k ∙ told))),
+          (λ _. (Request b, refl, rw request (refl, has ∙ same))),
+        ),
       )
 
   -- The Add was made.
   hear_made : p.request ≡ Some add → (s : Board) (k : LeftRightRule setup s) → get_elem? s.views id
-      ≡ maybe.some v → bit_at (slice_index s.words served_word) p.number ≡ p.toggle
+      ≡ maybe.some v → answer_bit k.g.head p.number ≡ p.toggle
       → (b : History) (r : UnappliedAdd) → k.g.request_of p.number ≡ Answered b r
-      → bit_at k.g.served p.number ≡ p.toggle → IsMadeAt k.g.history p.number b r
+      → answer_bit k.g.plan p.number ≡ p.toggle → IsMadeAt k.g.history p.number b r
       → (x : Slot) → get_elem? s.homes (request_slot p.number) ≡ maybe.some (maybe.some x)
       → HasAnswer setup b r x → HearsAt s
   hear_made request s k at told b r is plan made Empty home has = absurd has
@@ -231,7 +236,7 @@ module _ (setup : Setup) (slots : ℕ) (st : Step Slot) (id : ℕ) (t : Setup) (
           holding = mine.holding;
         }),
         (
-          (λ not. absurd (not told)),
+          (λ not. absurd (not (found_is s k ∙ told))),
           (λ _. (
             Answer reply,
             refl,
@@ -259,10 +264,10 @@ module _ (setup : Setup) (slots : ℕ) (st : Step Slot) (id : ℕ) (t : Setup) (
       )
 
   hear_by : p.request ≡ Some add → (s : Board) (k : LeftRightRule setup s) → get_elem? s.views id
-      ≡ maybe.some v → bit_at (slice_index s.words served_word) p.number ≡ p.toggle
+      ≡ maybe.some v → answer_bit k.g.head p.number ≡ p.toggle
       → (a : RequestState) → k.g.request_of p.number ≡ a → IsRequested setup k.g.history
       (get_elem? s.homes (request_slot p.number)) p.toggle
-      (bit_at (slice_index s.words served_word) p.number) (bit_at k.g.served p.number) p.number
+      (answer_bit k.g.head p.number) (answer_bit k.g.plan p.number) p.number
       a → HearsAt s
   hear_by request s k at told Idle is says =
       absurd (none_is_no add (sym (ap add_of is)
@@ -272,8 +277,7 @@ module _ (setup : Setup) (slots : ℕ) (st : Step Slot) (id : ℕ) (t : Setup) (
       ∙ (only_fits setup k.g t p (k.views id v at)).at_request ∙ request))
   hear_by request s k at told (Posted r) is says = absurd (says.2 told)
   hear_by request s k at told (Taken r) is says = absurd (says.1 told)
-  hear_by request s k at told (Made b r) is says = absurd (says.1 told)
-  hear_by request s k at told (Answered b r) is says = hear_made request s k at told b r is says.2
+  hear_by request s k at told (Answered b r) is says = hear_made request s k at told b r is says.3
       says.1 says.0.0 says.0.1 says.0.2
   hear_by request s k at told (SentBack r) is says = hear_back request s k at told r is says.1
       says.0.0 says.0.1 says.0.2
@@ -281,13 +285,13 @@ module _ (setup : Setup) (slots : ℕ) (st : Step Slot) (id : ℕ) (t : Setup) (
   pub hear_allowed : p.request ≡ Some add → Allows (LeftRightRule setup) slots id (
     v,
     hand,
-  ) served_word (λ n. n) (hears st (v, hand))
+  ) head_word (λ n. n) (hears st (v, hand))
   hear_allowed request s k deep at small =
-      dite (ℕ_discrete (bit_at (slice_index s.words served_word) p.number) p.toggle)
+      dite (ℕ_discrete (answer_bit k.g.head p.number) p.toggle)
       (λ told. let low = low_number setup s k v id at 0 p refl in
       hear_by request s k at told (k.g.request_of p.number) refl
       (subst (λ (x : ℕ). IsRequested setup k.g.history (get_elem? s.homes (request_slot p.number)) x
-      (bit_at (slice_index s.words served_word) p.number) (bit_at k.g.served p.number) p.number
+      (answer_bit k.g.head p.number) (answer_bit k.g.plan p.number) p.number
       (k.g.request_of p.number)) (let mine = only_fits setup k.g t p (k.views id v at) in
       sym (toggle_known add (k.g.toggle_of p.number) (k.g.request_of p.number) (mine.at_request
       ∙ request)) ∙ mine.at_toggle) (k.requests p.number low).says))
@@ -295,6 +299,6 @@ module _ (setup : Setup) (slots : ℕ) (st : Step Slot) (id : ℕ) (t : Setup) (
         v,
         act_keeps,
         tt,
-        unmoved setup s k id v served_word at,
-        ((λ _. refl), (λ is. absurd (not is))),
+        unmoved setup s k id v head_word at,
+        ((λ _. refl), (λ is. absurd (not (sym (found_is s k) ∙ is)))),
       ))

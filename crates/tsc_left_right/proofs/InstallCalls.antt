@@ -61,8 +61,8 @@ pub record Installs (v : Knowledge) (me : At) (cache : CacheView) (adds seat sea
       Empty,
     ) ∷ done),
   )
-  pub left : Filled Anything (standby_side (state_in v).flips) seat todo seats
-  pub so_far : Filled (LaidAs all cache adds) (standby_side (state_in v).flips) 0 done seat
+  pub left : Filled Anything (standby_side (state_in v).head) seat todo seats
+  pub so_far : Filled (LaidAs all cache adds) (standby_side (state_in v).head) 0 done seat
   pub holds : (state_in v).holds ≡ true
   pub unpinned : (state_in v).stage ≡ 0
 
@@ -83,7 +83,7 @@ installs_none v me me' cache adds seats count h is turned_is = record {
 -- A handle is installed, and goes behind the others.
 pub installs_more : (v : Knowledge) (cache : CacheView) (me me₁ me₂ : At) (adds seat seats slot : ℕ)
     (all laid all' : Bool) (y : Slot) → Installs v me cache adds seat seats all
-    → seat < seats → slot ≡ side_slot seat (standby_side (state_in v).flips)
+    → seat < seats → slot ≡ side_slot seat (standby_side (state_in v).head)
     → LaidAs laid cache adds y → all' ≡ (all && laid)
     → me₁ ≡ (me.0, (slot, y) ∷ rest me.1) → me₂ ≡ (me₁.0, turned me₁.1)
     → Installs v me₂ cache adds (seat + 1) seats all'
@@ -91,7 +91,7 @@ installs_more v cache me me₁ me₂ adds seat seats slot all laid all' y h low 
     turned_is = by_todo h.todo h.is h.left
   where
     side : ℕ
-    side = standby_side (state_in v).flips
+    side = standby_side (state_in v).head
 
     requests : Hand
     requests = slots_of (state_in v).collected
@@ -130,7 +130,7 @@ installs_more v cache me me₁ me₂ adds seat seats slot all laid all' y h low 
 -- the first slot that is to come
 pub first_todo : (v : Knowledge) (cache : CacheView) (me : At) (adds seat seats slot : ℕ)
     (all : Bool) → Installs v me cache adds seat seats all
-    → seat < seats → slot ≡ side_slot seat (standby_side (state_in v).flips) → (y : Slot)
+    → seat < seats → slot ≡ side_slot seat (standby_side (state_in v).head) → (y : Slot)
     × (me.1 ≡ (slot, y) ∷ rest me.1)
 first_todo v cache me adds seat seats slot all h low at = by_todo h.todo h.is h.left
   where
@@ -138,7 +138,7 @@ first_todo v cache me adds seat seats slot all h low at = by_todo h.todo h.is h.
       cleared_in v seats None,
       todo ++ (slots_of (state_in v).collected ++ (0, Empty) ∷ h.done),
     )
-        → Filled Anything (standby_side (state_in v).flips) seat todo seats → (y : Slot)
+        → Filled Anything (standby_side (state_in v).head) seat todo seats → (y : Slot)
         × (me.1 ≡ (slot, y) ∷ rest me.1)
     by_todo [] is left = absurd (omega (arith, left, low))
     by_todo (x ∷ todo) is left =
@@ -155,14 +155,14 @@ installed_some v cache me adds seat seats all h high = by_todo h.todo h.is h.lef
       cleared_in v seats None,
       todo ++ (slots_of (state_in v).collected ++ (0, Empty) ∷ h.done),
     )
-        → Filled Anything (standby_side (state_in v).flips) seat todo seats
+        → Filled Anything (standby_side (state_in v).head) seat todo seats
         → IsWriting v me seats None
     by_todo [] is left = record {
       slots = h.done;
       is = is;
-      filled = filled_weaker (LaidAs all cache adds) (standby_side (state_in v).flips) Anything
+      filled = filled_weaker (LaidAs all cache adds) (standby_side (state_in v).head) Anything
           (λ x _. tt) 0 h.done seats (subst (λ (n : ℕ). Filled (LaidAs all cache adds)
-          (standby_side (state_in v).flips) 0 h.done n) left h.so_far);
+          (standby_side (state_in v).head) 0 h.done n) left h.so_far);
       holds = h.holds;
       unpinned = h.unpinned;
     }
@@ -170,7 +170,7 @@ installed_some v cache me adds seat seats all h high = by_todo h.todo h.is h.lef
         absurd (omega (
           arith,
           high,
-          filled_le Anything (standby_side (state_in v).flips) (suc seat)
+          filled_le Anything (standby_side (state_in v).head) (suc seat)
               todo seats left.2,
         ))
 
@@ -183,14 +183,14 @@ installed_all v cache me adds seat seats all h high is_all = by_todo h.todo h.is
       cleared_in v seats None,
       todo ++ (slots_of (state_in v).collected ++ (0, Empty) ∷ h.done),
     )
-        → Filled Anything (standby_side (state_in v).flips) seat todo seats
+        → Filled Anything (standby_side (state_in v).head) seat todo seats
         → HasInstalled v me cache adds seats
     by_todo [] is left = record {
       slots = h.done;
       is = is;
-      filled = subst (λ (n : ℕ). Filled (IsHandleOn cache adds) (standby_side (state_in v).flips) 0
+      filled = subst (λ (n : ℕ). Filled (IsHandleOn cache adds) (standby_side (state_in v).head) 0
           h.done n) left (subst (λ (b : Bool). Filled (LaidAs b cache adds)
-          (standby_side (state_in v).flips) 0 h.done seat) is_all h.so_far);
+          (standby_side (state_in v).head) 0 h.done seat) is_all h.so_far);
       holds = h.holds;
       unpinned = h.unpinned;
     }
@@ -198,7 +198,7 @@ installed_all v cache me adds seat seats all h high is_all = by_todo h.todo h.is
         absurd (omega (
           arith,
           high,
-          filled_le Anything (standby_side (state_in v).flips) (suc seat)
+          filled_le Anything (standby_side (state_in v).head) (suc seat)
               todo seats left.2,
         ))
 

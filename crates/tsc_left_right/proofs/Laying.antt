@@ -135,7 +135,7 @@ pub opens : (setup : Setup) (state : LaidState) (words : List ℕ) (slots : List
     (opening words slots (first_knowledge setup))
 opens setup state words slots blank first laid = subst (λ (ws : List ℕ). LeftRightRule setup
     (opening ws slots (first_knowledge setup))) (sym blank)
-    (opening_kept setup state slots first.is_after first.served (record {
+    (opening_kept setup state slots first.is_after (record {
       deep = laid.deep;
       writer = laid.writer;
       active = λ r low. let x = laid.active r low in (

@@ -3,6 +3,7 @@ pub mod Totals
 pub mod Updates
 pub mod Hands
 pub mod Batching
+pub mod Heads
 pub mod Moves
 pub mod Owning
 pub mod Publishing
@@ -20,6 +21,7 @@ pub mod Batches
 pub mod Seeing
 pub mod Calls
 pub mod HandsTurned
+pub mod Replying
 pub mod ClearCalls
 pub mod InstallCalls
 pub mod WriterCalls

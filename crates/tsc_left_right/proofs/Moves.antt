@@ -1,6 +1,6 @@
 -- A step of one participant keeps the rule.
 use Rattle.std.proofs.Common.{◌≡◌, ◌≢◌, ◌∙◌, inl, inr, refl, sym, ap, subst, true, false, ℕ, zero}
-use Rattle.std.proofs.Common.{suc, ◌+◌, ◌*◌, ◌<◌, ◌≤◌, List, [], ◌∷◌, length, set, arith}
+use Rattle.std.proofs.Common.{suc, ◌+◌, ◌<◌, ◌≤◌, List, [], ◌∷◌, length, set, arith}
 use Rattle.std.proofs.Common.{slice_index}
 use Rattle.std.specs.Prelude.{Option, Some, None, Bool, ◌==◌, nat_lt}
 use Rattle.std.specs.List.{sum_by}
@@ -18,6 +18,7 @@ use Rattle.tsc_left_right.specs.declared.table.Slot.TheVariants.{Writer}
 use Rattle.tsc_left_right.specs.declared.table.SeatState.{SeatState}
 use Rattle.tsc_left_right.specs.declared.table.Knowledge.{Knowledge}
 use Rattle.tsc_left_right.specs.Rule.{LaidState, keeping, one_if, SharedState, LeftRightRule}
+use Rattle.tsc_left_right.specs.Rule.{active_side}
 use Rattle.tsc_left_right.specs.Rule.{SeatFits, RequestFits, CollectedFits, KnowledgeFits}
 use Rattle.tsc_left_right.specs.Rule.{StateFits, IsAfter, states_of, holders, head_word}
 use Rattle.tsc_left_right.specs.Rule.{word_count, slot_count}
@@ -34,11 +35,11 @@ pub record Moved (setup : Setup) (s : Board) (k : LeftRightRule setup s) (id : �
   pub at : get_elem? s.views id ≡ maybe.some v
   pub legal : IsLegal setup.config setup.seats g.history
   pub limit : length g.history ≤ setup.limit
-  pub few : g.flips ≤ length g.history
   pub wide : length words ≡ word_count setup.seats
   pub deep : length homes ≡ slot_count setup.seats
   pub word_is : slice_index words 0 ≡ g.word
-  pub head_is : slice_index words head_word ≡ g.flips
+  pub head_is : slice_index words head_word ≡ g.head
+  pub side : active_side g.plan ≡ active_side g.head
   pub seats : (seat : ℕ) → seat < setup.seats → SeatFits setup g words homes seat
   pub requests : (seat : ℕ) → seat < setup.seats → RequestFits setup g words homes seat
   pub collected : CollectedFits setup.seats g.request_of g.collected
@@ -50,7 +51,7 @@ pub record Moved (setup : Setup) (s : Board) (k : LeftRightRule setup s) (id : �
   pub idle : g.word ≡ 0 → (g.cleared ≡ 0) × (g.collected ≡ [])
   pub free : g.word ≡ 0 → (state : LaidState)
       × (get_elem? homes 0 ≡ maybe.some (maybe.some (Writer state)))
-      × IsAfter setup g.history g.flips state.value × (state.value.served ≡ g.served)
+      × IsAfter setup g.history g.head state.value × (g.plan ≡ g.head)
 
 pub moved_kept : (setup : Setup) (s : Board) (k : LeftRightRule setup s) (id : ℕ) (v w : Knowledge)
     (g : SharedState) (words : List ℕ) (homes : Homes)
@@ -64,7 +65,7 @@ moved_kept setup s k id v w g words homes m = record {
   g = g;
   legal = m.legal;
   limit = m.limit;
-  few = m.few;
+  side = m.side;
   wide = m.wide;
   deep = m.deep;
   word_is = m.word_is;
@@ -188,8 +189,8 @@ pub record KnowsAll (setup : Setup) (s : Board) (k : LeftRightRule setup s) (id 
   pub cleared : p.cleared ≡ k.g.cleared
   pub watched : p.watched ≡ k.g.watched
   pub collected : p.collected ≡ k.g.collected
-  pub served : p.served ≡ k.g.served
-  pub flips : p.flips ≡ k.g.flips
+  pub head : p.head ≡ k.g.head
+  pub plan : p.plan ≡ k.g.plan
   pub low : p.number < setup.seats
   pub one : sum_by holders s.views ≡ 1
   pub nobody : (other : ℕ) (u : Knowledge) → other ≢ id → get_elem? s.views other ≡ maybe.some u
@@ -215,8 +216,8 @@ knows_all setup s k id t p holding at =
       cleared = knows.2;
       watched = knows.3;
       collected = knows.4;
-      served = knows.5;
-      flips = knows.6;
+      head = knows.5;
+      plan = knows.6;
       low = low_number setup s k v id at 0 p refl;
       one = total;
       nobody = λ other u apart e. omega (

@@ -1,8 +1,7 @@
 -- The rule holds when the table is made.
 use Rattle.std.proofs.Common.{◌≡◌, ◌≢◌, ◌⊎◌, ◌∙◌, inl, inr, refl, sym, ap, subst, Bool, true, false}
-use Rattle.std.proofs.Common.{ℕ, zero, suc, ◌+◌, ◌*◌, ◌%◌, ◌<◌, ◌≤◌, List, [], ◌∷◌, length, arith}
+use Rattle.std.proofs.Common.{ℕ, zero, suc, ◌+◌, ◌%◌, ◌<◌, ◌≤◌, List, [], ◌∷◌, length, arith}
 use Rattle.std.specs.Prelude.{◌==◌, nat_lt, None, replicate, slice_index}
-use Rattle.std.specs.Int.{bit_at}
 use Rattle.std.specs.List.{sum_by}
 use mathlib.Core.Option as maybe
 use mathlib.Core.Option.{some-injective, some-ne-none}
@@ -18,7 +17,7 @@ use Rattle.tsc_left_right.specs.declared.table.SeatState.{SeatState}
 use Rattle.tsc_left_right.specs.declared.table.Knowledge.{Knowledge}
 use Rattle.atomic_table.proofs.Lists.{at_map}
 use Rattle.tsc_left_right.specs.Rule.{LaidState, at_rest, IsAfter, Shows, epoch_word, side_slot}
-use Rattle.tsc_left_right.specs.Rule.{request_slot, served_word, one_if, SharedState, Idle}
+use Rattle.tsc_left_right.specs.Rule.{request_slot, one_if, SharedState, Idle}
 use Rattle.tsc_left_right.specs.Rule.{LeftRightRule, KnowledgeFits, StateFits, states_of, holders}
 use Rattle.tsc_left_right.specs.Rule.{first_knowledge, fresh_states, request_word}
 use Rattle.tsc_left_right.specs.Rule.{word_count, slot_count}
@@ -121,7 +120,8 @@ pub record IsOpening (setup : Setup) (state : LaidState) (slots : List Slot) : T
 first_shared : SharedState
 first_shared = record {
   history = [];
-  flips = 0;
+  head = 0;
+  plan = 0;
   word = 0;
   stage_of = λ _. 0;
   toggle_of = λ _. 0;
@@ -129,21 +129,20 @@ first_shared = record {
   cleared = 0;
   watched = None;
   collected = [];
-  served = 0;
 }
 
 pub opening_kept : (setup : Setup) (state : LaidState) (slots : List Slot)
-    → IsAfter setup [] 0 state.value → state.value.served ≡ 0 → IsOpening setup state slots
+    → IsAfter setup [] 0 state.value → IsOpening setup state slots
     → LeftRightRule setup (opening (replicate (word_count setup.seats) 0) slots
     (first_knowledge setup))
 unfolding first_shared
-opening_kept setup state slots after served laid =
+opening_kept setup state slots after laid =
     let blank : (i : ℕ) → slice_index (replicate (word_count setup.seats) 0) i ≡ 0 =
     blank_at (word_count setup.seats) in record {
       g = first_shared;
       legal = legal_empty setup.config setup.seats;
       limit = omega arith;
-      few = omega arith;
+      side = refl;
       wide = length-replicate (word_count setup.seats) 0;
       deep = length-map slots (λ (x : Slot). maybe.some x) ∙ laid.deep;
       word_is = blank 0;
@@ -161,9 +160,8 @@ opening_kept setup state slots after served laid =
         small = omega arith;
         says = (
           (x.0, at_map maybe.some slots (request_slot r) x.0 x.1),
-          ap (λ (n : ℕ). bit_at n r)
-              (blank served_word) ∙ bit_at-zero r,
-          bit_at-zero r,
+          bit_at-zero (r + 1),
+          bit_at-zero (r + 1),
         );
       };
       collected = record { listed = λ i x e. absurd (some-ne-none x (sym e)); each = λ _. refl };
@@ -179,7 +177,7 @@ opening_kept setup state slots after served laid =
         nobody_fresh 0 setup.seats,
       );
       idle = λ _. (refl, refl);
-      free = λ _. (state, at_map maybe.some slots 0 (Writer state) laid.writer, after, served);
+      free = λ _. (state, at_map maybe.some slots 0 (Writer state) laid.writer, after, refl);
     }
   where
     at : (id : ℕ) (v : Knowledge) → get_elem? (first_knowledge setup ∷ []) id ≡ maybe.some v

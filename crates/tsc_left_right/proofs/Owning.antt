@@ -10,7 +10,7 @@ use Rattle.tsc_left_right.specs.declared.table.Slot.{Slot}
 use Rattle.tsc_left_right.specs.declared.table.SeatState.{SeatState}
 use Rattle.tsc_left_right.specs.Rule.{SharedState, StateFits}
 use Rattle.tsc_left_right.specs.Rule.{RequestState, Idle, Fetched, Posted}
-use Rattle.tsc_left_right.specs.Rule.{Taken, Made, Answered, SentBack, made_of, in_hand, add_of}
+use Rattle.tsc_left_right.specs.Rule.{Taken, Answered, SentBack, made_of, in_hand, add_of}
 use Rattle.tsc_left_right.specs.Rule.{IsRequested}
 use Rattle.tsc_left_right.specs.Rule.{entry_of}
 use Rattle.tsc_left_right.specs.Steps.{with_own, seen_own, count_own}
@@ -29,7 +29,6 @@ quiet_none Idle none = (refl, refl)
 quiet_none Fetched none = (refl, refl)
 quiet_none (Posted p) none = absurd (none_is_no p (sym none))
 quiet_none (Taken p) none = absurd (none_is_no p (sym none))
-quiet_none (Made b p) none = absurd (none_is_no p (sym none))
 quiet_none (Answered b p) none = absurd (none_is_no p (sym none))
 quiet_none (SentBack p) none = absurd (none_is_no p (sym none))
 
@@ -42,8 +41,6 @@ quiet_says setup h h' home toggle told plan r Fetched none says = says
 quiet_says setup h h' home toggle told plan r (Posted p) none says =
     absurd (none_is_no p (sym none))
 quiet_says setup h h' home toggle told plan r (Taken p) none says = absurd (none_is_no p (sym none))
-quiet_says setup h h' home toggle told plan r (Made b p) none says =
-    absurd (none_is_no p (sym none))
 quiet_says setup h h' home toggle told plan r (Answered b p) none says =
     absurd (none_is_no p (sym none))
 quiet_says setup h h' home toggle told plan r (SentBack p) none says =

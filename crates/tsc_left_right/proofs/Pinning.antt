@@ -19,7 +19,7 @@ use Rattle.tsc_left_right.specs.declared.table.Slot.{Slot}
 use Rattle.tsc_left_right.specs.declared.table.SeatState.{SeatState}
 use Rattle.tsc_left_right.specs.declared.table.Knowledge.{Knowledge}
 use Rattle.tsc_left_right.specs.Rule.{keeping, one_if, SharedState, LeftRightRule, SeatFits, Shows}
-use Rattle.tsc_left_right.specs.Rule.{IsHome, StateFits, states_of, head_word, served_word}
+use Rattle.tsc_left_right.specs.Rule.{IsHome, StateFits, states_of, head_word}
 use Rattle.tsc_left_right.specs.Rule.{epoch_word, request_word, side_slot, request_slot}
 use Rattle.tsc_left_right.specs.Rule.{active_side, standby_side}
 use Rattle.tsc_left_right.specs.Steps.{staged, pins, reads_head, unpins}
@@ -32,7 +32,7 @@ use Rattle.tsc_left_right.proofs.Moves.{no_other, same_number}
 abbrev pub stage_now : SharedState → ℕ → ℕ → SharedState
 stage_now g n stage = record {
   history = g.history;
-  flips = g.flips;
+  head = g.head;
   word = g.word;
   stage_of =
       put g.stage_of n stage;
@@ -41,7 +41,7 @@ stage_now g n stage = record {
   cleared = g.cleared;
   watched = g.watched;
   collected = g.collected;
-  served = g.served;
+  plan = g.plan;
 }
 
 -- A seat goes to another stage. Its own epoch and side slots alone change.
@@ -51,7 +51,6 @@ pub record Stepped (setup : Setup) (s : Board) (k : LeftRightRule setup s) (p q 
   pub deep : length homes ≡ length s.homes
   pub word_same : slice_index words 0 ≡ slice_index s.words 0
   pub head_same : slice_index words head_word ≡ slice_index s.words head_word
-  pub served_same : slice_index words served_word ≡ slice_index s.words served_word
   pub lock_slot_same : get_elem? homes 0 ≡ get_elem? s.homes 0
   pub requests : (r : ℕ) → (slice_index words (request_word r) ≡ slice_index s.words
       (request_word r)) × (get_elem? homes (request_slot r) ≡ get_elem? s.homes (request_slot r))
@@ -84,7 +83,7 @@ stage_kept setup s k id t p q stage words homes at m =
       at = at;
       legal = k.legal;
       limit = k.limit;
-      few = k.few;
+      side = k.side;
       wide = m.wide ∙ k.wide;
       deep = m.deep ∙ k.deep;
       word_is = m.word_same ∙ k.word_is;
@@ -96,7 +95,7 @@ stage_kept setup s k id t p q stage words homes at m =
       requests = λ r low. let ok = k.requests r low in let o = m.requests r in record {
         toggle = o.0 ∙ ok.toggle;
         small = ok.small;
-        says = rw (o.1, m.served_same) ok.says;
+        says = rw o.1 ok.says;
       };
       collected = k.collected;
       fits = of_one t q ((k.views id v at).settled refl) m.fits;
@@ -152,7 +151,6 @@ module _ (setup : Setup) (slots : ℕ) (st : Step Slot) (id : ℕ) (t : Setup) (
           deep = refl;
           word_same = get_or-set_other s.words i 0 y 0 (λ z. omega (arith, z));
           head_same = get_or-set_other s.words i head_word y 0 (λ z. omega (arith, z));
-          served_same = get_or-set_other s.words i served_word y 0 (λ z. omega (arith, z));
           lock_slot_same = refl;
           requests = λ r. (
             get_or-set_other s.words i (request_word r) y 0 (λ z. omega (arith, z)),
@@ -226,7 +224,6 @@ module _ (setup : Setup) (slots : ℕ) (st : Step Slot) (id : ℕ) (t : Setup) (
           deep = length-set s.homes j maybe.none;
           word_same = same 0;
           head_same = same head_word;
-          served_same = same served_word;
           lock_slot_same = set_else s.homes j 0 maybe.none (λ z. omega (arith, z));
           requests = λ r. (
             same (request_word r),
@@ -245,7 +242,7 @@ module _ (setup : Setup) (slots : ℕ) (st : Step Slot) (id : ℕ) (t : Setup) (
             active = λ z. absurd (z (omega (arith, stage, head)));
             standby = λ c _. let y = ok.standby c (λ z. omega (arith, z, is)) in (
               y.0,
-              set_else s.homes j (side_slot n (standby_side g.flips)) maybe.none
+              set_else s.homes j (side_slot n (standby_side g.head)) maybe.none
                   (λ z. omega (arith, z, head)) ∙ y.1,
             );
             left = λ _ z. omega (arith, z, stage, head);
@@ -322,7 +319,6 @@ module _ (setup : Setup) (slots : ℕ) (st : Step Slot) (id : ℕ) (t : Setup) (
             deep = length-set s.homes j (maybe.some x);
             word_same = get_or-set_other s.words i 0 y 0 (λ z. omega (arith, z));
             head_same = get_or-set_other s.words i head_word y 0 (λ z. omega (arith, z));
-            served_same = get_or-set_other s.words i served_word y 0 (λ z. omega (arith, z));
             lock_slot_same = set_else s.homes j 0 (maybe.some x) (λ z. omega (arith, z));
             requests = λ r. (
               get_or-set_other s.words i (request_word r) y 0
@@ -340,20 +336,20 @@ module _ (setup : Setup) (slots : ℕ) (st : Step Slot) (id : ℕ) (t : Setup) (
               unpinned = λ _. ap (λ (b : ℕ). b % 2) now ∙ (let b : y % 2 ≡ 0 = omega (arith, odd) in
                   b);
               pinned = λ z. absurd (omega (arith, z, stage));
-              active = λ _. dite (ℕ_discrete (active_side g.flips) side)
+              active = λ _. dite (ℕ_discrete (active_side g.head) side)
                   (λ z. (
                     x,
-                    back (active_side g.flips) z,
+                    back (active_side g.head) z,
                     subst (λ (u : Setup). Shows u h x) same
                         (subst (λ (c : History). Shows t c x)
                         (mine.sees (has ∙ ap (λ (b : ℕ). b + 2) (sym z))) laid),
                   ))
                   (λ z. let u = ok.active (λ d. z (omega (arith, d, is))) in
-                  (u.0, beside (active_side g.flips) z ∙ u.1, u.2));
-              standby = λ c _. dite (ℕ_discrete (standby_side g.flips) side)
-                  (λ z. (x, back (standby_side g.flips) z))
+                  (u.0, beside (active_side g.head) z ∙ u.1, u.2));
+              standby = λ c _. dite (ℕ_discrete (standby_side g.head) side)
+                  (λ z. (x, back (standby_side g.head) z))
                   (λ z. let u = ok.standby c (λ d. z (omega (arith, d, is))) in
-                  (u.0, beside (standby_side g.flips) z ∙ u.1));
+                  (u.0, beside (standby_side g.head) z ∙ u.1));
               left = λ _ z. omega (arith, z, stage);
               late = λ _ _ _ z. absurd (omega (arith, z, stage));
             };

@@ -1,12 +1,15 @@
 -- The writer's own Add and all that it has collected come into the history by one step.
 use Rattle.std.proofs.Common.{◌≡◌, ◌≢◌, ◌∙◌, refl, sym, ap, subst, true, ℕ, suc, ◌+◌, ◌%◌, ◌<◌, ◌≤◌}
-use Rattle.std.proofs.Common.{List, [], ◌∷◌, ◌++◌, length, set, arith, slice_index, length-set}
-use Rattle.std.proofs.Common.{get_or-set_other, get_or-set_same}
+use Rattle.std.proofs.Common.{List, [], ◌∷◌, ◌++◌, length, set, arith, length-set}
+use Rattle.std.proofs.Common.{get_or-set_other, get_or-set_same, append_assoc}
 use Rattle.std.specs.Prelude.{Option, None}
 use Rattle.std.specs.Arc.{arc_value}
-use Rattle.std.specs.Int.{bit_at}
+use Rattle.std.proofs.lemmas.Nat.Bits.{bit_at-lt}
 use Rattle.tsc_cache.specs.CacheView.{CacheView}
 use mathlib.Core.Option as maybe
+use mathlib.Core.Option.{some-ne-none}
+use mathlib.Core.Logic.{dite}
+use native.Mathlib.Decide.{ℕ_discrete}
 use lib.ListN.{get_elem?}
 use Rattle.atomic_table.specs.Table.{Step, Allows}
 use Rattle.tsc_cache.specs.History.{History, own_count, BeginsWith, IsLegal}
@@ -19,19 +22,23 @@ use Rattle.tsc_left_right.specs.declared.table.SeatState.{SeatState}
 use Rattle.tsc_left_right.specs.declared.table.Collected.{Collected}
 use Rattle.tsc_left_right.specs.declared.table.Knowledge.{Knowledge}
 use Rattle.tsc_left_right.specs.Rule.{keeping, LaidState, SharedState, LeftRightRule}
-use Rattle.tsc_left_right.specs.Rule.{IsAfter, IsState, Shows, RequestState, Idle, Fetched, Posted}
-use Rattle.tsc_left_right.specs.Rule.{Taken, Made, Answered, SentBack, made_of, in_hand, add_of}
-use Rattle.tsc_left_right.specs.Rule.{fetched_of, toggle_seen, collected_as, IsRequested, times}
-use Rattle.tsc_left_right.specs.Rule.{head_word, served_word, epoch_word, request_word}
-use Rattle.tsc_left_right.specs.Rule.{side_slot, request_slot, standby_side}
-use Rattle.tsc_left_right.specs.Steps.{publishes, own_of, own_in, behind_handles, with_state}
-use Rattle.tsc_left_right.specs.Steps.{flipped, with_own, seen_own, grown, all_made}
+use Rattle.tsc_left_right.specs.Rule.{IsAfter, IsState, Shows, RequestState}
+use Rattle.tsc_left_right.specs.Rule.{Taken, made_of, in_hand, add_of}
+use Rattle.tsc_left_right.specs.Rule.{Idle, Fetched, Posted, Answered, SentBack}
+use Rattle.tsc_left_right.specs.Rule.{fetched_of, toggle_seen, IsRequested, times}
+use Rattle.tsc_left_right.specs.Rule.{head_word, epoch_word, request_word}
+use Rattle.tsc_left_right.specs.Rule.{side_slot, request_slot, active_side, standby_side}
+use Rattle.tsc_left_right.specs.Rule.{answer_bit}
+use Rattle.tsc_left_right.specs.Steps.{publishes, own_of, own_in, behind_replies, with_state}
+use Rattle.tsc_left_right.specs.Steps.{flipped, with_own, seen_own, grown, flipped_head, published}
 use Rattle.tsc_left_right.specs.Steps.{Filled, IsHandleOn}
 use Rattle.tsc_left_right.specs.Participating.{MayOwn}
+use Rattle.tsc_left_right.specs.Writing.{Replied}
 use Rattle.tsc_cache.proofs.Beginnings.{begins_on}
 use Rattle.tsc_left_right.proofs.Batching.{requests_made, Ready, request_same, made_count}
-use Rattle.tsc_left_right.proofs.Batching.{request_says, grown_begins, grown_own}
-use Rattle.tsc_left_right.proofs.Batching.{grown_legal, made_listed, made_times}
+use Rattle.tsc_left_right.proofs.Batching.{grown_begins, grown_own, grown_legal, says_else}
+use Rattle.tsc_left_right.proofs.Batching.{hand_count, replied_apart, IsAnswered, is_answered}
+use Rattle.tsc_left_right.proofs.Heads.{published_side, published_else, published_once}
 use Rattle.tsc_left_right.proofs.Hands.{Homes, Hand, put_all, give_all, given_homes, given_none}
 use Rattle.tsc_left_right.proofs.Hands.{given_valid, put_length, put_apart, put_among}
 use Rattle.tsc_left_right.proofs.Moves.{Moved, moved_kept, of_one, low_number, not_its, not_holding}
@@ -39,16 +46,19 @@ use Rattle.tsc_left_right.proofs.Moves.{knows_all, busy_word, none_is_no}
 use Rattle.tsc_left_right.proofs.Owning.{Owned, owned}
 
 module _ (setup : Setup) (slots : ℕ) (st : Step Slot) (id : ℕ) (t : Setup) (p : SeatState)
-    (own : Option UnappliedAdd) (state : LaidState) (sides tail : Hand) where
+    (own : Option UnappliedAdd) (state : LaidState) (sides replies tail : Hand) where
   abbrev v : Knowledge
   v = keeping t (p ∷ [])
 
   abbrev hand : Hand
-  hand = sides ++ tail
+  hand = (sides ++ replies) ++ tail
 
-  -- the history once all is published
+  -- the history and HEAD once all is published
   abbrev h' : History
   h' = grown (with_own p own) p.collected
+
+  abbrev n' : ℕ
+  n' = flipped_head p.plan p.collected
 
   handle_shows : (x : Slot) → IsState setup h' (arc_value state.value.active) → state.value.length
       ≡ length h' → IsHandleOn (arc_value state.value.active) state.value.length x
@@ -66,38 +76,37 @@ module _ (setup : Setup) (slots : ℕ) (st : Step Slot) (id : ℕ) (t : Setup) (
   abbrev then_ : SharedState → SharedState
   then_ g = record {
     history = h';
-    flips = p.flips + 1;
+    head = n';
+    plan = n';
     word = g.word;
     stage_of = g.stage_of;
     toggle_of = g.toggle_of;
     request_of = requests_made g.request_of (with_own p own) p.collected;
     cleared = 0;
     watched = None;
-    collected = all_made (with_own p own) p.collected;
-    served =
-        g.served;
+    collected = [];
   }
 
   pub flip_kept : p.holds ≡ true → MayOwn t p own
-      → Filled (IsHandleOn (arc_value state.value.active) state.value.length) (standby_side p.flips)
-      0 sides p.cleared → p.cleared ≡ t.seats
-      → ((i : ℕ) (x : Collected) → get_elem? p.collected i ≡ maybe.some x → x.before ≡ None)
-      → length p.history < length h' → length h' ≤ t.limit → IsAfter t h' (p.flips + 1) state.value
-      → Allows (LeftRightRule setup) slots id (v, hand) head_word (λ _. state.value.flips)
+      → Filled (IsHandleOn (arc_value state.value.active) state.value.length) (standby_side p.head)
+      0 sides p.cleared → p.cleared ≡ t.seats → Replied t (with_own p own) p.collected replies
+      → length h' ≤ t.limit → IsAfter t h' n' state.value
+      → Allows (LeftRightRule setup) slots id (v, hand) head_word (λ _. state.value.head)
       (λ _ me'. me' ≡ (with_state v (flipped p own), tail))
-  flip_kept holds may filled full unmade more room after s k deep at small =
+  flip_kept holds may filled full told room after s k deep at small =
       let all = knows_all setup s k id t p holds at in
       let g : SharedState = k.g in
       let g' : SharedState = then_ g in
       let P : Slot → Type 0 = IsHandleOn (arc_value state.value.active) state.value.length in
-      let n : ℕ = state.value.flips in
+      let n : ℕ = state.value.head in
       let words : List ℕ = set s.words head_word n in
-      let homes : Homes = put_all s.homes sides in
+      let base : Homes = put_all s.homes sides in
+      let homes : Homes = put_all base replies in
       let w : Knowledge = with_state v (flipped p own) in
       let tall = k.deep in
       let wide = k.wide in
       let taken = all.taken in
-      let flips_is = all.flips in
+      let head_is = all.head in
       let one = all.one in
       let all_cleared : g.cleared ≡ setup.seats = omega (
         arith,
@@ -113,8 +122,8 @@ module _ (setup : Setup) (slots : ℕ) (st : Step Slot) (id : ℕ) (t : Setup) (
       λ r. ap (times r) all.collected ∙ k.collected.each r in
       let listed : (i : ℕ) (x : Collected) → get_elem? p.collected i ≡ maybe.some x
       → (x.seat < setup.seats) × (g.request_of x.seat ≡ Taken x.add)
-      = λ i x e. let was = k.collected.listed i x (ap (λ (xs : List Collected). get_elem? xs i)
-      (sym all.collected) ∙ e) in (was.0, was.1 ∙ ap (collected_as x.add) (unmade i x e)) in
+      = λ i x e. k.collected.listed i x (ap (λ (xs : List Collected). get_elem? xs i)
+      (sym all.collected) ∙ e) in
       let ready : Ready setup.seats g.request_of p.collected = record {
         listed = listed;
         once =
@@ -126,8 +135,14 @@ module _ (setup : Setup) (slots : ℕ) (st : Step Slot) (id : ℕ) (t : Setup) (
       let stands : IsState setup h' (arc_value state.value.active) =
       subst (λ (x : Setup). IsState x h' (arc_value state.value.active)) all.same
       after.stands in
-      let nowhere : (r : ℕ) → r < setup.seats → g.stage_of r ≢ standby_side p.flips + 2 = λ r low z.
-      (k.seats r low).left (omega (arith, low, all_cleared)) (omega (arith, z, flips_is)) in
+      let side_is : active_side n' ≡ standby_side p.head =
+      omega (arith, published_side p.plan p.collected, all.plan, k.side, head_is) in
+      let other_is : standby_side n' ≡ active_side g.head = omega (arith, side_is, head_is) in
+      let beside : (i : ℕ) → ((q : ℕ) → i ≢ request_slot q)
+      → get_elem? homes i ≡ get_elem? base i = λ i apart.
+      replied_apart t (with_own p own) p.collected replies base i told (λ q _. apart q) in
+      let nowhere : (r : ℕ) → r < setup.seats → g.stage_of r ≢ standby_side p.head + 2 = λ r low z.
+      (k.seats r low).left (omega (arith, low, all_cleared)) (omega (arith, z, head_is)) in
       let adds_same : (r : ℕ) → add_of (g'.request_of r) ≡ add_of (g.request_of r) =
       request_same add_of (λ _ _. refl) setup.seats g.request_of (with_own p own) p.collected
       ready in
@@ -137,44 +152,102 @@ module _ (setup : Setup) (slots : ℕ) (st : Step Slot) (id : ℕ) (t : Setup) (
       let toggle_same : (n r : ℕ) → toggle_seen n (g'.request_of r) ≡ toggle_seen n
       (g.request_of r) = λ n. request_same (toggle_seen n) (λ _ _. refl) setup.seats
       g.request_of (with_own p own) p.collected ready in
-      let hand_same : (r : ℕ) → in_hand (g'.request_of r) ≡ in_hand (g.request_of r) =
-      request_same in_hand (λ _ _. refl) setup.seats g.request_of (with_own p own) p.collected
-      ready in
       let counted : (r : ℕ) → made_of (g'.request_of r) ≡ made_of (g.request_of r) + times r
       p.collected = made_count setup.seats g.request_of (with_own p own) p.collected ready in
+      let none_left : (r : ℕ) → in_hand (g'.request_of r) ≡ 0 = λ r. omega (
+        arith,
+        hand_count setup.seats g.request_of (with_own p own) p.collected ready r,
+        once r,
+      ) in
+      let says_own : (r : ℕ) → r < setup.seats → IsRequested setup (with_own p own)
+      (get_elem? s.homes (request_slot r)) (g.toggle_of r) (answer_bit g.head r)
+      (answer_bit g.plan r) r (g.request_of r) = λ r low.
+      first.says (get_elem? s.homes (request_slot r)) (g.toggle_of r) (answer_bit g.head r)
+      (answer_bit g.plan r) r
+      (subst (λ (x : History). IsRequested setup x (get_elem? s.homes (request_slot r))
+      (g.toggle_of r) (answer_bit g.head r) (answer_bit g.plan r) r (g.request_of r))
+      (sym all.all) (k.requests r low).says) in
+      let plan_same : (r : ℕ) → answer_bit p.plan r ≡ answer_bit g.plan r =
+      λ r. ap (λ (c : ℕ). answer_bit c r) all.plan in
+      let says_apart : (r : ℕ) → r < setup.seats → times r p.collected ≡ 0
+      → IsRequested setup h' (get_elem? homes (request_slot r)) (g.toggle_of r) (answer_bit n' r)
+      (answer_bit n' r) r (g'.request_of r) = λ r low none.
+      let home_is : get_elem? homes (request_slot r) ≡ get_elem? s.homes (request_slot r) =
+      replied_apart t (with_own p own) p.collected replies base (request_slot r) told
+      (λ q many e. omega (
+        arith,
+        none,
+        many,
+        ap (λ (c : ℕ). times c p.collected) (same_slot r q e),
+      )) ∙ put_apart P (standby_side p.head) s.homes 0 sides p.cleared (request_slot r) filled
+      (λ q _ _ z. omega (arith, z)) in
+      let bit_is : answer_bit n' r ≡ answer_bit g.plan r =
+      published_else p.plan r p.collected none ∙ plan_same r in
+      subst (λ (x : maybe.Option (maybe.Option Slot)). IsRequested setup h' x (g.toggle_of r)
+      (answer_bit n' r) (answer_bit n' r) r (g'.request_of r)) (sym home_is)
+      (subst (λ (c : ℕ). IsRequested setup h' (get_elem? s.homes (request_slot r)) (g.toggle_of r)
+      c c r (g'.request_of r)) (sym bit_is)
+      (says_else setup g.request_of (with_own p own) p.collected
+      (get_elem? s.homes (request_slot r)) (g.toggle_of r) (answer_bit g.head r)
+      (answer_bit g.plan r) r none (says_own r low))) in
+      let says_among : (r : ℕ) → r < setup.seats → 0 < times r p.collected
+      → IsRequested setup h' (get_elem? homes (request_slot r)) (g.toggle_of r) (answer_bit n' r)
+      (answer_bit n' r) r (g'.request_of r) = λ r low some.
+      let a : IsAnswered setup g.request_of g'.request_of h' homes r =
+      is_answered setup g.request_of (with_own p own) p.collected replies base r ready
+      (subst (λ (x : Setup). Replied x (with_own p own) p.collected replies) all.same told) some
+      (omega (arith, put_length s.homes sides, tall, low)) in
+      let was = subst (IsRequested setup (with_own p own) (get_elem? s.homes (request_slot r))
+      (g.toggle_of r) (answer_bit g.head r) (answer_bit g.plan r) r) a.was (says_own r low) in
+      let bit : answer_bit n' r ≡ g.toggle_of r = omega (
+        arith,
+        published_once p.plan r p.collected (omega (arith, some, ready.once r)),
+        plan_same r,
+        was.2,
+        (k.requests r low).small,
+        bit_at-lt g.plan (r + 1),
+      ) in
+      subst (IsRequested setup h' (get_elem? homes (request_slot r)) (g.toggle_of r)
+      (answer_bit n' r) (answer_bit n' r) r) (sym a.is)
+      ((a.slot, a.home, a.reply), a.made, bit, bit) in
       let moved : Moved setup s k id v w g' words homes = record {
         at = at;
         legal = grown_legal setup (with_own p own) p.collected first.legal (λ i x e. let l =
             listed i x e in (
               l.0,
               (subst (IsRequested setup g.history (get_elem? s.homes (request_slot x.seat))
-                  (g.toggle_of x.seat) (bit_at (slice_index s.words served_word) x.seat)
-                  (bit_at g.served x.seat) x.seat) l.1 (k.requests x.seat l.0).says).0,
+                  (g.toggle_of x.seat) (answer_bit g.head x.seat) (answer_bit g.plan x.seat)
+                  x.seat) l.1 (k.requests x.seat l.0).says).0,
             ));
         limit = omega (arith, room, ap (λ (x : Setup). x.limit) all.same);
-        few = omega (arith, k.few, flips_is, more, ap length all.all);
+        side = refl;
         wide = length-set s.words head_word n ∙ k.wide;
-        deep = put_length s.homes sides ∙ k.deep;
+        deep = put_length base replies ∙ put_length s.homes sides ∙ k.deep;
         word_is = get_or-set_other s.words head_word 0 n 0 (λ z. omega (arith, z)) ∙ k.word_is;
-        head_is = get_or-set_same s.words head_word n 0 (omega (arith, wide)) ∙ after.flips_is;
+        head_is = get_or-set_same s.words head_word n 0 (omega (arith, wide)) ∙ after.head_is;
         seats = λ r low. let ok = k.seats r low in let epoch = get_or-set_other s.words head_word
             (epoch_word r) n 0 (λ z. omega (arith, z)) in record {
               unpinned = λ z. ap (λ (b : ℕ). b % 2) epoch ∙ ok.unpinned z;
               pinned = λ z. ap (λ (b : ℕ). b % 2) epoch ∙ ok.pinned z;
-              active = λ _. let x = put_among P (standby_side p.flips) s.homes 0 sides p.cleared r
+              active = λ _. let x = put_among P (standby_side p.head) s.homes 0 sides p.cleared r
                   filled (omega arith) (omega (arith, low, all_cleared, all.cleared))
-                  (omega (arith, tall, low)) in
-                  (x.0, x.1, handle_shows x.0 stands after.length x.2);
-              standby = λ _ not. let x = ok.active (λ z. not (omega (arith, z, flips_is))) in (
+                  (omega (arith, tall, low)) in (
+                    x.0,
+                    ap (λ (c : ℕ). get_elem? homes (side_slot r c)) side_is
+                        ∙ beside (side_slot r (standby_side p.head)) (λ q z. omega (arith, z))
+                        ∙ x.1,
+                    handle_shows x.0 stands after.length x.2,
+                  );
+              standby = λ _ not. let x = ok.active (λ z. not (omega (arith, z, other_is))) in (
                 x.0,
-                put_apart P (standby_side p.flips) s.homes 0 sides p.cleared
-                    (side_slot r (standby_side (p.flips + 1))) filled (λ q _ _ z. omega (
+                ap (λ (c : ℕ). get_elem? homes (side_slot r c)) other_is
+                    ∙ beside (side_slot r (active_side g.head)) (λ q z. omega (arith, z))
+                    ∙ put_apart P (standby_side p.head) s.homes 0 sides p.cleared
+                    (side_slot r (active_side g.head)) filled (λ q _ _ z. omega (
                       arith,
                       z,
-                      flips_is,
-                    ))
-                    ∙ ap (λ (c : ℕ). get_elem? s.homes (side_slot r c)) (omega (arith, flips_is))
-                    ∙ x.1,
+                      head_is,
+                    )) ∙ x.1,
               );
               left = λ z. absurd (omega (arith, z));
               late = λ b _ z. absurd (none_is_no b z);
@@ -183,28 +256,12 @@ module _ (setup : Setup) (slots : ℕ) (st : Step Slot) (id : ℕ) (t : Setup) (
           toggle = get_or-set_other s.words head_word (request_word r) n 0 (λ z. omega (arith, z))
               ∙ ok.toggle;
           small = ok.small;
-          says = subst (λ (x : maybe.Option (maybe.Option Slot)). IsRequested setup h' x
-              (g.toggle_of r) (bit_at (slice_index words served_word) r) (bit_at g.served r) r
-              (g'.request_of r))
-              (sym (put_apart P (standby_side p.flips) s.homes 0 sides p.cleared (request_slot r)
-              filled (λ q _ _ z. omega (arith, z))))
-              (subst (λ (x : ℕ). IsRequested setup h' (get_elem? s.homes (request_slot r))
-              (g.toggle_of r) (bit_at x r) (bit_at g.served r) r (g'.request_of r))
-              (sym (get_or-set_other s.words head_word served_word n 0 (λ z. omega (arith, z))))
-              (request_says setup g.request_of (with_own p own) p.collected ready
-              (get_elem? s.homes (request_slot r)) (g.toggle_of r)
-              (bit_at (slice_index s.words served_word) r) (bit_at g.served r) r
-              (first.says (get_elem? s.homes (request_slot r)) (g.toggle_of r)
-              (bit_at (slice_index s.words served_word) r) (bit_at g.served r) r
-              (subst (λ (x : History). IsRequested setup x (get_elem? s.homes (request_slot r))
-              (g.toggle_of r) (bit_at (slice_index s.words served_word) r) (bit_at g.served r) r
-              (g.request_of r)) (sym all.all) ok.says))));
+          says = dite (ℕ_discrete (times r p.collected) 0) (λ none. says_apart r low none)
+              (λ some. says_among r low (omega (arith, some)));
         };
         collected = record {
-          listed = made_listed setup.seats g.request_of (with_own p own)
-              p.collected ready;
-          each = λ r. made_times r (with_own p own) p.collected ∙ once r
-              ∙ sym (hand_same r);
+          listed = λ i x e. absurd (some-ne-none x (sym e));
+          each = λ r. sym (none_left r);
         };
         fits = of_one t (flipped p own) all.same (record {
           begins = begins_on h' (with_own p own) (seen_own p own)
@@ -220,8 +277,9 @@ module _ (setup : Setup) (slots : ℕ) (st : Step Slot) (id : ℕ) (t : Setup) (
           at_toggle = toggle_same (g.toggle_of p.number) p.number ∙ all.mine.at_toggle;
           at_request = adds_same p.number ∙ all.mine.at_request;
           at_fetched = fetched_same p.number ∙ all.mine.at_fetched;
-          sees = λ z. absurd (nowhere p.number all.low (all.mine.at_stage ∙ z));
-          holding = λ _. (refl, all.taken, refl, refl, refl, all.served, refl);
+          sees = λ z. absurd (nowhere p.number all.low (all.mine.at_stage ∙ z
+              ∙ ap (λ (c : ℕ). c + 2) side_is));
+          holding = λ _. (refl, all.taken, refl, refl, refl, refl, refl);
         });
         others = λ other u apart z. let was = k.views other u z in record {
           settled = was.settled;
@@ -242,8 +300,7 @@ module _ (setup : Setup) (slots : ℕ) (st : Step Slot) (id : ℕ) (t : Setup) (
                 at_request = adds_same q.number ∙ f.at_request;
                 at_fetched = fetched_same q.number ∙ f.at_fetched;
                 sees = λ y. absurd (nowhere q.number (low_number setup s k u other z i q e)
-                    (f.at_stage
-                    ∙ y));
+                    (f.at_stage ∙ y ∙ ap (λ (c : ℕ). c + 2) side_is));
                 holding = λ y. absurd (not_holding u i q (all.nobody other u apart z) e y);
               };
           front = begins_on h' g.history u.front begins was.front;
@@ -254,16 +311,16 @@ module _ (setup : Setup) (slots : ℕ) (st : Step Slot) (id : ℕ) (t : Setup) (
         free = λ z. absurd (omega (arith, z, taken));
       } in (
         w,
-        give_all sides,
-        given_valid s.homes sides tail,
+        give_all (sides ++ replies),
+        given_valid s.homes (sides ++ replies) tail,
         subst (λ (hs : Homes). LeftRightRule setup (record {
           words = words;
           homes = hs;
           views =
               set s.views id w;
-        })) (sym (given_homes s.homes sides tail))
+        })) (sym (given_homes s.homes (sides ++ replies) tail ∙ put_both s.homes sides replies))
             (moved_kept setup s k id v w g' words homes moved),
-        (λ i. (w, given_none sides tail i)),
+        (λ i. (w, given_none (sides ++ replies) tail i)),
       )
     where
       small_hand : (a : RequestState) → in_hand a ≤ 1
@@ -271,12 +328,41 @@ module _ (setup : Setup) (slots : ℕ) (st : Step Slot) (id : ℕ) (t : Setup) (
       small_hand Fetched = omega arith
       small_hand (Posted q) = omega arith
       small_hand (Taken q) = omega arith
-      small_hand (Made b q) = omega arith
       small_hand (Answered b q) = omega arith
       small_hand (SentBack q) = omega arith
 
+      same_slot : (a b : ℕ) → request_slot a ≡ request_slot b → a ≡ b
+      same_slot a b e = omega (arith, e)
+
+      put_both : (hs : Homes) (xs ys : Hand) → put_all hs (xs ++ ys) ≡ put_all (put_all hs xs) ys
+      put_both hs [] ys = refl
+      put_both hs (x ∷ xs) ys = put_both (set hs x.0 (maybe.some x.1)) xs ys
+
 -- what the hand says of the writer's own Add, and what stays in the hand
-pub own_there : (cache : CacheView) (adds side from to : ℕ) (xs tail : Hand)
+replies_own : (t : Setup) (h : History) (xs : List Collected) (replies : Hand) (state : LaidState)
+    → Replied t h xs replies → own_in (replies ++ (0, Writer state) ∷ []) ≡ own_of state.value
+replies_own t h [] [] state told = refl
+replies_own t h [] (s ∷ ss) state told = absurd told
+replies_own t h (x ∷ xs) [] state told = absurd told
+replies_own t h (x ∷ xs) ((k, Empty) ∷ ss) state told = absurd told.1
+replies_own t h (x ∷ xs) ((k, Writer d) ∷ ss) state told = absurd told.1
+replies_own t h (x ∷ xs) ((k, Handle c) ∷ ss) state told = absurd told.1
+replies_own t h (x ∷ xs) ((k, Request a) ∷ ss) state told = absurd told.1
+replies_own t h (x ∷ xs) ((k, Answer r) ∷ ss) state told = replies_own t h xs ss state told.2
+
+replies_left : (t : Setup) (h : History) (xs : List Collected) (replies : Hand) (state : LaidState)
+    → Replied t h xs replies
+    → behind_replies (replies ++ (0, Writer state) ∷ []) ≡ (0, Writer state) ∷ []
+replies_left t h [] [] state told = refl
+replies_left t h [] (s ∷ ss) state told = absurd told
+replies_left t h (x ∷ xs) [] state told = absurd told
+replies_left t h (x ∷ xs) ((k, Empty) ∷ ss) state told = absurd told.1
+replies_left t h (x ∷ xs) ((k, Writer d) ∷ ss) state told = absurd told.1
+replies_left t h (x ∷ xs) ((k, Handle c) ∷ ss) state told = absurd told.1
+replies_left t h (x ∷ xs) ((k, Request a) ∷ ss) state told = absurd told.1
+replies_left t h (x ∷ xs) ((k, Answer r) ∷ ss) state told = replies_left t h xs ss state told.2
+
+own_there : (cache : CacheView) (adds side from to : ℕ) (xs tail : Hand)
     → Filled (IsHandleOn cache adds) side from xs to → own_in (xs ++ tail) ≡ own_in tail
 own_there cache adds side from to [] tail f = refl
 own_there cache adds side from to ((k, Empty) ∷ xs) tail f = absurd f.1
@@ -286,44 +372,83 @@ own_there cache adds side from to ((k, Handle c) ∷ xs) tail f = own_there cach
 own_there cache adds side from to ((k, Request a) ∷ xs) tail f = absurd f.1
 own_there cache adds side from to ((k, Answer r) ∷ xs) tail f = absurd f.1
 
-pub left_there : (cache : CacheView) (adds side from to : ℕ) (xs tail : Hand)
-    → Filled (IsHandleOn cache adds) side from xs to → behind_handles tail ≡ tail
-    → behind_handles (xs ++ tail) ≡ tail
-left_there cache adds side from to [] tail f none = none
-left_there cache adds side from to ((k, Empty) ∷ xs) tail f none = absurd f.1
-left_there cache adds side from to ((k, Writer d) ∷ xs) tail f none = absurd f.1
-left_there cache adds side from to ((k, Handle c) ∷ xs) tail f none = left_there cache adds side
-    (suc from) to xs tail f.2 none
-left_there cache adds side from to ((k, Request a) ∷ xs) tail f none = absurd f.1
-left_there cache adds side from to ((k, Answer r) ∷ xs) tail f none = absurd f.1
+left_there : (cache : CacheView) (adds side from to : ℕ) (xs tail : Hand)
+    → Filled (IsHandleOn cache adds) side from xs to
+    → behind_replies (xs ++ tail) ≡ behind_replies tail
+left_there cache adds side from to [] tail f = refl
+left_there cache adds side from to ((k, Empty) ∷ xs) tail f = absurd f.1
+left_there cache adds side from to ((k, Writer d) ∷ xs) tail f = absurd f.1
+left_there cache adds side from to ((k, Handle c) ∷ xs) tail f = left_there cache adds side
+    (suc from) to xs tail f.2
+left_there cache adds side from to ((k, Request a) ∷ xs) tail f = absurd f.1
+left_there cache adds side from to ((k, Answer r) ∷ xs) tail f = absurd f.1
 
--- The step as it is called. In hand are the handles, and behind them the writer's slot and those of
--- the requests, in any order.
+-- what is in hand when the writer publishes: the handles, the replies, and its own slot
+abbrev pub publishing_hand : Hand → Hand → LaidState → Hand
+publishing_hand sides replies state = sides ++ (replies ++ (0, Writer state) ∷ [])
+
+pub own_behind : (cache : CacheView) (adds side from to : ℕ) (sides : Hand) (t : Setup)
+    (h : History) (xs : List Collected) (replies : Hand) (state : LaidState)
+    → Filled (IsHandleOn cache adds) side from sides to → Replied t h xs replies
+    → own_in (publishing_hand sides replies state) ≡ own_of state.value
+own_behind cache adds side from to sides t h xs replies state filled told =
+    own_there cache adds side from to sides (replies ++ (0, Writer state) ∷ []) filled
+    ∙ replies_own t h xs replies state told
+
+pub left_behind : (cache : CacheView) (adds side from to : ℕ) (sides : Hand) (t : Setup)
+    (h : History) (xs : List Collected) (replies : Hand) (state : LaidState)
+    → Filled (IsHandleOn cache adds) side from sides to → Replied t h xs replies
+    → behind_replies (publishing_hand sides replies state) ≡ (0, Writer state) ∷ []
+left_behind cache adds side from to sides t h xs replies state filled told =
+    left_there cache adds side from to sides (replies ++ (0, Writer state) ∷ []) filled
+    ∙ replies_left t h xs replies state told
+
+-- The step as it is called.
 pub publish_allowed : (setup : Setup) (slots : ℕ) (st : Step Slot) (id : ℕ) (t : Setup)
-    (p : SeatState) (state : LaidState) (sides tail : Hand) → behind_handles tail ≡ tail
-    → own_in tail ≡ own_of state.value
+    (p : SeatState) (state : LaidState) (sides replies : Hand)
     → p.holds ≡ true → MayOwn t p (own_of state.value)
-    → Filled (IsHandleOn (arc_value state.value.active) state.value.length) (standby_side p.flips) 0
+    → Filled (IsHandleOn (arc_value state.value.active) state.value.length) (standby_side p.head) 0
     sides p.cleared → p.cleared ≡ t.seats
-    → ((i : ℕ) (x : Collected) → get_elem? p.collected i ≡ maybe.some x → x.before ≡ None)
-    → length p.history < length (grown (with_own p (own_of state.value)) p.collected)
-    → length (grown (with_own p (own_of state.value)) p.collected) ≤ t.limit
-    → IsAfter t (grown (with_own p (own_of state.value)) p.collected) (p.flips + 1) state.value
-    → Allows (LeftRightRule setup) slots id (keeping t (p ∷ []), sides ++ tail) head_word
-    (λ _. state.value.flips) (λ n. publishes st (keeping t (p ∷ []), sides ++ tail) n)
-publish_allowed setup slots st id t p state sides tail none is_own holds may filled full unmade more
-    room after s k deep at small =
-    let done = flip_kept setup slots st id t p (own_of state.value) state sides tail holds may
-    filled full unmade more room after s k deep at small in
-    let cache : CacheView = arc_value state.value.active in
-    let own = own_there cache state.value.length (standby_side p.flips) 0 p.cleared sides tail
-    filled ∙ is_own in
-    let left = left_there cache state.value.length (standby_side p.flips) 0 p.cleared sides tail
-    filled none in (
-      done.0,
-      done.1,
-      done.2,
-      done.3,
-      done.4
-          ∙ (λ i. (with_state (keeping t (p ∷ [])) (flipped p (sym own i)), sym left i)),
-    )
+    → Replied t (with_own p (own_of state.value)) p.collected replies
+    → length (published p (own_of state.value)) ≤ t.limit
+    → IsAfter t (published p (own_of state.value)) (flipped_head p.plan p.collected) state.value
+    → Allows (LeftRightRule setup) slots id
+    (keeping t (p ∷ []), publishing_hand sides replies state) head_word (λ _. state.value.head)
+    (λ n. publishes st (keeping t (p ∷ []), publishing_hand sides replies state) n)
+publish_allowed setup slots st id t p state sides replies holds may filled full told room after =
+    subst (λ (hand : Hand). Allows (LeftRightRule setup) slots id (keeping t (p ∷ []), hand)
+    head_word (λ _. state.value.head) (λ n. publishes st
+    (keeping t (p ∷ []), publishing_hand sides replies state) n))
+    (append_assoc sides replies ((0, Writer state) ∷ [])) as_given
+  where
+    cache : CacheView
+    cache = arc_value state.value.active
+
+    h : History
+    h = with_own p (own_of state.value)
+
+    own_is : own_in (publishing_hand sides replies state) ≡ own_of state.value
+    own_is = own_behind cache state.value.length (standby_side p.head) 0 p.cleared sides t h
+        p.collected replies state filled told
+
+    left_is : behind_replies (publishing_hand sides replies state) ≡ (0, Writer state) ∷ []
+    left_is = left_behind cache state.value.length (standby_side p.head) 0 p.cleared sides t h
+        p.collected replies state filled told
+
+    as_given : Allows (LeftRightRule setup) slots id
+        (keeping t (p ∷ []), (sides ++ replies) ++ (0, Writer state) ∷ []) head_word
+        (λ _. state.value.head) (λ n. publishes st
+        (keeping t (p ∷ []), publishing_hand sides replies state) n)
+    as_given s k deep at small =
+        let done = flip_kept setup slots st id t p (own_of state.value) state sides replies
+        ((0, Writer state) ∷ []) holds may filled full told room after s k deep at small in (
+          done.0,
+          done.1,
+          done.2,
+          done.3,
+          done.4
+              ∙ (λ i. (
+                with_state (keeping t (p ∷ [])) (flipped p (sym own_is i)),
+                sym left_is i,
+              )),
+        )

@@ -17,7 +17,7 @@ use Rattle.tsc_left_right.specs.declared.table.SeatState.{SeatState}
 use Rattle.tsc_left_right.specs.declared.table.Knowledge.{Knowledge}
 use Rattle.tsc_left_right.specs.Rule.{keeping, one_if, LaidState, SharedState, LeftRightRule}
 use Rattle.tsc_left_right.specs.Rule.{IsAfter}
-use Rattle.tsc_left_right.specs.Rule.{head_word, served_word, epoch_word, request_word, side_slot}
+use Rattle.tsc_left_right.specs.Rule.{head_word, epoch_word, request_word, side_slot}
 use Rattle.tsc_left_right.specs.Rule.{request_slot, active_side, standby_side}
 use Rattle.tsc_left_right.specs.Steps.{Filled, Anything, released}
 use Rattle.tsc_left_right.proofs.Hands.{Homes, Hand, put_all, give_all, given_homes, given_none}
@@ -33,11 +33,12 @@ module _ (setup : Setup) (slots : ℕ) (id : ℕ) (t : Setup) (p : SeatState) (s
   abbrev hand : Hand
   hand = sides ++ (0, Writer state) ∷ []
 
-  pub release_allowed : p.holds ≡ true → p.collected ≡ [] → Filled Anything (standby_side p.flips) 0
-      sides p.cleared → IsAfter t p.history p.flips state.value → state.value.served ≡ p.served
-      → Allows (LeftRightRule setup) slots id (releaser, hand) 0 (λ _. 0) (λ _ me'. me'
-      ≡ (keeping t (released p ∷ []), []))
-  release_allowed holds none filled after served s k deep at small =
+  pub release_allowed : p.holds ≡ true → p.collected ≡ [] → p.plan ≡ p.head
+      → Filled Anything (standby_side p.head) 0 sides p.cleared
+      → IsAfter t p.history p.head state.value
+      → Allows (LeftRightRule setup) slots id (releaser, hand) 0 (λ _. 0)
+      (λ _ me'. me' ≡ (keeping t (released p ∷ []), []))
+  release_allowed holds none told filled after s k deep at small =
       let all = knows_all setup s k id t p holds at in
       let g : SharedState = k.g in
       let w : Knowledge = keeping t (released p ∷ []) in
@@ -48,15 +49,16 @@ module _ (setup : Setup) (slots : ℕ) (id : ℕ) (t : Setup) (p : SeatState) (s
       let wide = k.wide in
       let one = all.one in
       let cleared_is = all.cleared in
-      let flips_is = all.flips in
-      let side_same : standby_side g.flips ≡ standby_side p.flips = omega (arith, flips_is) in
-      let apart : (i : ℕ) → ((r : ℕ) → i ≢ side_slot r (standby_side p.flips)) → i ≢ 0
+      let head_is = all.head in
+      let side_same : standby_side g.head ≡ standby_side p.head = omega (arith, head_is) in
+      let apart : (i : ℕ) → ((r : ℕ) → i ≢ side_slot r (standby_side p.head)) → i ≢ 0
       → get_elem? homes i ≡ get_elem? s.homes i = λ i no zero. set_else put 0 i
-      (maybe.some (Writer state)) zero ∙ put_apart Anything (standby_side p.flips) s.homes 0
+      (maybe.some (Writer state)) zero ∙ put_apart Anything (standby_side p.head) s.homes 0
       sides p.cleared i filled (λ r _ _. no r) in
       let g' : SharedState = record {
         history = g.history;
-        flips = g.flips;
+        head = g.head;
+        plan = g.plan;
         word = 0;
         stage_of =
             g.stage_of;
@@ -66,13 +68,12 @@ module _ (setup : Setup) (slots : ℕ) (id : ℕ) (t : Setup) (p : SeatState) (s
         watched =
             None;
         collected = g.collected;
-        served = g.served;
       } in
       let moved : Moved setup s k id releaser w g' words homes = record {
         at = at;
         legal = k.legal;
         limit = k.limit;
-        few = k.few;
+        side = k.side;
         wide = length-set s.words 0 0 ∙ k.wide;
         deep = length-set put 0 (maybe.some (Writer state)) ∙ put_length s.homes sides ∙ k.deep;
         word_is = get_or-set_same s.words 0 0 0 (omega (arith, wide));
@@ -83,30 +84,30 @@ module _ (setup : Setup) (slots : ℕ) (id : ℕ) (t : Setup) (p : SeatState) (s
               pinned = λ z. ap (λ (e : ℕ). e % 2) epoch ∙ ok.pinned z;
               active = λ n. let x = ok.active n in (
                 x.0,
-                apart (side_slot r (active_side g.flips))
-                    (λ q z. omega (arith, z, flips_is)) (λ z. omega (arith, z)) ∙ x.1,
+                apart (side_slot r (active_side g.head))
+                    (λ q z. omega (arith, z, head_is)) (λ z. omega (arith, z)) ∙ x.1,
                 x.2,
               );
               standby = λ _ n. dite (dec_le p.cleared r)
                   (λ above. let x = ok.standby (omega (arith, above, cleared_is)) n in (
                     x.0,
-                    set_else put 0 (side_slot r (standby_side g.flips)) (maybe.some (Writer state))
+                    set_else put 0 (side_slot r (standby_side g.head)) (maybe.some (Writer state))
                         (λ z. omega (arith, z))
-                        ∙ put_apart Anything (standby_side p.flips) s.homes 0 sides p.cleared
-                        (side_slot r (standby_side g.flips)) filled (λ q _ less z. omega (
+                        ∙ put_apart Anything (standby_side p.head) s.homes 0 sides p.cleared
+                        (side_slot r (standby_side g.head)) filled (λ q _ less z. omega (
                           arith,
                           z,
                           less,
                           above,
-                          flips_is,
+                          head_is,
                         )) ∙ x.1,
                   ))
-                  (λ below. let x = put_among Anything (standby_side p.flips) s.homes 0 sides
+                  (λ below. let x = put_among Anything (standby_side p.head) s.homes 0 sides
                   p.cleared
                   r filled (omega arith) (omega (arith, below)) (omega (arith, tall, low)) in (
                     x.0,
                     ap (λ (c : ℕ). get_elem? homes (side_slot r c)) side_same
-                        ∙ set_else put 0 (side_slot r (standby_side p.flips))
+                        ∙ set_else put 0 (side_slot r (standby_side p.head))
                         (maybe.some (Writer state))
                         (λ z. omega (arith, z)) ∙ x.1,
                   ));
@@ -117,10 +118,8 @@ module _ (setup : Setup) (slots : ℕ) (id : ℕ) (t : Setup) (p : SeatState) (s
           toggle = get_or-set_other s.words 0 (request_word r) 0 0 (λ z. omega (arith, z))
               ∙ ok.toggle;
           small = ok.small;
-          says = rw (
-            get_or-set_other s.words 0 served_word 0 0 (λ z. omega (arith, z)),
-            apart (request_slot r) (λ q z. omega (arith, z)) (λ z. omega (arith, z)),
-          ) ok.says;
+          says = rw (apart (request_slot r) (λ q z. omega (arith, z)) (λ z. omega (arith, z)))
+              ok.says;
         };
         collected = k.collected;
         fits = of_one t (released p) all.same (record {
@@ -158,11 +157,10 @@ module _ (setup : Setup) (slots : ℕ) (id : ℕ) (t : Setup) (p : SeatState) (s
           state,
           set_here put 0 (maybe.some (Writer state))
               (omega (arith, put_length s.homes sides, tall)),
-          subst (λ (x : Setup). IsAfter x g.history g.flips state.value) all.same
-              (subst (λ (c : ℕ). IsAfter t g.history c state.value) all.flips
-              (subst (λ (y : History). IsAfter t y p.flips state.value) all.all after)),
-          served
-              ∙ all.served,
+          subst (λ (x : Setup). IsAfter x g.history g.head state.value) all.same
+              (subst (λ (c : ℕ). IsAfter t g.history c state.value) all.head
+              (subst (λ (y : History). IsAfter t y p.head state.value) all.all after)),
+          sym all.plan ∙ told ∙ all.head,
         );
       } in (
         w,

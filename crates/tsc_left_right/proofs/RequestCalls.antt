@@ -1,10 +1,8 @@
 -- A seat's steps at its request, and a writer's, in the shape that the calls ask for.
-use Rattle.std.proofs.Common.{◌≡◌, ◌≢◌, ◌∙◌, refl, sym, ap, subst, true, ℕ, ◌+◌, ◌^◌, ◌/◌, ◌<◌, []}
-use Rattle.std.proofs.Common.{◌∷◌, bit_and, arith}
+use Rattle.std.proofs.Common.{◌≡◌, ◌≢◌, ◌∙◌, refl, sym, ap, subst, true, ℕ, ◌+◌, ◌<◌, [], ◌∷◌}
+use Rattle.std.proofs.Common.{arith}
 use Rattle.std.specs.Prelude.{Option, Some, None, Box}
 use Rattle.std.specs.declared.alloc.Global.{Global}
-use Rattle.std.specs.Int.{bit_at}
-use Rattle.std.proofs.lemmas.Nat.Bits.{shr_and_one}
 use Rattle.atomic_table.specs.Table.{Step, Allows, rest}
 use Rattle.tsc_left_right.specs.declared.table.Setup.{Setup}
 use Rattle.tsc_left_right.specs.declared.table.UnappliedAdd.{UnappliedAdd}
@@ -12,18 +10,19 @@ use Rattle.tsc_left_right.specs.declared.table.Slot.{Slot}
 use Rattle.tsc_left_right.specs.declared.table.Slot.TheVariants.{Empty, Writer, Handle, Request}
 use Rattle.tsc_left_right.specs.declared.table.Slot.TheVariants.{Answer}
 use Rattle.tsc_left_right.specs.Rule.{LeftRightRule, CanBe, HasRequest, times, request_word}
-use Rattle.tsc_left_right.specs.Rule.{request_slot}
+use Rattle.tsc_left_right.specs.Rule.{request_slot, answer_bit, turned_answer}
 use Rattle.tsc_left_right.specs.Steps.{At, state_in, with_state, number_of}
 use Rattle.tsc_left_right.specs.RequestSteps.{fetching, fetches}
 use Rattle.tsc_left_right.specs.RequestSteps.{rests, posting, posts, withdrawn, withdraws, HasAdd}
 use Rattle.tsc_left_right.specs.RequestSteps.{hears}
 use Rattle.tsc_left_right.specs.RequestSteps.{Collects, collects, seat_of_word, serving, puts_back}
-use Rattle.tsc_left_right.specs.RequestSteps.{put_back_by, last_seat, turned_bit}
+use Rattle.tsc_left_right.specs.RequestSteps.{put_back_by, last_seat, tells}
 use Rattle.tsc_left_right.specs.Participating.{KeepsOne}
 use Rattle.tsc_left_right.specs.Requesting.{MayFetch, HasFetched, HasPosted, MayWithdraw, IsWriter}
 use Rattle.tsc_left_right.specs.Requesting.{IsCollected, MayPutBack, IsPutBack}
 use Rattle.tsc_left_right.proofs.Hands.{Hand}
 use Rattle.tsc_left_right.proofs.Calls.{whole}
+use Rattle.tsc_left_right.proofs.Acquiring.{tell_allowed}
 use Rattle.tsc_left_right.proofs.Asking.{fetch_allowed, rest_allowed, post_allowed}
 use Rattle.tsc_left_right.proofs.Asking.{withdraw_allowed}
 use Rattle.tsc_left_right.proofs.Hearing.{hear_allowed}
@@ -181,17 +180,11 @@ withdrawn_then st n number slot me me₁ me₂ w is at emptied = emptied
     ∙ (λ i. ((w.2 i).0, (at i, Empty) ∷ rest (w.2 i).1))
 
 pub hear_at : (key : Setup) (slots : ℕ) (st : Step Slot) (id : ℕ) (me : At) (add : UnappliedAdd)
-    → HasPosted me add → Allows (LeftRightRule key) slots id me 32 (λ n. n) (hears st me)
+    → HasPosted me add → Allows (LeftRightRule key) slots id me 16 (λ n. n) (hears st me)
 hear_at key slots st id me add has =
-    subst (λ (m : At). Allows (LeftRightRule key) slots id m 32 (λ n. n) (hears st m))
+    subst (λ (m : At). Allows (LeftRightRule key) slots id m 16 (λ n. n) (hears st m))
     (sym (whole me me.1 has.one refl))
     (hear_allowed key slots st id me.0.setup (state_in me.0) add me.1 has.request)
-
--- a bit of a word, as code reads it
-pub bit_found : (served seat told found : ℕ) → served ≡ told → bit_at told seat ≡ found
-    → bit_and (served / 2 ^ seat) 1 ≡ found
-bit_found served seat told found is bit = shr_and_one served seat ∙ ap (λ (n : ℕ). bit_at n seat) is
-    ∙ bit
 
 pub collect_at : (key : Setup) (slots : ℕ) (st : Step Slot) (id seat word : ℕ) (me : At)
     → IsWriter me → seat < me.0.setup.seats → times seat (state_in me.0).collected ≡ 0
@@ -225,20 +218,29 @@ put_back_at key slots st id seat slot me me₁ x may at laid =
     (put_back_allowed key slots st id me.0.setup (state_in me.0) (rest me.1) may.first may.others x
     may.writer.holds may.is may.laid)
 
-pub put_back_then : (st : Step Slot) (found seat slot served : ℕ) (me me₁ me₂ : At) (x : Slot)
+pub put_back_then : (st : Step Slot) (found seat slot plan : ℕ) (me me₁ me₂ : At) (x : Slot)
     → (may : MayPutBack me seat x) → me₁ ≡ (me.0, (slot, x) ∷ rest me.1)
-    → puts_back st me₁ found me₂ → served ≡ turned_bit (state_in me.0).served seat
-    → IsPutBack me me₂ seat served
-put_back_then st found seat slot served me me₁ me₂ x may laid done told = record {
-  told = told;
+    → puts_back st me₁ found me₂ → plan ≡ turned_answer (state_in me.0).plan seat
+    → IsPutBack me me₂ seat plan
+put_back_then st found seat slot plan me me₁ me₂ x may laid done plan_is = record {
+  plan_is = plan_is;
   after = subst (λ (m : At). puts_back st m found me₂) laid done
       ∙ ap (λ (n : ℕ). (with_state me.0 (put_back_by (state_in me.0) n), rest me.1))
       (ap last_seat may.is ∙ may.seat);
 }
 
+pub tell_at : (key : Setup) (slots : ℕ) (st : Step Slot) (id : ℕ) (me : At) (n : ℕ)
+    → IsWriter me → n ≡ (state_in me.0).plan
+    → Allows (LeftRightRule key) slots id me 16 (λ _. n) (tells st me)
+tell_at key slots st id me n writer n_is =
+    subst (λ (k : ℕ). Allows (LeftRightRule key) slots id me 16 (λ _. k) (tells st me)) (sym n_is)
+    (subst (λ (m : At). Allows (LeftRightRule key) slots id m 16 (λ _. (state_in me.0).plan)
+    (tells st m)) (sym (whole me me.1 writer.one refl))
+    (tell_allowed key slots id me.0.setup (state_in me.0) me.1 writer.holds))
+
 -- what a writer has collected, once its slot is empty
 pub collected_then : (found seat slot : ℕ) (me me₁ me₂ : At) (add : Box UnappliedAdd Global)
-    → Collects me seat found me₁ → bit_at (state_in me.0).served seat ≢ found
+    → Collects me seat found me₁ → answer_bit (state_in me.0).plan seat ≢ found
     → slot ≡ request_slot seat
     → me₁.1 ≡ (slot, Request add) ∷ rest me₁.1 → me₂ ≡ (me₁.0, (slot, Empty) ∷ rest me₁.1)
     → IsCollected me me₂ seat add.value
@@ -253,8 +255,7 @@ collected_then found seat slot me me₁ me₂ add done differs at out emptied =
             with_state me.0 (serving (state_in me.0) (record {
               seat = seat;
               add = sym is i;
-              before = None;
-            } ∷ (state_in me.0).collected) (state_in me.0).served),
+            } ∷ (state_in me.0).collected) (state_in me.0).plan),
             (request_slot seat, Empty) ∷ me.1,
           ));
     }

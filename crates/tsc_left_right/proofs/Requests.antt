@@ -6,17 +6,16 @@ use mathlib.Core.Logic.{dite}
 use native.Mathlib.Decide.{ℕ_discrete}
 use mathlib.Core.Option as maybe
 use lib.ListN.{get_elem?}
-use Rattle.tsc_cache.specs.History.{History}
 use Rattle.tsc_left_right.specs.declared.table.Setup.{Setup}
 use Rattle.tsc_left_right.specs.declared.table.UnappliedAdd.{UnappliedAdd}
 use Rattle.tsc_left_right.specs.declared.table.SeatState.{SeatState}
 use Rattle.tsc_left_right.specs.declared.table.Knowledge.{Knowledge}
 use Rattle.tsc_left_right.specs.Rule.{keeping, one_if, SharedState, LeftRightRule, SeatFits}
 use Rattle.tsc_left_right.specs.Rule.{RequestFits, StateFits, RequestState, Idle, Fetched, Posted}
-use Rattle.tsc_left_right.specs.Rule.{Taken, Made, Answered, SentBack, made_of, in_hand, add_of}
-use Rattle.tsc_left_right.specs.Rule.{fetched_of, toggle_seen, collected_as}
+use Rattle.tsc_left_right.specs.Rule.{Taken, Answered, SentBack, made_of, in_hand, add_of}
+use Rattle.tsc_left_right.specs.Rule.{fetched_of, toggle_seen}
 use Rattle.tsc_left_right.specs.Rule.{states_of, head_word}
-use Rattle.tsc_left_right.specs.Rule.{served_word, epoch_word, request_word, side_slot}
+use Rattle.tsc_left_right.specs.Rule.{epoch_word, request_word, side_slot}
 use Rattle.tsc_left_right.specs.Rule.{request_slot, active_side, standby_side}
 use Rattle.tsc_left_right.proofs.Updates.{put, put_else}
 use Rattle.tsc_left_right.proofs.Batching.{put_same}
@@ -38,48 +37,45 @@ toggle_known add n Idle is = absurd (none_is_no add is)
 toggle_known add n Fetched is = absurd (none_is_no add is)
 toggle_known add n (Posted p) is = refl
 toggle_known add n (Taken p) is = refl
-toggle_known add n (Made b p) is = refl
 toggle_known add n (Answered b p) is = refl
 toggle_known add n (SentBack p) is = refl
-
-pub hand_as : (add : UnappliedAdd) (b : Option History) → in_hand (collected_as add b) ≡ 1
-hand_as add None = refl
-hand_as add (Some b) = refl
 
 -- A step that leaves the epoch and the side slots of a seat as they are.
 pub seat_same : (setup : Setup) (g g' : SharedState) (words words' : List ℕ) (homes homes' : Homes)
     (r : ℕ)
-    → g'.history ≡ g.history → g'.flips ≡ g.flips → g'.stage_of r ≡ g.stage_of r → g'.cleared
+    → g'.history ≡ g.history → active_side g'.head ≡ active_side g.head
+    → g'.stage_of r ≡ g.stage_of r → g'.cleared
     ≡ g.cleared → g'.watched ≡ g.watched
     → slice_index words' (epoch_word r) ≡ slice_index words (epoch_word r)
     → ((side : ℕ) → side < 2 → get_elem? homes' (side_slot r side) ≡ get_elem? homes
     (side_slot r side))
     → SeatFits setup g words homes r → SeatFits setup g' words' homes' r
-seat_same setup g g' words words' homes homes' r history flips stage cleared watched epoch sides
-    ok = record {
+seat_same setup g g' words words' homes homes' r history side stage cleared watched epoch sides
+    ok =
+    let other : standby_side g'.head ≡ standby_side g.head = omega (arith, side) in record {
       unpinned = λ z. ap (λ (e : ℕ). e % 2) epoch ∙ ok.unpinned (sym stage ∙ z);
       pinned = λ z. ap (λ (e : ℕ). e % 2) epoch ∙ ok.pinned (omega (arith, z, stage));
-      active = λ n. let x = ok.active (λ z. n (omega (arith, z, stage, flips))) in (
+      active = λ n. let x = ok.active (λ z. n (omega (arith, z, stage, side))) in (
         x.0,
-        ap (λ (c : ℕ). get_elem? homes' (side_slot r (active_side c))) flips
-            ∙ sides (active_side g.flips) (omega arith) ∙ x.1,
+        ap (λ (c : ℕ). get_elem? homes' (side_slot r c)) side
+            ∙ sides (active_side g.head) (omega arith) ∙ x.1,
         rw history x.2,
       );
       standby = λ c n. let x = ok.standby (omega (arith, c, cleared))
-          (λ z. n (omega (arith, z, stage, flips))) in (
+          (λ z. n (omega (arith, z, stage, side))) in (
             x.0,
-            ap (λ (c : ℕ). get_elem? homes' (side_slot r (standby_side c))) flips
-                ∙ sides (standby_side g.flips) (omega arith) ∙ x.1,
+            ap (λ (c : ℕ). get_elem? homes' (side_slot r c)) other
+                ∙ sides (standby_side g.head) (omega arith) ∙ x.1,
           );
-      left = λ c z. ok.left (omega (arith, c, cleared)) (omega (arith, z, stage, flips));
+      left = λ c z. ok.left (omega (arith, c, cleared)) (omega (arith, z, stage, side));
       late = λ e a b c. epoch ∙ ok.late e (omega (arith, a, cleared)) (sym watched ∙ b)
-          (omega (arith, c, stage, flips));
+          (omega (arith, c, stage, side));
     }
 
 abbrev pub requests_now : SharedState → ℕ → RequestState → ℕ → SharedState
 requests_now g n a toggle = record {
   history = g.history;
-  flips = g.flips;
+  head = g.head;
   word = g.word;
   stage_of =
       g.stage_of;
@@ -89,7 +85,7 @@ requests_now g n a toggle = record {
       g.cleared;
   watched = g.watched;
   collected = g.collected;
-  served = g.served;
+  plan = g.plan;
 }
 
 -- Something else is asked for a seat. Its own request word and slot alone change, and the writer
@@ -100,7 +96,6 @@ pub record Requests (setup : Setup) (s : Board) (k : LeftRightRule setup s) (p q
   pub deep : length homes ≡ length s.homes
   pub word_same : slice_index words 0 ≡ slice_index s.words 0
   pub head_same : slice_index words head_word ≡ slice_index s.words head_word
-  pub served_same : slice_index words served_word ≡ slice_index s.words served_word
   pub lock_slot_same : get_elem? homes 0 ≡ get_elem? s.homes 0
   pub epochs : (r : ℕ) → slice_index words (epoch_word r) ≡ slice_index s.words (epoch_word r)
   pub sides : (r side : ℕ) → side < 2 → get_elem? homes (side_slot r side) ≡ get_elem? s.homes
@@ -135,7 +130,7 @@ requests_kept setup s k id t p q a toggle words homes at m =
       at = at;
       legal = k.legal;
       limit = k.limit;
-      few = k.few;
+      side = k.side;
       wide = m.wide ∙ k.wide;
       deep = m.deep ∙ k.deep;
       word_is = m.word_same ∙ k.word_is;
@@ -148,7 +143,7 @@ requests_kept setup s k id t p q a toggle words homes at m =
           put_else g.toggle_of n toggle r isnt in record {
             toggle = o.0 ∙ ok.toggle ∙ sym same_toggle;
             small = omega (arith, ok.small, same_toggle);
-            says = rw (o.1, m.served_same, same_toggle, put_else g.request_of n a r isnt) ok.says;
+            says = rw (o.1, same_toggle, put_else g.request_of n a r isnt) ok.says;
           });
       collected = record {
         listed = λ i x e. let l = k.collected.listed i x e in (
@@ -158,7 +153,6 @@ requests_kept setup s k id t p q a toggle words homes at m =
             m.was_home,
             ap (λ (c : ℕ). in_hand (g.request_of c)) z,
             ap in_hand l.1,
-            hand_as x.add x.before,
           ))
               ∙ l.1,
         );

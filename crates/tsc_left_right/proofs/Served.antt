@@ -1,7 +1,6 @@
--- A step by which the writer's list and its bits change.
+-- A step by which the writer's list changes, and what HEAD is to be.
 use Rattle.std.proofs.Common.{◌≡◌, ◌≢◌, ◌∙◌, refl, sym, ap, subst, true, ℕ}
 use Rattle.std.proofs.Common.{◌<◌, List, [], ◌∷◌, length, set, arith, slice_index, length-set}
-use Rattle.std.specs.Int.{bit_at}
 use mathlib.Core.Logic.{dite}
 use native.Mathlib.Decide.{ℕ_discrete}
 use mathlib.Core.Option as maybe
@@ -15,8 +14,8 @@ use Rattle.tsc_left_right.specs.declared.table.Knowledge.{Knowledge}
 use Rattle.tsc_left_right.specs.Rule.{keeping, SharedState, LeftRightRule, CollectedFits}
 use Rattle.tsc_left_right.specs.Rule.{RequestState}
 use Rattle.tsc_left_right.specs.Rule.{made_of, add_of, fetched_of, toggle_seen}
-use Rattle.tsc_left_right.specs.Rule.{IsRequested}
-use Rattle.tsc_left_right.specs.Rule.{head_word, served_word, epoch_word, request_word}
+use Rattle.tsc_left_right.specs.Rule.{IsRequested, answer_bit, active_side}
+use Rattle.tsc_left_right.specs.Rule.{head_word, epoch_word, request_word}
 use Rattle.tsc_left_right.specs.Rule.{side_slot, request_slot}
 use Rattle.tsc_left_right.specs.RequestSteps.{serving}
 use Rattle.tsc_left_right.proofs.Updates.{put, put_here, put_else}
@@ -25,11 +24,12 @@ use Rattle.tsc_left_right.proofs.Requests.{seat_same}
 use Rattle.tsc_left_right.proofs.Hands.{Homes}
 use Rattle.tsc_left_right.proofs.Moves.{Board, moved_kept, of_one, not_holding, knows_all}
 
--- what is asked for one seat, the writer's list and its bits change
+-- what is asked for one seat, the writer's list and what HEAD is to be change
 abbrev pub serves_now : SharedState → ℕ → RequestState → List Collected → ℕ → SharedState
-serves_now g r a collected served = record {
+serves_now g r a collected plan = record {
   history = g.history;
-  flips = g.flips;
+  head = g.head;
+  plan = plan;
   word = g.word;
   stage_of = g.stage_of;
   toggle_of = g.toggle_of;
@@ -38,11 +38,10 @@ serves_now g r a collected served = record {
       g.cleared;
   watched = g.watched;
   collected = collected;
-  served = served;
 }
 
 pub record Serves (setup : Setup) (s : Board) (k : LeftRightRule setup s) (r : ℕ) (a : RequestState)
-    (collected' : List Collected) (served' : ℕ) (homes : Homes) : Type 0 where
+    (collected' : List Collected) (plan' : ℕ) (homes : Homes) : Type 0 where
   pub deep : length homes ≡ length s.homes
   pub lock_slot_same : get_elem? homes 0 ≡ get_elem? s.homes 0
   pub sides : (q side : ℕ) → side < 2 → get_elem? homes (side_slot q side) ≡ get_elem? s.homes
@@ -50,8 +49,9 @@ pub record Serves (setup : Setup) (s : Board) (k : LeftRightRule setup s) (r : �
   pub slots : (q : ℕ) → q ≢ r → get_elem? homes (request_slot q) ≡ get_elem? s.homes
       (request_slot q)
   pub here : IsRequested setup k.g.history (get_elem? homes (request_slot r)) (k.g.toggle_of r)
-      (bit_at (slice_index s.words served_word) r) (bit_at served' r) r a
-  pub bits : (q : ℕ) → q ≢ r → bit_at served' q ≡ bit_at k.g.served q
+      (answer_bit k.g.head r) (answer_bit plan' r) r a
+  pub bits : (q : ℕ) → q ≢ r → answer_bit plan' q ≡ answer_bit k.g.plan q
+  pub side : active_side plan' ≡ active_side k.g.plan
   pub same_made : made_of a ≡ made_of (k.g.request_of r)
   pub same_asks : add_of a ≡ add_of (k.g.request_of r)
   pub same_fetched : fetched_of a ≡ fetched_of (k.g.request_of r)
@@ -59,21 +59,21 @@ pub record Serves (setup : Setup) (s : Board) (k : LeftRightRule setup s) (r : �
   pub collected : CollectedFits setup.seats (put k.g.request_of r a) collected'
 
 pub serves_kept : (setup : Setup) (s : Board) (k : LeftRightRule setup s) (id : ℕ) (t : Setup)
-    (p : SeatState) (r : ℕ) (a : RequestState) (collected' : List Collected) (served' i : ℕ)
+    (p : SeatState) (r : ℕ) (a : RequestState) (collected' : List Collected) (plan' i : ℕ)
     (homes : Homes)
     → p.holds ≡ true → get_elem? s.views id ≡ maybe.some (keeping t (p ∷ []))
-    → Serves setup s k r a collected' served' homes
+    → Serves setup s k r a collected' plan' homes
     → LeftRightRule setup (record {
       words = set s.words i (slice_index s.words i);
       homes = homes;
-      views = set s.views id (keeping t (serving p collected' served' ∷ []));
+      views = set s.views id (keeping t (serving p collected' plan' ∷ []));
     })
-serves_kept setup s k id t p r a collected' served' i homes holds at m =
+serves_kept setup s k id t p r a collected' plan' i homes holds at m =
     let v : Knowledge = keeping t (p ∷ []) in
-    let q : SeatState = serving p collected' served' in
+    let q : SeatState = serving p collected' plan' in
     let w : Knowledge = keeping t (q ∷ []) in
     let g : SharedState = k.g in
-    let g' : SharedState = serves_now g r a collected' served' in
+    let g' : SharedState = serves_now g r a collected' plan' in
     let all = knows_all setup s k id t p holds at in
     let taken = all.taken in
     let words : List ℕ = set s.words i (slice_index s.words i) in
@@ -89,7 +89,7 @@ serves_kept setup s k id t p r a collected' served' i homes holds at m =
       at = at;
       legal = k.legal;
       limit = k.limit;
-      few = k.few;
+      side = m.side ∙ k.side;
       wide = length-set s.words i (slice_index s.words i) ∙ k.wide;
       deep = m.deep ∙ k.deep;
       word_is = same 0 ∙ k.word_is;
@@ -101,11 +101,10 @@ serves_kept setup s k id t p r a collected' served' i homes holds at m =
         small = ok.small;
         says = dite (ℕ_discrete x r)
             (λ is. subst (λ (y : ℕ). IsRequested setup g.history (get_elem? homes (request_slot y))
-            (g.toggle_of y) (bit_at (slice_index words served_word) y) (bit_at served' y) y
+            (g.toggle_of y) (answer_bit g.head y) (answer_bit plan' y) y
             (put g.request_of r a y)) (sym is)
-            (rw (same served_word, put_here g.request_of r a) m.here))
+            (rw (put_here g.request_of r a) m.here))
             (λ isnt. rw (
-              same served_word,
               put_else g.request_of r a x isnt,
               m.slots x isnt,
               m.bits x isnt,
@@ -122,7 +121,7 @@ serves_kept setup s k id t p r a collected' served' i homes holds at m =
         at_request = adds_same p.number ∙ all.mine.at_request;
         at_fetched = fetched_same p.number ∙ all.mine.at_fetched;
         sees = all.mine.sees;
-        holding = λ _. (all.all, all.taken, all.cleared, all.watched, refl, refl, all.flips);
+        holding = λ _. (all.all, all.taken, all.cleared, all.watched, refl, all.head, refl);
       });
       others = λ other u apart e. let was = k.views other u e in record {
         settled = was.settled;

@@ -20,7 +20,7 @@ pub record IsEnd (setup : Setup) (states : List SeatState) (state : WriterState)
   pub each : (number : ℕ) → number < setup.seats
       → sum_by (λ (p : SeatState). one_if (p.number == number)) states ≡ 1
   pub history : History
-  pub flips : ℕ
+  pub head : ℕ
   pub legal : IsLegal setup.config setup.seats history
-  pub is_after : IsAfter setup history flips state
+  pub is_after : IsAfter setup history head state
   pub fits : (i : ℕ) (p : SeatState) → get_elem? states i ≡ maybe.some p → EndFits history p

@@ -1,5 +1,5 @@
 -- What lies in the slots when the table is made. (For private contracts.)
-use Rattle.std.specs.Prelude.{◌≡◌, ℕ, ◌+◌, ◌*◌, ◌<◌, List, [], ◌∷◌, length, replicate}
+use Rattle.std.specs.Prelude.{◌≡◌, ℕ, ◌<◌, List, [], ◌∷◌, length, replicate}
 use Rattle.std.specs.Arc.{arc_value}
 use mathlib.Core.Option as maybe
 use lib.ListN.{get_elem?}
@@ -28,4 +28,3 @@ pub record IsLaidOut (state : LaidState) (seats : ℕ) (slots : List Slot) : Typ
 -- the writer's state before the first Add
 pub record IsFirst (setup : Setup) (state : WriterState) : Type 0 where
   pub is_after : IsAfter setup [] 0 state
-  pub served : state.served ≡ 0

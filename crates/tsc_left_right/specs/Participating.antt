@@ -1,18 +1,17 @@
 -- A participant, and what it has in hand: what the functions that read and write ask for, and
 -- leave.
-use Rattle.std.specs.Prelude.{◌≡◌, ◌<◌, ◌≤◌, ℕ, ◌+◌, ◌*◌, length, List, [], ◌∷◌, ◌++◌, true, false}
+use Rattle.std.specs.Prelude.{◌≡◌, ◌<◌, ◌≤◌, ℕ, ◌+◌, length, List, [], ◌∷◌, ◌++◌, true, false}
 use Rattle.std.specs.Prelude.{Option, Some, None}
-use mathlib.Core.Option as maybe
-use lib.ListN.{get_elem?}
 use Rattle.std.specs.Arc.{arc_value}
 use Rattle.atomic_table.specs.Seated.{TableId}
 use Rattle.atomic_table.specs.declared.shared.Seat.{Seat as TableSeat}
 use Rattle.tsc_cache.specs.Settings.{Settings}
-use Rattle.tsc_cache.specs.State.{CacheState}
+use Rattle.tsc_cache.specs.State.{CacheState, step_all}
 use Rattle.tsc_cache.specs.CacheView.{CacheView, RepresentsState}
-use Rattle.tsc_cache.specs.History.{History, own_count, BeginsWith, IsLegal}
+use Rattle.tsc_cache.specs.History.{History, own_count, state_of, BeginsWith, IsLegal}
 use Rattle.tsc_left_right.specs.declared.table.UnappliedAdd.{UnappliedAdd}
 use Rattle.tsc_left_right.specs.declared.table.WriterState.{WriterState}
+use Rattle.tsc_left_right.specs.declared.table.MadeAdd.{MadeAdd}
 use Rattle.tsc_left_right.specs.declared.table.SeatState.{SeatState}
 use Rattle.tsc_left_right.specs.declared.table.Collected.{Collected}
 use Rattle.tsc_left_right.specs.declared.table.Slot.{Slot}
@@ -22,11 +21,12 @@ use Rattle.tsc_left_right.specs.declared.table.Knowledge.{Knowledge}
 use Rattle.tsc_left_right.specs.declared.table.Setup.{Setup}
 use Rattle.tsc_left_right.specs.Rule.{word_count, slot_count}
 use Rattle.tsc_left_right.specs.Rule.{keeping, side_slot, request_slot, standby_side, IsState}
-use Rattle.tsc_left_right.specs.Rule.{Shows, CanBe, IsAfter}
+use Rattle.tsc_left_right.specs.Rule.{Shows, CanBe, IsAfter, marks_in}
 use Rattle.tsc_left_right.specs.Steps.{first_state, Acquires, flipped, released, staged}
 use Rattle.tsc_left_right.specs.Steps.{At, state_in, with_state, seated, number_of, seen_of}
 use Rattle.tsc_left_right.specs.Steps.{count_of, clearing, Filled, Anything, IsHandleOn, front_of}
-use Rattle.tsc_left_right.specs.Steps.{own_of, published}
+use Rattle.tsc_left_right.specs.Steps.{own_of, published, with_own, grown}
+use Rattle.tsc_left_right.specs.RequestSteps.{told}
 
 abbrev pub Participant : Type 0
 Participant = TableSeat Slot Knowledge
@@ -92,6 +92,10 @@ published_in v own = with_state v (flipped (state_in v) own)
 abbrev pub released_in : Knowledge → Knowledge
 released_in v = with_state v (released (state_in v))
 
+-- what a writer knows once HEAD tells which requests came back
+abbrev pub told_in : Knowledge → Knowledge
+told_in v = with_state v (told (state_in v))
+
 -- the writer, as it is in v, when so many seats are cleared and the next one was watched
 abbrev pub cleared_in : Knowledge → ℕ → Option ℕ → Knowledge
 cleared_in v cleared watched = with_state v (clearing (state_in v) cleared watched)
@@ -101,7 +105,7 @@ cleared_in v cleared watched = with_state v (clearing (state_in v) cleared watch
 pub record IsWriting (v : Knowledge) (me : At) (cleared : ℕ) (watched : Option ℕ) : Type 0 where
   pub slots : List (ℕ × Slot)
   pub is : me ≡ (cleared_in v cleared watched, hand_of (state_in v).collected slots)
-  pub filled : Filled Anything (standby_side (state_in v).flips) 0 slots cleared
+  pub filled : Filled Anything (standby_side (state_in v).head) 0 slots cleared
   pub holds : (state_in v).holds ≡ true
   pub unpinned : (state_in v).stage ≡ 0
 
@@ -115,7 +119,7 @@ pub record HasInstalled (v : Knowledge) (me : At) (cache : CacheView) (adds clea
     : Type 0 where
   pub slots : List (ℕ × Slot)
   pub is : me ≡ (cleared_in v cleared None, hand_of (state_in v).collected slots)
-  pub filled : Filled (IsHandleOn cache adds) (standby_side (state_in v).flips) 0 slots cleared
+  pub filled : Filled (IsHandleOn cache adds) (standby_side (state_in v).head) 0 slots cleared
   pub holds : (state_in v).holds ≡ true
   pub unpinned : (state_in v).stage ≡ 0
 
@@ -125,34 +129,49 @@ HasAcquired v me state = Acquires v me.0 state × (me.1 ≡ (0, Empty) ∷ [])
 
 -- a seat of this table, and the side of the standby copy
 abbrev pub IsNext : Knowledge → ℕ → ℕ → Type 0
-IsNext v seat standby = (seat < v.setup.seats) × (standby ≡ standby_side (state_in v).flips)
+IsNext v seat standby = (seat < v.setup.seats) × (standby ≡ standby_side (state_in v).head)
 
 -- the number of seats, and the side of the standby copy
 abbrev pub AreSides : Knowledge → ℕ → ℕ → Type 0
-AreSides v seats standby = (seats ≡ v.setup.seats) × (standby ≡ standby_side (state_in v).flips)
+AreSides v seats standby = (seats ≡ v.setup.seats) × (standby ≡ standby_side (state_in v).head)
 
--- A writer that has no request in hand may release the lock, with a state that is as it knows.
+-- A writer that has no request in hand, and has told what came back, may release the lock, with a
+-- state that is as it knows.
 pub record MayRelease (me : At) (state : WriterState) : Type 0 where
   pub lock : HasLock me
   pub none : (state_in me.0).collected ≡ []
-  pub is_after : IsAfter me.0.setup (state_in me.0).history (state_in me.0).flips state
-  pub served : state.served ≡ (state_in me.0).served
+  pub is_told : (state_in me.0).plan ≡ (state_in me.0).head
+  pub is_after : IsAfter me.0.setup (state_in me.0).history (state_in me.0).head state
 
 -- The writer makes an Add of its own only where it asks for nothing.
 abbrev pub MayOwn : Setup → SeatState → Option UnappliedAdd → Type 0
 MayOwn setup p None = Unit {0}
 MayOwn setup p (Some add) = CanBe setup add × (p.request ≡ None)
 
+-- A collected Add was made after a history, and is not published.
+pub record IsMadeFor (t : Setup) (h : History) (x : Collected) (made : MadeAdd) : Type 0 where
+  pub seat : made.seat ≡ x.seat
+  pub small : x.seat < 63
+  pub add : made.add.value ≡ x.add
+  pub added : (step_all t.config (state_of t.config h) (marks_in x.add.marks) x.add.moment).added
+      ≡ record { kept = made.kept; rotated = false; evicted = 0 }
+
+-- All that was collected was made, each after those before it. The last that was collected comes
+-- first, and was made last.
+abbrev pub AreMade : Setup → History → List Collected → List MadeAdd → Type 0
+AreMade t h [] items = items ≡ []
+AreMade t h (x ∷ xs) items =
+    (front : List MadeAdd) × (made : MadeAdd) × (items ≡ front ++ made ∷ [])
+    × IsMadeFor t (grown h xs) x made × AreMade t h xs front
+
 -- What the writer has prepared can be published: its own Add, if there is one, and then all that it
--- has collected. It is one Add at least, and the limit allows all.
+-- has collected. The limit allows all, and the state says what HEAD is to be without the answers.
 pub record IsReady (v : Knowledge) (state : WriterState) : Type 0 where
   pub own : MayOwn v.setup (state_in v) (own_of state)
-  pub unmade : (i : ℕ) (x : Collected) → get_elem? (state_in v).collected i ≡ maybe.some x
-      → x.before ≡ None
-  pub more : length (state_in v).history < length (published (state_in v) (own_of state))
+  pub made : AreMade v.setup (with_own (state_in v) (own_of state)) (state_in v).collected
+      state.lagging.others.items
   pub limit : length (published (state_in v) (own_of state)) ≤ v.setup.limit
-  pub is_after : IsAfter v.setup (published (state_in v) (own_of state))
-      ((state_in v).flips + 1) state
+  pub is_after : IsAfter v.setup (published (state_in v) (own_of state)) (state_in v).plan state
 
 -- a slot has a handle that meets P
 abbrev pub HasHandle : Slot → (CacheView → ℕ → Type 0) → Type 0

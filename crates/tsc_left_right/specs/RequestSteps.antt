@@ -1,8 +1,7 @@
 -- What each step at a request says to the one who takes it.
-use Rattle.std.specs.Prelude.{◌≡◌, ◌≢◌, ℕ, ◌+◌, ◌-◌, ◌*◌, ◌^◌, ◌/◌, ◌%◌, ◌<◌}
-use Rattle.std.specs.Prelude.{List, [], ◌∷◌, ◌++◌, length, bit_xor, Bool, true, false}
+use Rattle.std.specs.Prelude.{◌≡◌, ◌≢◌, ℕ, ◌+◌, ◌-◌, ◌*◌, ◌/◌, ◌%◌, ◌<◌}
+use Rattle.std.specs.Prelude.{List, [], ◌∷◌, ◌++◌, length, Bool, true, false}
 use Rattle.std.specs.Prelude.{Option, Some, None}
-use Rattle.std.specs.Int.{bit_at}
 use Rattle.atomic_table.specs.Table.{Step, rest}
 use Rattle.tsc_cache.specs.History.{History, own_count, BeginsWith, IsLegal}
 use Rattle.tsc_left_right.specs.declared.table.UnappliedAdd.{UnappliedAdd}
@@ -13,7 +12,7 @@ use Rattle.tsc_left_right.specs.declared.table.Knowledge.{Knowledge}
 use Rattle.tsc_left_right.specs.declared.table.Slot.{Slot}
 use Rattle.tsc_left_right.specs.declared.table.Slot.TheVariants.{Empty, Writer, Handle, Request}
 use Rattle.tsc_left_right.specs.declared.table.Slot.TheVariants.{Answer}
-use Rattle.tsc_left_right.specs.Rule.{entry_of, request_slot}
+use Rattle.tsc_left_right.specs.Rule.{entry_of, request_slot, answer_bit, turned_answer}
 use Rattle.tsc_left_right.specs.Rule.{CanBe, HasRequest, IsReply}
 use Rattle.tsc_left_right.specs.Steps.{At, state_in, with_state}
 
@@ -68,33 +67,28 @@ withdraws st me found me' = (x : Slot) × HasAdd (state_in me.0).request x
     ))
     × (own_count (state_in me.0).number (state_in me.0).history ≡ (state_in me.0).count)
 
--- the writer, with these requests collected, and these bits to be told
+-- the writer, with these requests collected, and what HEAD is to be
 abbrev pub serving : SeatState → List Collected → ℕ → SeatState
-serving p collected served = record p { collected = collected; served = served }
+serving p collected plan = record p { collected = collected; plan = plan }
 
 -- the seat whose request word this is
 abbrev pub seat_of_word : ℕ → ℕ
-seat_of_word i = 8 * ((i - 48) / 152) + (i - 48) % 152
+seat_of_word i = 8 * ((i - 32) / 152) + (i - 32) % 152
 
 -- A request that is collected, where the seat's toggle differs from its bit: its slot is in hand,
 -- with an Add that can be made. Else nothing changes.
 abbrev pub Collects : At → ℕ → ℕ → At → Type 0
 Collects me r found me' = let p = state_in me.0 in
-    (bit_at p.served r ≡ found → me' ≡ me)
-    × (bit_at p.served r ≢ found → (x : Slot) × (add : UnappliedAdd)
+    (answer_bit p.plan r ≡ found → me' ≡ me)
+    × (answer_bit p.plan r ≢ found → (x : Slot) × (add : UnappliedAdd)
     × HasRequest add x × CanBe me.0.setup add
     × (me' ≡ (
-      with_state me.0
-          (serving p (record { seat = r; add = add; before = None } ∷ p.collected) p.served),
+      with_state me.0 (serving p (record { seat = r; add = add } ∷ p.collected) p.plan),
       (request_slot r, x) ∷ me.1,
     )))
 
 abbrev pub collects : Step Slot → At → ℕ → At → Type 0
 collects st me found me' = Collects me (seat_of_word st.word) found me'
-
--- the bits with that of a seat turned
-abbrev pub turned_bit : ℕ → ℕ → ℕ
-turned_bit served r = bit_xor served (2 ^ r)
 
 -- all collected requests but the first
 abbrev pub other_requests : List Collected → List Collected
@@ -103,21 +97,24 @@ other_requests (x ∷ xs) = xs
 
 -- the writer, when the slot of the last request that it collected is back
 abbrev pub put_back_by : SeatState → ℕ → SeatState
-put_back_by p r = serving p (other_requests p.collected) (turned_bit p.served r)
+put_back_by p r = serving p (other_requests p.collected) (turned_answer p.plan r)
 
 -- the seat of the last request that was collected
 abbrev pub last_seat : List Collected → ℕ
 last_seat [] = 0
 last_seat (x ∷ xs) = x.seat
 
--- The slot of that request is at home, with a reply or with the request.
+-- The slot of that request is at home, with the request.
 abbrev pub puts_back : Step Slot → At → ℕ → At → Type 0
 puts_back st me found me' = let p = state_in me.0 in
     me' ≡ (with_state me.0 (put_back_by p (last_seat p.collected)), rest me.1)
 
--- All bits are told.
-abbrev pub serves : Step Slot → At → ℕ → At → Type 0
-serves st me stored me' = me' ≡ me
+-- the writer, once HEAD tells each seat whose request came back
+abbrev pub told : SeatState → SeatState
+told p = record p { head = p.plan }
+
+abbrev pub tells : Step Slot → At → ℕ → At → Type 0
+tells st me stored me' = me' ≡ (with_state me.0 (told (state_in me.0)), me.1)
 
 -- a seat whose request slot is in its hand again, and that asks for nothing any more
 abbrev pub asks_none : SeatState → SeatState
@@ -155,9 +152,9 @@ abbrev pub HearsOf : Option UnappliedAdd → Knowledge → Knowledge → Slot �
 HearsOf None v w x = ⊥
 HearsOf (Some add) v w x = Hears v w add x
 
--- A seat reads whether its request was answered. If so it has its slot in hand.
+-- A seat reads in HEAD whether its request was answered. If so it has its slot in hand.
 abbrev pub hears : Step Slot → At → ℕ → At → Type 0
 hears st me found me' = let p = state_in me.0 in
-    (bit_at found p.number ≢ p.toggle → me' ≡ me)
-    × (bit_at found p.number ≡ p.toggle → (x : Slot)
+    (answer_bit found p.number ≢ p.toggle → me' ≡ me)
+    × (answer_bit found p.number ≡ p.toggle → (x : Slot)
     × (me'.1 ≡ (request_slot p.number, x) ∷ me.1) × HearsOf p.request me.0 me'.0 x)

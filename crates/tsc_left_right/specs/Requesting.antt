@@ -1,24 +1,19 @@
 -- What a seat asks the writer for: what the functions of requests ask for, and leave.
-use Rattle.std.specs.Prelude.{◌≡◌, ◌≢◌, ℕ, List, ◌∷◌, true, false, Option, Some, None}
+use Rattle.std.specs.Prelude.{◌≡◌, ◌≢◌, ◌-◌, ◌<◌, ℕ, List, ◌∷◌, Bool, true, false, Some, None}
 use Rattle.atomic_table.specs.Table.{rest}
-use Rattle.tsc_cache.specs.History.{History, own_count}
+use Rattle.tsc_cache.specs.History.{own_count}
 use Rattle.tsc_left_right.specs.declared.table.UnappliedAdd.{UnappliedAdd}
 use Rattle.tsc_left_right.specs.declared.table.Collected.{Collected}
-use Rattle.tsc_left_right.specs.declared.table.Setup.{Setup}
 use Rattle.tsc_left_right.specs.declared.table.Slot.{Slot}
 use Rattle.tsc_left_right.specs.declared.table.Slot.TheVariants.{Empty}
 use Rattle.tsc_left_right.specs.declared.requesting.Heard.{Heard}
 use Rattle.tsc_left_right.specs.declared.requesting.Heard.TheVariants.{Waiting, Made, SentBack}
-use Rattle.std.specs.Int.{bit_at}
-use Rattle.std.specs.Prelude.{◌-◌, ◌<◌}
 use Rattle.tsc_left_right.specs.declared.table.Knowledge.{Knowledge}
-use Rattle.std.specs.Prelude.{Bool}
-use Rattle.tsc_left_right.specs.RequestSteps.{fetching, posting}
-use Rattle.tsc_left_right.specs.RequestSteps.{withdrawn}
-use Rattle.tsc_left_right.specs.Rule.{request_slot, times, HasRequest, HasAnswer, CanBe}
+use Rattle.tsc_left_right.specs.Rule.{request_slot, times, HasRequest, CanBe, answer_bit}
+use Rattle.tsc_left_right.specs.Rule.{turned_answer}
 use Rattle.tsc_left_right.specs.Steps.{At, state_in, with_state, number_of}
-use Rattle.tsc_left_right.specs.RequestSteps.{serving, put_back_by}
-use Rattle.tsc_left_right.specs.RequestSteps.{turned_bit, asks_none, HearsMade}
+use Rattle.tsc_left_right.specs.RequestSteps.{fetching, posting, withdrawn, serving, put_back_by}
+use Rattle.tsc_left_right.specs.RequestSteps.{asks_none, HearsMade}
 use Rattle.tsc_left_right.specs.Participating.{KeepsOne}
 
 -- what a seat knows when its request slot is in its hand or at home, and when it has posted an Add
@@ -64,7 +59,7 @@ pub record MayWithdraw (me : At) (toggle : ℕ) : Type 0 where
   pub writer : IsWriter me
   pub posted : (add : UnappliedAdd) × ((state_in me.0).request ≡ Some add)
   pub new : times (number_of me.0) (state_in me.0).collected ≡ 0
-  pub differs : bit_at (state_in me.0).served (number_of me.0) ≢ (state_in me.0).toggle
+  pub differs : answer_bit (state_in me.0).plan (number_of me.0) ≢ (state_in me.0).toggle
   pub toggle_is : toggle ≡ (state_in me.0).toggle
   pub small : toggle < 2
 
@@ -92,30 +87,24 @@ HasHeard me me' (SentBack add) = ((state_in me.0).request ≡ Some add.value)
     ))
 
 -- A writer may collect what a seat asks for, whose request it has not collected.
-pub record MayCollect (me : At) (seat served : ℕ) : Type 0 where
+pub record MayCollect (me : At) (seat plan : ℕ) : Type 0 where
   pub writer : IsWriter me
   pub low : seat < me.0.setup.seats
-  pub small : seat < 64
+  pub small : seat < 63
   pub new : times seat (state_in me.0).collected ≡ 0
-  pub told : served ≡ (state_in me.0).served
+  pub plan_is : plan ≡ (state_in me.0).plan
 
 -- The writer has collected an Add of a seat, whose slot is empty and first in hand.
 pub record IsCollected (me me' : At) (seat : ℕ) (add : UnappliedAdd) : Type 0 where
   pub can : CanBe me.0.setup add
   pub after : me' ≡ (
     with_state me.0 (serving (state_in me.0)
-        (record { seat = seat; add = add; before = None } ∷ (state_in me.0).collected)
-        (state_in me.0).served),
+        (record { seat = seat; add = add } ∷ (state_in me.0).collected) (state_in me.0).plan),
     (request_slot seat, Empty) ∷ me.1,
   )
 
--- what goes into a request slot: the request as it was, or a reply
-abbrev pub LaidFor : Setup → UnappliedAdd → Option History → Slot → Type 0
-LaidFor setup add None x = HasRequest add x
-LaidFor setup add (Some before) x = HasAnswer setup before add x
-
--- The last request that the writer has collected is that of a seat, whose slot is first in hand,
--- and this may go into it.
+-- The last request that the writer has collected is that of a seat, whose slot is first in hand.
+-- What goes into the slot is that request.
 pub record MayPutBack (me : At) (number : ℕ) (x : Slot) : Type 0 where
   pub writer : IsWriter me
   pub first : Collected
@@ -124,9 +113,9 @@ pub record MayPutBack (me : At) (number : ℕ) (x : Slot) : Type 0 where
   pub seat : first.seat ≡ number
   pub old : Slot
   pub hand : me.1 ≡ (request_slot number, old) ∷ rest me.1
-  pub laid : LaidFor me.0.setup first.add first.before x
+  pub laid : HasRequest first.add x
 
--- The request slot is at home, and the seat's bit is turned in what is to be told.
-pub record IsPutBack (me me' : At) (seat served : ℕ) : Type 0 where
-  pub told : served ≡ turned_bit (state_in me.0).served seat
+-- The request slot is at home, and the seat's bit is turned in what HEAD is to be.
+pub record IsPutBack (me me' : At) (seat plan : ℕ) : Type 0 where
+  pub plan_is : plan ≡ turned_answer (state_in me.0).plan seat
   pub after : me' ≡ (with_state me.0 (put_back_by (state_in me.0) seat), rest me.1)

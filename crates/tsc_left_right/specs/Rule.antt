@@ -1,7 +1,7 @@
 -- The rule of the protocol: what holds between any two steps of any threads.
 use Rattle.std.specs.Prelude.{◌≡◌, ◌≢◌, ℕ, suc, ◌+◌, ◌*◌, ◌/◌, ◌%◌, ◌<◌, ◌≤◌, ◌==◌, nat_lt, List, []}
 use Rattle.std.specs.Prelude.{◌∷◌, ◌++◌, length, slice_index, Bool, true, false, Option, Some, None}
-use Rattle.std.specs.Prelude.{Box, if◌then◌else◌}
+use Rattle.std.specs.Prelude.{Box, if◌then◌else◌, ◌^◌, bit_xor}
 use Rattle.std.specs.List.{sum_by}
 use Rattle.std.specs.Int.{bit_at}
 use Rattle.std.specs.Arc.{arc_value}
@@ -45,9 +45,9 @@ at_rest number seen count = record {
   request = None;
   fetched = false;
   history = [];
-  flips = 0;
+  head = 0;
+  plan = 0;
   collected = [];
-  served = 0;
 }
 
 -- the states of so many seats that have seen nothing, from a number on
@@ -75,23 +75,20 @@ states_of number v = sum_by (λ (p : SeatState). one_if (p.number == number)) v.
 abbrev pub holders : Knowledge → ℕ
 holders v = sum_by (λ (p : SeatState). one_if p.holds) v.states
 
--- The words HEAD and SERVED, and the words with the epoch and with the request of a seat: before
--- the epochs of eight seats come their request words, side by side.
+-- The word HEAD, and the words with the epoch and with the request of a seat: before the epochs of
+-- eight seats come their request words, side by side.
 abbrev pub head_word : ℕ
 head_word = 16
 
-abbrev pub served_word : ℕ
-served_word = 32
-
 abbrev pub epoch_word : ℕ → ℕ
-epoch_word seat = 152 * (seat / 8) + 16 * (seat % 8) + 72
+epoch_word seat = 152 * (seat / 8) + 16 * (seat % 8) + 56
 
 abbrev pub request_word : ℕ → ℕ
-request_word seat = 152 * (seat / 8) + seat % 8 + 48
+request_word seat = 152 * (seat / 8) + seat % 8 + 32
 
 -- how many words there are for so many seats, of which a few behind the last epoch serve nobody
 abbrev pub word_count : ℕ → ℕ
-word_count seats = 19 * seats + 69
+word_count seats = 19 * seats + 53
 
 -- the slot of a seat on a side, and that of its request, beside that on side 0
 abbrev pub side_slot : ℕ → ℕ → ℕ
@@ -104,12 +101,20 @@ request_slot seat = 16 * seat + 9
 abbrev pub slot_count : ℕ → ℕ
 slot_count seats = 16 * seats + 8
 
--- the side of the active copy after so many flips, and that of the standby copy
+-- HEAD's lowest bit is the side of the active copy. The other side is that of the standby copy.
 abbrev pub active_side : ℕ → ℕ
-active_side flips = flips % 2
+active_side head = head % 2
 
 abbrev pub standby_side : ℕ → ℕ
-standby_side flips = (flips + 1) % 2
+standby_side head = (head + 1) % 2
+
+-- HEAD's bit of a seat, which is the seat's toggle once its request is answered
+abbrev pub answer_bit : ℕ → ℕ → ℕ
+answer_bit head seat = bit_at head (seat + 1)
+
+-- HEAD with the bit of a seat turned
+abbrev pub turned_answer : ℕ → ℕ → ℕ
+turned_answer head seat = bit_xor head (2 ^ (seat + 1))
 
 -- a cache stands for the state of a history
 abbrev pub IsState : Setup → History → CacheView → Type 0
@@ -128,14 +133,13 @@ Shows setup h (Answer reply) = ⊥
 --
 -- Idle: nothing, and its request slot is at home. Fetched: nothing, and the slot is in its own
 -- hand. Posted: an Add that nobody has collected. Taken: an Add that the writer has collected.
--- Made: an Add that was made after this history, whose slot the writer has. Answered: such an Add,
--- whose slot has the reply. SentBack: an Add that the writer has collected and not made.
+-- Answered: an Add that was made after this history, whose slot has the reply. SentBack: an Add
+-- that the writer has collected and not made.
 pub data RequestState : Type 0 where
   Idle : RequestState
   Fetched : RequestState
   Posted : UnappliedAdd → RequestState
   Taken : UnappliedAdd → RequestState
-  Made : History → UnappliedAdd → RequestState
   Answered : History → UnappliedAdd → RequestState
   SentBack : UnappliedAdd → RequestState
 
@@ -145,7 +149,6 @@ made_of Idle = 0
 made_of Fetched = 0
 made_of (Posted p) = 0
 made_of (Taken p) = 0
-made_of (Made b p) = 1
 made_of (Answered b p) = 1
 made_of (SentBack p) = 0
 
@@ -155,7 +158,6 @@ in_hand Idle = 0
 in_hand Fetched = 0
 in_hand (Posted p) = 0
 in_hand (Taken p) = 1
-in_hand (Made b p) = 1
 in_hand (Answered b p) = 0
 in_hand (SentBack p) = 0
 
@@ -165,7 +167,6 @@ add_of Idle = None
 add_of Fetched = None
 add_of (Posted p) = Some p
 add_of (Taken p) = Some p
-add_of (Made b p) = Some p
 add_of (Answered b p) = Some p
 add_of (SentBack p) = Some p
 
@@ -175,7 +176,6 @@ fetched_of Idle = false
 fetched_of Fetched = true
 fetched_of (Posted p) = false
 fetched_of (Taken p) = false
-fetched_of (Made b p) = false
 fetched_of (Answered b p) = false
 fetched_of (SentBack p) = false
 
@@ -185,17 +185,17 @@ toggle_seen n Idle = 0
 toggle_seen n Fetched = n
 toggle_seen n (Posted p) = n
 toggle_seen n (Taken p) = n
-toggle_seen n (Made b p) = n
 toggle_seen n (Answered b p) = n
 toggle_seen n (SentBack p) = n
 
--- What stands behind the words and slots: the history, how many flips there were, the word of the
--- lock, and of each seat its stage, its toggle and what is asked for it. And of the writer: how
--- many seats it has cleared, the epoch at which it watched the next one, whose request slots it
--- has, and which bits SERVED is to have.
+-- What stands behind the words and slots: the history, HEAD and the word of the lock. The plan is
+-- HEAD once each seat is told that its request came back. Of each seat: its stage, its toggle and
+-- what is asked for it. Of the writer: how many seats it has cleared, the epoch at which it watched
+-- the next one, and whose request slots it has.
 pub record SharedState : Type 0 where
   pub history : History
-  pub flips : ℕ
+  pub head : ℕ
+  pub plan : ℕ
   pub word : ℕ
   pub stage_of : ℕ → ℕ
   pub toggle_of : ℕ → ℕ
@@ -203,14 +203,13 @@ pub record SharedState : Type 0 where
   pub cleared : ℕ
   pub watched : Option ℕ
   pub collected : List Collected
-  pub served : ℕ
 
 -- What the writer knows is all there is.
 abbrev pub WriterFits : SharedState → SeatState → Type 0
 WriterFits g p =
     (p.history ≡ g.history) × (g.word ≡ suc p.number) × (p.cleared ≡ g.cleared)
-    × (p.watched ≡ g.watched) × (p.collected ≡ g.collected) × (p.served ≡ g.served)
-    × (p.flips ≡ g.flips)
+    × (p.watched ≡ g.watched) × (p.collected ≡ g.collected) × (p.head ≡ g.head)
+    × (p.plan ≡ g.plan)
 
 -- What a seat's state says fits. The seat has seen a beginning of the history, which has all its
 -- Adds but one that was made for it and whose reply it has not read. Who has a handle on the active
@@ -223,7 +222,7 @@ pub record StateFits (g : SharedState) (p : SeatState) : Type 0 where
   pub at_toggle : toggle_seen (g.toggle_of p.number) (g.request_of p.number) ≡ p.toggle
   pub at_request : add_of (g.request_of p.number) ≡ p.request
   pub at_fetched : fetched_of (g.request_of p.number) ≡ p.fetched
-  pub sees : p.stage ≡ active_side g.flips + 2 → p.seen ≡ g.history
+  pub sees : p.stage ≡ active_side g.head + 2 → p.seen ≡ g.history
   pub holding : p.holds ≡ true → WriterFits g p
 
 -- What a participant knows fits.
@@ -244,14 +243,14 @@ pub record SeatFits (setup : Setup) (g : SharedState) (words : List ℕ)
     (homes : List (maybe.Option Slot)) (seat : ℕ) : Type 0 where
   pub unpinned : g.stage_of seat ≡ 0 → slice_index words (epoch_word seat) % 2 ≡ 0
   pub pinned : 0 < g.stage_of seat → slice_index words (epoch_word seat) % 2 ≡ 1
-  pub active : g.stage_of seat ≢ active_side g.flips + 2
-      → IsHome homes (side_slot seat (active_side g.flips)) (Shows setup g.history)
-  pub standby : g.cleared ≤ seat → g.stage_of seat ≢ standby_side g.flips + 2
+  pub active : g.stage_of seat ≢ active_side g.head + 2
+      → IsHome homes (side_slot seat (active_side g.head)) (Shows setup g.history)
+  pub standby : g.cleared ≤ seat → g.stage_of seat ≢ standby_side g.head + 2
       → (x : Slot)
-      × (get_elem? homes (side_slot seat (standby_side g.flips)) ≡ maybe.some (maybe.some x))
-  pub left : seat < g.cleared → g.stage_of seat ≢ standby_side g.flips + 2
+      × (get_elem? homes (side_slot seat (standby_side g.head)) ≡ maybe.some (maybe.some x))
+  pub left : seat < g.cleared → g.stage_of seat ≢ standby_side g.head + 2
   pub late : (e : ℕ) → seat ≡ g.cleared → g.watched ≡ Some e
-      → g.stage_of seat ≡ standby_side g.flips + 2 → slice_index words (epoch_word seat) ≡ e
+      → g.stage_of seat ≡ standby_side g.head + 2 → slice_index words (epoch_word seat) ≡ e
 
 -- the marks of an Add as a list
 abbrev pub marks_in : MarkList → List Mark
@@ -296,8 +295,8 @@ HasAnswer setup before p (Answer reply) = IsReply setup before p reply
 abbrev pub CanBe : Setup → UnappliedAdd → Type 0
 CanBe setup p = CanAllBeAdded setup.config (marks_in p.marks) p.moment
 
--- What is asked for a seat fits its request slot, its toggle, its bit of SERVED (told), and the bit
--- that SERVED is to have (plan).
+-- What is asked for a seat fits its request slot, its toggle, its bit of HEAD (told), and the bit
+-- that HEAD is to have (plan).
 abbrev pub IsRequested : Setup → History → maybe.Option (maybe.Option Slot) → ℕ → ℕ → ℕ → ℕ
     → RequestState → Type 0
 IsRequested setup h home toggle told plan seat Idle =
@@ -308,11 +307,9 @@ IsRequested setup h home toggle told plan seat (Posted p) =
     × CanBe setup p × (told ≢ toggle) × (plan ≢ toggle)
 IsRequested setup h home toggle told plan seat (Taken p) =
     CanBe setup p × (told ≢ toggle) × (plan ≢ toggle)
-IsRequested setup h home toggle told plan seat (Made b p) =
-    IsMadeAt h seat b p × (told ≢ toggle) × (plan ≢ toggle)
 IsRequested setup h home toggle told plan seat (Answered b p) =
     ((x : Slot) × (home ≡ maybe.some (maybe.some x)) × HasAnswer setup b p x)
-    × IsMadeAt h seat b p × (plan ≡ toggle)
+    × IsMadeAt h seat b p × (told ≡ toggle) × (plan ≡ toggle)
 IsRequested setup h home toggle told plan seat (SentBack p) =
     ((x : Slot) × (home ≡ maybe.some (maybe.some x)) × HasRequest p x) × (plan ≡ toggle)
 
@@ -322,22 +319,17 @@ pub record RequestFits (setup : Setup) (g : SharedState) (words : List ℕ)
   pub toggle : slice_index words (request_word seat) ≡ g.toggle_of seat
   pub small : g.toggle_of seat < 2
   pub says : IsRequested setup g.history (get_elem? homes (request_slot seat)) (g.toggle_of seat)
-      (bit_at (slice_index words served_word) seat) (bit_at g.served seat) seat (g.request_of seat)
+      (answer_bit g.head seat) (answer_bit g.plan seat) seat (g.request_of seat)
 
 -- how often a seat is among those whose request slots the writer has
 abbrev pub times : ℕ → List Collected → ℕ
 times seat xs = sum_by (λ (x : Collected). one_if (x.seat == seat)) xs
 
--- what is asked for such a seat
-abbrev pub collected_as : UnappliedAdd → Option History → RequestState
-collected_as add None = Taken add
-collected_as add (Some before) = Made before add
-
 -- The writer has the request slots of these seats, each once, and of no others.
 pub record CollectedFits (seats : ℕ) (request_of : ℕ → RequestState) (collected : List Collected)
     : Type 0 where
   pub listed : (at : ℕ) (x : Collected) → get_elem? collected at ≡ maybe.some x
-      → (x.seat < seats) × (request_of x.seat ≡ collected_as x.add x.before)
+      → (x.seat < seats) × (request_of x.seat ≡ Taken x.add)
   pub each : (seat : ℕ) → times seat collected ≡ in_hand (request_of seat)
 
 -- entries are those of some Adds, whoever made them
@@ -348,8 +340,8 @@ AreOf (e ∷ es) [] = ⊥
 AreOf (e ∷ es) (p ∷ ps) = (e.marks ≡ marks_in p.marks) × (e.now ≡ p.moment) × AreOf es ps
 
 -- a cache stands for the state of a history without its last entries, which are those of some Adds
-abbrev pub Lags : Setup → History → List UnappliedAdd → CacheView → Type 0
-Lags setup h ps cache =
+abbrev pub LagsBy : Setup → History → List UnappliedAdd → CacheView → Type 0
+LagsBy setup h ps cache =
     (before es : History) × (h ≡ before ++ es) × AreOf es ps × IsState setup before cache
 
 -- what the standby copy has not had yet, from the first on
@@ -367,33 +359,33 @@ late_adds lagging = with_first lagging.own (adds_in lagging.others.items)
 -- the cache of a handle lacks the Adds that lag, where there is a handle
 abbrev pub HandleLags : Setup → History → List UnappliedAdd → Option (Arc CacheView Global) → Type 0
 HandleLags setup h lagging None = Unit {0}
-HandleLags setup h lagging (Some handle) = Lags setup h lagging (arc_value handle)
+HandleLags setup h lagging (Some handle) = LagsBy setup h lagging (arc_value handle)
 
 -- what the writer's slot has
 abbrev pub LaidState : Type 0
 LaidState = Box WriterState Global
 
--- What the writer works with is after a history, and after so many flips: the active copy stands
--- for the history's state, and the standby copy may lag.
-pub record IsAfter (setup : Setup) (h : History) (flips : ℕ) (state : WriterState) : Type 0 where
+-- What the writer works with is after a history, and says what HEAD is: the active copy stands for
+-- the history's state, and the standby copy may lag.
+pub record IsAfter (setup : Setup) (h : History) (head : ℕ) (state : WriterState) : Type 0 where
   pub stands : IsState setup h (arc_value state.active)
   pub behind : HandleLags setup h (late_adds state.lagging) state.standby
   pub length : state.length ≡ length h
-  pub flips_is : state.flips ≡ flips
+  pub head_is : state.head ≡ head
 
--- There is one history, legal and within the limit, and HEAD is the number of flips, of which each
--- made the history longer. What each participant knows fits, and each seat has one state. Where the
--- lock is free, nobody holds it, nothing is cleared or collected, and the writer's slot has what is
--- after that history; else one seat holds the lock.
+-- There is one history, legal and within the limit. What each participant knows fits, and each seat
+-- has one state. Where the lock is free, nobody holds it, and nothing is cleared or collected. Each
+-- seat was told then what came back, and the writer's slot has what is after that history. Else one
+-- seat holds the lock.
 pub record LeftRightRule (setup : Setup) (s : State Slot Knowledge) : Type 0 where
   pub g : SharedState
   pub legal : IsLegal setup.config setup.seats g.history
   pub limit : length g.history ≤ setup.limit
-  pub few : g.flips ≤ length g.history
   pub wide : length s.words ≡ word_count setup.seats
   pub deep : length s.homes ≡ slot_count setup.seats
   pub word_is : slice_index s.words 0 ≡ g.word
-  pub head_is : slice_index s.words head_word ≡ g.flips
+  pub head_is : slice_index s.words head_word ≡ g.head
+  pub side : active_side g.plan ≡ active_side g.head
   pub seats : (seat : ℕ) → seat < setup.seats → SeatFits setup g s.words s.homes seat
   pub requests : (seat : ℕ) → seat < setup.seats → RequestFits setup g s.words s.homes seat
   pub collected : CollectedFits setup.seats g.request_of g.collected
@@ -404,4 +396,4 @@ pub record LeftRightRule (setup : Setup) (s : State Slot Knowledge) : Type 0 whe
   pub idle : g.word ≡ 0 → (g.cleared ≡ 0) × (g.collected ≡ [])
   pub free : g.word ≡ 0 → (state : LaidState)
       × (get_elem? s.homes 0 ≡ maybe.some (maybe.some (Writer state)))
-      × IsAfter setup g.history g.flips state.value × (state.value.served ≡ g.served)
+      × IsAfter setup g.history g.head state.value × (g.plan ≡ g.head)

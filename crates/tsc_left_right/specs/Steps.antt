@@ -1,7 +1,7 @@
 -- What each step says to the one who takes it.
 use Rattle.std.specs.Prelude.{◌≡◌, ◌≢◌, ℕ, suc, ◌+◌, ◌%◌, ◌≤◌, ◌==◌, ◌||◌, not}
 use Rattle.std.specs.Prelude.{nat_le, List, [], ◌∷◌, ◌++◌, length, Bool, true, false}
-use Rattle.std.specs.Prelude.{Option, Some, None, if◌then◌else◌}
+use Rattle.std.specs.Prelude.{Option, Some, None, if◌then◌else◌, bit_xor}
 use Rattle.std.specs.Arc.{arc_value}
 use Rattle.atomic_table.specs.Table.{Me, Step, rest}
 use Rattle.tsc_time.specs.Time.{zero_time}
@@ -19,7 +19,7 @@ use Rattle.tsc_left_right.specs.declared.table.Slot.TheVariants.{Empty, Writer, 
 use Rattle.tsc_left_right.specs.declared.table.Slot.TheVariants.{Answer}
 use Rattle.tsc_left_right.specs.Rule.{at_rest, keeping, entry_of, side_slot}
 use Rattle.tsc_left_right.specs.Rule.{active_side, standby_side, Shows}
-use Rattle.tsc_left_right.specs.Rule.{LaidState, IsAfter}
+use Rattle.tsc_left_right.specs.Rule.{LaidState, IsAfter, turned_answer}
 
 -- what a participant knows, and what it has in hand
 abbrev pub At : Type 0
@@ -104,14 +104,14 @@ abbrev pub seen_then : Option UnappliedAdd → History → History → History
 seen_then None seen h = h
 seen_then (Some add) seen h = seen
 
-abbrev pub acquired : SeatState → History → ℕ → ℕ → SeatState
-acquired p h flips served = record p {
+abbrev pub acquired : SeatState → History → ℕ → SeatState
+acquired p h head = record p {
   holds = true;
   seen = seen_then p.request p.seen h;
   history = h;
-  flips = flips;
+  head = head;
+  plan = head;
   collected = [];
-  served = served;
   cleared = 0;
   watched = None;
 }
@@ -119,15 +119,14 @@ acquired p h flips served = record p {
 -- The seat of v holds the lock, and knows all: the history, and the state that lies there.
 pub record Acquires (v w : Knowledge) (state : WriterState) : Type 0 where
   pub history : History
-  pub flips : ℕ
-  pub after : w ≡ with_state v (acquired (state_in v) history flips state.served)
+  pub head : ℕ
+  pub after : w ≡ with_state v (acquired (state_in v) history head)
   pub begins : BeginsWith history (state_in v).seen
   pub legal : IsLegal v.setup.config v.setup.seats history
   pub own : own_count (state_in v).number (seen_then (state_in v).request (state_in v).seen history)
       ≡ (state_in v).count
   pub limit : length history ≤ v.setup.limit
-  pub few : flips ≤ length history
-  pub is_after : IsAfter v.setup history flips state
+  pub is_after : IsAfter v.setup history head state
 
 -- The lock is acquired where it was free, with what lies there. Else nothing changes.
 abbrev pub acquires : Step Slot → At → ℕ → At → Type 0
@@ -141,9 +140,9 @@ abbrev pub released : SeatState → SeatState
 released p = record p {
   holds = false;
   history = [];
-  flips = 0;
+  head = 0;
+  plan = 0;
   collected = [];
-  served = 0;
   cleared = 0;
   watched = None;
 }
@@ -167,7 +166,7 @@ clears st me e me' = let p = state_in me.0 in
     (has_left p.watched e ≡ true → (x : Slot)
     × (me' ≡ (
       with_state me.0 (clearing p (suc p.cleared) None),
-      (side_slot p.cleared (standby_side p.flips), x) ∷ me.1,
+      (side_slot p.cleared (standby_side p.head), x) ∷ me.1,
     )))
     × (has_left p.watched e ≡ false → me' ≡ (with_state me.0 (clearing p p.cleared (Some e)), me.1))
 
@@ -180,11 +179,14 @@ abbrev pub grown : History → List Collected → History
 grown h [] = h
 grown h (x ∷ xs) = grown h xs ++ next_of (grown h xs) x ∷ []
 
--- the requests, each with what stands before its Add
-abbrev pub all_made : History → List Collected → List Collected
-all_made h [] = []
-all_made h (x ∷ xs) = record { seat = x.seat; add = x.add; before = Some (grown h xs) }
-    ∷ all_made h xs
+-- HEAD once these requests are answered
+abbrev pub answered_head : ℕ → List Collected → ℕ
+answered_head head [] = head
+answered_head head (x ∷ xs) = answered_head (turned_answer head x.seat) xs
+
+-- HEAD once the writer has published
+abbrev pub flipped_head : ℕ → List Collected → ℕ
+flipped_head plan xs = bit_xor (answered_head plan xs) 1
 
 -- a history with the writer's own Add, where it makes one
 abbrev pub with_own : SeatState → Option UnappliedAdd → History
@@ -210,10 +212,11 @@ flipped p own = record p {
   seen = seen_own p own;
   count = count_own p own;
   history = published p own;
-  flips = p.flips + 1;
+  head = flipped_head p.plan p.collected;
+  plan = flipped_head p.plan p.collected;
   cleared = 0;
   watched = None;
-  collected = all_made (with_own p own) p.collected;
+  collected = [];
 }
 
 -- the writer's own Add, where its state says that it makes one
@@ -229,20 +232,20 @@ own_in ((k, Handle handle) ∷ xs) = own_in xs
 own_in ((k, Request add) ∷ xs) = own_in xs
 own_in ((k, Answer reply) ∷ xs) = own_in xs
 
--- what is in hand behind the handles
-abbrev pub behind_handles : List (ℕ × Slot) → List (ℕ × Slot)
-behind_handles [] = []
-behind_handles ((k, Empty) ∷ xs) = (k, Empty) ∷ xs
-behind_handles ((k, Writer state) ∷ xs) = (k, Writer state) ∷ xs
-behind_handles ((k, Handle handle) ∷ xs) = behind_handles xs
-behind_handles ((k, Request add) ∷ xs) = (k, Request add) ∷ xs
-behind_handles ((k, Answer reply) ∷ xs) = (k, Answer reply) ∷ xs
+-- what is in hand behind the handles and the replies
+abbrev pub behind_replies : List (ℕ × Slot) → List (ℕ × Slot)
+behind_replies [] = []
+behind_replies ((k, Empty) ∷ xs) = (k, Empty) ∷ xs
+behind_replies ((k, Writer state) ∷ xs) = (k, Writer state) ∷ xs
+behind_replies ((k, Handle handle) ∷ xs) = behind_replies xs
+behind_replies ((k, Request add) ∷ xs) = (k, Request add) ∷ xs
+behind_replies ((k, Answer reply) ∷ xs) = behind_replies xs
 
 -- The own Add and all that was collected are in the history from now on, and on the active copy.
--- The handles are at home; the writer's slot and those of the requests stay in hand.
+-- The handles and the replies are at home, and the writer's slot stays in hand.
 abbrev pub publishes : Step Slot → At → ℕ → At → Type 0
 publishes st me stored me' =
-    me' ≡ (with_state me.0 (flipped (state_in me.0) (own_in me.1)), behind_handles me.1)
+    me' ≡ (with_state me.0 (flipped (state_in me.0) (own_in me.1)), behind_replies me.1)
 
 -- a seat at a stage
 abbrev pub staged : SeatState → ℕ → SeatState
@@ -252,7 +255,7 @@ staged p stage = record p { stage = stage }
 abbrev pub pins : Step Slot → At → ℕ → At → Type 0
 pins st me e me' = me' ≡ (with_state me.0 (staged (state_in me.0) 1), me.1)
 
--- A seat has all of the history in sight after so many flips, and what lies there shows it.
+-- A seat has all of the history in sight by what it found in HEAD, and what lies there shows it.
 pub record SeesAll (v w : Knowledge) (found : ℕ) (x : Slot) : Type 0 where
   pub history : History
   pub after : w ≡ with_state v

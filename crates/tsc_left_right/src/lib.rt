@@ -6,23 +6,23 @@
 //!
 //! ```text
 //!  seat 0: epoch, request word | two handles, request slot    writer lock    writer's state
-//!  seat 1: epoch, request word | two handles, request slot    HEAD: flips    active copy
-//!  ..                                                         SERVED: bits   standby copy, lagging
+//!  seat 1: epoch, request word | two handles, request slot    HEAD: side,    active copy
+//!  ..                                                         answer bits    standby copy, lagging
 //!
 //!  reader: pin (epoch odd), read HEAD, read by the handle on side HEAD % 2, unpin (epoch even)
 //!  writer: lock, wait for readers of the other side, change that copy, install handles on it,
-//!          HEAD + 1, answers into request slots, SERVED, unlock
-//!  others: request into the own slot, toggle the own word, wait until the bit of SERVED is equal
+//!          lay replies into request slots, HEAD with the other side and answer bits, unlock
+//!  others: request into the own slot, toggle the own word, wait until the bit of HEAD is equal
 //! ```
 //!
 //! It departs from the paper in four ways:
 //!
 //! - Each seat has handles of its own, so a reader writes nothing that another one reads.
-//! - HEAD is both indexes of the paper at once. Its parity is the active side, and its store is the
-//!   linearization point of all Adds of a batch.
+//! - HEAD is both indexes of the paper at once. Its lowest bit is the active side, and the store
+//!   that turns it is the linearization point of all Adds of a batch.
 //! - The writer changes one copy a batch. The other one catches up before the next batch.
-//! - The writer makes what other seats ask for, as in *flat combining*, and tells all of them by
-//!   one store of SERVED.
+//! - The writer makes what other seats ask for, as in *flat combining*, and the same store of HEAD
+//!   gives all of them their replies.
 //!
 //! What the functions are for:
 //!
@@ -31,12 +31,13 @@
 //! - [`read_max`], [`read_floor`] and [`read_figures`] read the active copy.
 //! - [`acquire`] tries to acquire the writer lock. [`clear`] looks whether the next reader has left
 //!   the standby copy.
-//! - The writer then changes the standby copy. [`install_handles`] lays handles on it, [`publish`]
-//!   swaps the copies, and [`release`] releases the lock.
+//! - The writer then changes the standby copy. [`install_handles`] lays handles on it, and
+//!   [`publish`] swaps the copies. [`release`] releases the lock where nothing is published.
 //! - [`fetch`], [`post`], [`hear`] and [`rest`] ask for an Add, and [`withdraw`] takes a request
 //!   back.
-//! - [`collect`] takes a request, [`answer`] replies to it, and [`send_back`] leaves it to its
-//!   seat.
+//! - [`collect`] takes a request, and [`send_back`] leaves it to its seat. [`tell`] says so where
+//!   nothing is published. By [`answer_bit`] a seat that acquires the lock sees whether its own
+//!   request was answered.
 //! - [`new_front`] says what a seat has seen. By [`catch_up`] and [`see_newest`] a seat sees more.
 //!
 //! What holds between any two steps of any threads is one rule (`specs/Rule.antt`), and each step
@@ -57,9 +58,10 @@ mod writing;
 pub use closing::{close, merge};
 pub use fronts::{catch_up, new_front, see_newest};
 pub use opening::{new_replicas, split_off};
+pub use places::answer_bit;
 pub use reading::{read_figures, read_floor, read_max};
 pub use requesting::{Heard, fetch, hear, post, rest, withdraw};
-pub use serving::{answer, collect, send_back};
+pub use serving::{collect, send_back, tell};
 pub use table::{
     Collected, Knowledge, Lagging, LeftRight, MadeAdd, MarkList, Participant, ReadHandle, Replicas,
     Reply, SeatState, Setup, SharedReplicas, Slot, UnappliedAdd, WriterState,

@@ -19,7 +19,7 @@ use std::sync::Arc;
 use tsc_cache::{Cache, TimestampCache};
 use tsc_time::NoMemory;
 
-/// The words: that of the writer lock, HEAD, SERVED, and two of each seat.
+/// The words: that of the writer lock, HEAD, and two of each seat.
 fn blank_words(alloc: Global, seats: u32) -> Result<Vec<u64>, NoMemory>
     ensures { IfOk result (λ words. words.items ≡ replicate (word_count seats) 0) }
 {
@@ -73,8 +73,7 @@ fn new_state(alloc: Global, setup: &Setup) -> Result<Box<WriterState>, NoMemory>
         standby: Some(standby),
         lagging: Lagging { own: None, others },
         length: 0,
-        flips: 0,
-        served: 0,
+        head: 0,
     };
     Ok(Box::new(alloc, state)?)
 }

@@ -1,35 +1,49 @@
 //! Where the words and the slots are.
 ghost use Rattle.std.specs.Prelude.{◌≡◌, ℕ, ◌+◌, ◌/◌, ◌<◌, ◌≤◌};
-ghost use Rattle.tsc_left_right.specs.declared.places.TheConstants.{HEAD, SERVED};
+ghost use Rattle.tsc_left_right.specs.declared.places.TheConstants.{HEAD};
 ghost use Rattle.tsc_left_right.specs.Rule.{epoch_word, request_word, side_slot, request_slot};
-ghost use Rattle.tsc_left_right.specs.Rule.{word_count, slot_count};
+ghost use Rattle.tsc_left_right.specs.Rule.{word_count, slot_count, turned_answer, answer_bit};
 ghost use Rattle.tsc_left_right.specs.Steps.{has_left};
 
-/// The word with the number of flips.
+/// The word with the side of the active copy, and a bit for each of the first 63 seats, which is
+/// its toggle once its request is answered.
 pub(crate) const HEAD: usize = 16;
 
-/// The word with a bit for each seat, which is its toggle once its request is answered.
-pub(crate) const SERVED: usize = 32;
+/// HEAD with the bit of a seat turned.
+pub(crate) fn turned_answer(head: u64, seat: u32) -> u64
+    requires { seat < 63 }
+    ensures { result ≡ turned_answer head seat }
+{
+    head ^ 1 << (seat + 1)
+}
+
+/// HEAD's bit of a seat.
+pub fn answer_bit(head: u64, seat: u32) -> u64
+    requires { seat < 63 }
+    ensures { result ≡ answer_bit head seat }
+{
+    head >> (seat + 1) & 1
+}
 
 /// The word with the epoch of a seat. It lies sixteen words of eight bytes or more above each epoch
-/// before, and above SERVED. So no two of these share a line of 128 bytes.
+/// before, and above HEAD. So no two of these share a line of 128 bytes.
 pub(crate) fn epoch_word(seat: u32) -> usize
     ensures value { result ≡ epoch_word seat }
     ensures apart { (before : ℕ) → before < seat → epoch_word before + 16 ≤ result }
-    ensures head { (16 ≤ HEAD) × (HEAD + 16 ≤ SERVED) × (SERVED + 16 ≤ result) }
+    ensures head { (16 ≤ HEAD) × (HEAD + 16 ≤ result) }
 {
-    152 * (seat as usize / 8) + 16 * (seat as usize % 8) + 72
+    152 * (seat as usize / 8) + 16 * (seat as usize % 8) + 56
 }
 
 /// The request word of a seat. Those of eight seats lie side by side, sixteen words or more from
-/// SERVED and from each epoch. The writer reads them one after another.
+/// HEAD and from each epoch. The writer reads them one after another.
 pub(crate) fn request_word(seat: u32) -> usize
     ensures value { result ≡ request_word seat }
     ensures above { (other : ℕ) → other / 8 < seat / 8 → epoch_word other + 16 ≤ result }
     ensures below { (other : ℕ) → seat / 8 ≤ other / 8 → result + 16 ≤ epoch_word other }
-    ensures served { SERVED + 16 ≤ result }
+    ensures head { HEAD + 16 ≤ result }
 {
-    152 * (seat as usize / 8) + seat as usize % 8 + 48
+    152 * (seat as usize / 8) + seat as usize % 8 + 32
 }
 
 /// How many words there are for so many seats: fifteen or more behind the last epoch.
@@ -37,7 +51,7 @@ pub(crate) fn word_count(seats: u32) -> usize
     ensures value { result ≡ word_count seats }
     ensures room { (seat : ℕ) → seat < seats → epoch_word seat + 16 ≤ result }
 {
-    19 * seats as usize + 69
+    19 * seats as usize + 53
 }
 
 /// The slot of a seat on a side. It lies eight slots of sixteen bytes or more above each of a seat

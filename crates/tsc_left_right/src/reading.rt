@@ -24,9 +24,9 @@ pub(crate) fn pin(shared: &SharedReplicas, who: &mut Participant, number: u32) -
     requires number { IsNumber who.old.me.0 number }
     ensures table { who.new.table_id ≡ who.old.table_id }
     ensures small { result < 2 }
-    ensures sees { (x : Slot) × (flips : ℕ) × (result ≡ active_side flips)
+    ensures sees { (x : Slot) × (head : ℕ) × (result ≡ active_side head)
         × (who.new.me.1 ≡ (side_slot number result, x) ∷ []) × SeesAll who.old.me.0 who.new.me.0
-        flips x }
+        head x }
 {
     shared.fetch_add::<Pin>(who, epoch_word(number), 1);
     shared.load::<ReadHead>(who, HEAD) % 2

@@ -1,7 +1,7 @@
 //! What a seat does that asks the writer for an Add: it posts a request, and hears what became of
 //! it.
 //!
-//! SERVED has 64 bits, so only the first 64 seats can ask.
+//! HEAD has 64 bits, of which one is the side, so only the first 63 seats can ask.
 ghost use Rattle.std.specs.Prelude.{◌≡◌, ◌∷◌, ◌<◌, ◌-◌, true, false};
 ghost use Rattle.atomic_table.specs.Table.{rest};
 ghost use Rattle.tsc_left_right.specs.declared.table.Slot.{Slot};
@@ -13,7 +13,7 @@ ghost use Rattle.tsc_left_right.specs.Requesting.{MayFetch, HasFetched, MayPost,
 ghost use Rattle.tsc_left_right.specs.Requesting.{MayWithdraw, IsWithdrawn, HasHeard};
 ghost use Rattle.tsc_left_right.specs.Requesting.{fetched_in, posted_in};
 
-use crate::places::{SERVED, request_slot, request_word};
+use crate::places::{HEAD, answer_bit, request_slot, request_word};
 use crate::steps::{Fetch, Hear, Post, Rest, Withdraw};
 use crate::table::{Participant, Reply, SharedReplicas, Slot, UnappliedAdd};
 
@@ -101,13 +101,13 @@ pub fn withdraw(
 pub fn hear(shared: &SharedReplicas, who: &mut Participant, number: u32, toggle: u64) -> Heard
     requires of { IsOf who.old shared.now.table_id }
     requires posted { (add : UnappliedAdd) × HasPosted who.old.me add }
-    requires number { (number ≡ number_of who.old.me.0) × (number < 64) }
+    requires number { (number ≡ number_of who.old.me.0) × (number < 63) }
     requires toggle { toggle ≡ (state_in who.old.me.0).toggle }
     ensures table { who.new.table_id ≡ who.old.table_id }
     ensures heard { HasHeard who.old.me who.new.me result }
 {
-    let served = shared.load::<Hear>(who, SERVED);
-    if served >> number & 1 != toggle {
+    let head = shared.load::<Hear>(who, HEAD);
+    if answer_bit(head, number) != toggle {
         return Heard::Waiting;
     }
     match shared.exchange(who, request_slot(number), Slot::Empty) {

@@ -29,7 +29,8 @@ impl Play<Slot, Knowledge> for Clear {
     ghost then = { clears };
 }
 
-/// The writer makes its own Add and those that it has collected, and the copies are swapped.
+/// The writer makes its own Add and those that it has collected, the copies are swapped, and each
+/// seat whose Add was made has its reply.
 pub(crate) struct Publish;
 
 impl Play<Slot, Knowledge> for Publish {
@@ -138,12 +139,12 @@ impl Play<Slot, Knowledge> for PutBack {
 }
 
 /// The writer tells all seats whose slots it has laid back.
-pub(crate) struct Serve;
+pub(crate) struct Tell;
 
-impl Play<Slot, Knowledge> for Serve {
-    ghost use Rattle.tsc_left_right.specs.RequestSteps.{serves};
+impl Play<Slot, Knowledge> for Tell {
+    ghost use Rattle.tsc_left_right.specs.RequestSteps.{tells};
 
-    ghost then = { serves };
+    ghost then = { tells };
 }
 
 /// The first state goes to a participant of its own.

@@ -58,10 +58,8 @@ pub struct WriterState {
     pub lagging: Lagging,
     /// How many Adds there were.
     pub length: u64,
-    /// How many flips there were: HEAD.
-    pub flips: u64,
-    /// The bits that SERVED is to have.
-    pub served: u64,
+    /// What HEAD is, or is to be once seats are told that their requests came back.
+    pub head: u64,
 }
 
 /// What the writer answers a seat whose Add it has made.
@@ -90,12 +88,10 @@ pub enum Slot {
     Answer(Reply),
 }
 
-/// A request that the writer has collected, and what stands before its Add once that is made. No
-/// value of it is made.
+/// A request that the writer has collected. No value of it is made.
 pub struct Collected {
     pub seat: u32,
     pub add: UnappliedAdd,
-    pub before: Option<LinkedList<Entry>>,
 }
 
 /// What is known of a seat. No value of it is made.
@@ -116,12 +112,12 @@ pub struct SeatState {
     /// one.
     pub cleared: u64,
     pub watched: Option<u64>,
-    /// Of the writer: the whole history, the number of flips, which requests it has collected, and
-    /// which bits SERVED is to have.
+    /// Of the writer: the whole history, HEAD, what HEAD is to be once seats are told that their
+    /// requests came back, and which requests it has collected.
     pub history: LinkedList<Entry>,
-    pub flips: u64,
+    pub head: u64,
+    pub plan: u64,
     pub collected: LinkedList<Collected>,
-    pub served: u64,
 }
 
 /// What a participant knows: the states of the seats that it keeps, and the history that its front
@@ -148,10 +144,13 @@ impl TableRule<Slot, Knowledge, Setup> for LeftRight {
 /// Both copies, with the words and slots by which seats reach them.
 ///
 /// Word 0 is 0 where the writer lock is free, and else one more than the number of the seat that
-/// holds it. Word 16 is HEAD, and word 32 SERVED. Then come, for each eight seats, their request
-/// words, side by side, and their epochs, each with a line of its own. Slot 0 is the writer's, slot
-/// 16 * s + 8 * k + 8 that of seat s on side k, and slot 16 * s + 9 that of its request. Sixteen
-/// words are 128 bytes, and so are fewer than eight slots (`places.rt`).
+/// holds it. Word 16 is HEAD. Then come, for each eight seats, their request words, side by side,
+/// and their epochs, each with a line of its own. Slot 0 is the writer's, slot 16 * s + 8 * k + 8
+/// that of seat s on side k, and slot 16 * s + 9 that of its request. Sixteen words are 128 bytes,
+/// and so are fewer than eight slots (`places.rt`).
+///
+/// The lowest bit of HEAD is the side of the active copy, and bit s + 1 is the toggle of seat s
+/// once its request is answered.
 pub type Replicas = Table<Slot, Knowledge, Setup, LeftRight, Global>;
 
 /// The same as threads share them.

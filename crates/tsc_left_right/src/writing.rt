@@ -1,21 +1,24 @@
 //! What a writer does: it acquires the writer lock, waits until each reader has left the standby
 //! copy, installs handles on that copy, publishes, and releases the lock.
 //!
-//! What it does for other seats stands in `serving.rt`.
+//! How it collects requests and sends them back stands in `serving.rt`.
 ghost use Rattle.std.specs.Prelude.{◌≡◌, [], ◌+◌, length, None, Some, IfSome};
-ghost use Rattle.std.specs.Prelude.{IfNone, true};
+ghost use Rattle.std.specs.Prelude.{IfNone, true, List};
+ghost use Rattle.tsc_cache.specs.History.{History};
+ghost use Rattle.tsc_left_right.specs.declared.table.Setup.{Setup};
+ghost use Rattle.tsc_left_right.specs.declared.table.Collected.{Collected};
 ghost use Rattle.std.specs.Arc.{arc_value};
 ghost use Rattle.tsc_left_right.specs.Rule.{standby_side};
-ghost use Rattle.tsc_left_right.specs.Steps.{state_in, own_of, number_of};
-ghost use Rattle.tsc_left_right.specs.Writing.{LaidAs, rotated};
+ghost use Rattle.tsc_left_right.specs.Steps.{state_in, own_of, number_of, grown, answered_head};
+ghost use Rattle.tsc_left_right.specs.Writing.{LaidAs, rotated, Hand, HasUnanswered, HasAnswered};
 ghost use Rattle.tsc_left_right.specs.Participating.{IsOf, IsFree, IsNext, IsWriting};
 ghost use Rattle.tsc_left_right.specs.Participating.{HasAcquired, HasInstalled, IsReady};
 ghost use Rattle.tsc_left_right.specs.Participating.{MayRelease};
-ghost use Rattle.tsc_left_right.specs.Participating.{hand_of, published_in, released_in};
+ghost use Rattle.tsc_left_right.specs.Participating.{published_in, released_in};
 
-use crate::places::{HEAD, SERVED, epoch_word, has_left, side_slot};
-use crate::steps::{Acquire, Clear, Publish, Release, Serve};
-use crate::table::{Participant, ReadHandle, SharedReplicas, Slot, WriterState};
+use crate::places::{HEAD, epoch_word, has_left, request_slot, side_slot, turned_answer};
+use crate::steps::{Acquire, Clear, Publish, Release};
+use crate::table::{MadeAdd, Participant, ReadHandle, Reply, SharedReplicas, Slot, WriterState};
 use std::sync::Arc;
 use tsc_cache::Cache;
 
@@ -101,7 +104,7 @@ pub fn install_handles(
 ) -> bool
     requires of { IsOf who.old shared.now.table_id }
     requires cleared { IsWriting who.old.me.0 who.old.me cleared.0 None }
-    requires counts { (cleared.1 ≡ standby_side (state_in who.old.me.0).flips)
+    requires counts { (cleared.1 ≡ standby_side (state_in who.old.me.0).head)
         × (requests ≡ length (state_in who.old.me.0).collected) }
     ensures table { who.new.table_id ≡ who.old.table_id }
     ensures cleared { IsWriting who.old.me.0 who.new.me cleared.0 None }
@@ -121,41 +124,62 @@ pub fn install_handles(
     all
 }
 
-/// Makes the writer's own Add, if there is one, and then all that it has collected, in the order in
-/// which it has collected them. From then on lookups read the copy on which the handles are.
-pub fn publish(
+/// Lays a reply into the slot of each request whose Add was made, the last first. `adds` counts all
+/// Adds then. The result is `plan` with the bit of each of these seats turned.
+fn lay_replies(
     shared: &SharedReplicas,
     who: &mut Participant,
-    state: Box<WriterState>,
-    requests: usize,
-) -> Box<WriterState>
+    others: &[MadeAdd],
+    adds: u64,
+    plan: u64,
+) -> u64
+    requires of { IsOf who.old shared.now.table_id }
+    requires made { (t : Setup) × (h : History) × (xs : List Collected) × (others' : Hand)
+        × HasUnanswered t h xs others' who.old.me others.now × (adds ≡ length (grown h xs)) }
+    ensures table { who.new.table_id ≡ who.old.table_id }
+    ensures answered { (t : Setup) (h : History) (xs : List Collected) (others' : Hand)
+        → HasUnanswered t h xs others' who.old.me others.now → adds ≡ length (grown h xs)
+        → HasAnswered t h xs others' who.old.me.0 who.new.me
+        × (result ≡ answered_head plan xs) }
+{
+    let mut head = plan;
+    for done in 0..others.len() {
+        let made = &others[others.len() - 1 - done];
+        let place = adds - 1 - done as u64;
+        let reply = Reply {
+            place,
+            kept: made.kept,
+        };
+        shared.exchange(who, request_slot(made.seat), Slot::Answer(reply));
+        who.turn();
+        head = turned_answer(head, made.seat);
+    }
+    head
+}
+
+/// Makes the writer's own Add, if there is one, and then all that it has collected, in that order.
+/// It then releases the writer lock. Lookups read the copy on which the handles are, and each seat
+/// whose Add was made has its reply.
+pub fn publish(shared: &SharedReplicas, who: &mut Participant, state: Box<WriterState>)
     requires of { IsOf who.old shared.now.table_id }
     requires installed { HasInstalled who.old.me.0 who.old.me (arc_value state.value.active)
         state.value.length who.old.me.0.setup.seats }
-    requires requests { requests ≡ length (state_in who.old.me.0).collected }
     requires ready { IsReady who.old.me.0 state.value }
     ensures table { who.new.table_id ≡ who.old.table_id }
-    ensures published { (result ≡ state)
-        × (who.new.me ≡ (
-          published_in who.old.me.0 (own_of state.value),
-          hand_of (state_in who.old.me.0).collected [],
-        )) }
+    ensures published { who.new.me
+        ≡ (released_in (published_in who.old.me.0 (own_of state.value)), []) }
 {
-    let flips = state.flips;
-    turn_past(who, requests);
+    let mut state = state;
+    let others = state.lagging.others.as_slice();
+    let head = lay_replies(shared, who, others, state.length, state.head) ^ 1;
+    state.head = head;
     shared.exchange(who, 0, Slot::Writer(state));
     who.turn();
-    shared.store::<Publish>(who, HEAD, flips);
-    turn_past(who, requests);
-    let Slot::Writer(state) = shared.exchange(who, 0, Slot::Empty) else {
-        unreachable!()
-    };
-    who.turn();
-    state
+    shared.store::<Publish>(who, HEAD, head);
+    shared.store::<Release>(who, 0, 0);
 }
 
-/// Tells all seats whose requests were answered or sent back, and releases the writer lock. The
-/// result is how many Adds there are.
+/// Releases the writer lock. The result is how many Adds there are.
 pub fn release(shared: &SharedReplicas, who: &mut Participant, state: Box<WriterState>) -> u64
     requires of { IsOf who.old shared.now.table_id }
     requires may { MayRelease who.old.me state.value }
@@ -164,9 +188,7 @@ pub fn release(shared: &SharedReplicas, who: &mut Participant, state: Box<Writer
     ensures length { result ≡ length (state_in who.old.me.0).history }
 {
     let length = state.length;
-    let served = state.served;
     shared.exchange(who, 0, Slot::Writer(state));
-    shared.store::<Serve>(who, SERVED, served);
     who.turn();
     shared.store::<Release>(who, 0, 0);
     length

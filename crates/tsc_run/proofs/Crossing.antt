@@ -6,7 +6,7 @@ use Rattle.tsc_time.specs.contracts.timestamp.Timestamp.{the_row as timestamp}
 use Rattle.tsc_time.specs.contracts.value.Value.{the_row as value}
 use Rattle.tsc_cache.proofs.Crossing.{span_syncs}
 use Rattle.tsc_trace_format.specs.contracts.trace.Call.{the_row as call}
-use Rattle.tsc_trace.specs.contracts.log.Said.{the_row as said}
+use Rattle.tsc_trace.specs.contracts.log.CallAnswer.{the_row as said}
 use Rattle.tsc_trace.specs.contracts.log.Line.{the_row as line}
 use Rattle.tsc_shared.proofs.Crossing.{seat_sends}
 use Rattle.tsc_run.specs.contracts.fault.RunFault.{the_row as fault}

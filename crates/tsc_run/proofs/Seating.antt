@@ -11,7 +11,7 @@ use Rattle.tsc_trace_format.specs.Calls.{adds, call_fits}
 use Rattle.tsc_trace_format.specs.Traces.{EachFits}
 use Rattle.tsc_trace_format.specs.declared.trace.Call.{Call}
 use Rattle.tsc_trace.specs.declared.log.Line.{Line}
-use Rattle.tsc_trace.specs.declared.log.Said.{Said}
+use Rattle.tsc_trace.specs.declared.log.CallAnswer.{CallAnswer}
 use Rattle.tsc_check.specs.TrueLog.{adds_of_list, adds_of_lists}
 use Rattle.tsc_shared.specs.Seats.{SharedView, SeatView, new_seat, new_seats}
 use Rattle.tsc_shared.specs.Answers.{GoesOn, Closes}
@@ -19,7 +19,7 @@ use Rattle.tsc_shared.specs.declared.answers.Closed.{Closed}
 use Rattle.tsc_run.specs.declared.fault.RunFault.{RunFault}
 use Rattle.tsc_run.specs.declared.fault.RunFault.TheVariants as fault
 use Rattle.tsc_run.specs.Ending.{CanEndRun}
-use Rattle.tsc_run.specs.Runs.{AnswersCall, IsRefusedAs, Runs, RunsAll, Told, StopsList, EndsList, IsFullEarly, StopsLists, EndsLists, Joins, counted}
+use Rattle.tsc_run.specs.Runs.{AnswersCall, IsRefusedAs, Runs, RunsAll, RunResult, StopsList, EndsList, IsFullEarly, StopsLists, EndsLists, Joins, counted}
 use Rattle.tsc_run.proofs.Running.{left_from, one_list_more, calls_in}
 use Rattle.tsc_run.proofs.Truth.{count_after}
 
@@ -38,7 +38,8 @@ adds_left calls index call within here = ap adds_of_list (left_from calls index 
 
 -- one call more
 pub one_less_left : (start seat seat' : SeatView) (calls : List Call) (index : ℕ) (call : Call)
-    (answer : Said) → index < length calls → call ≡ get_or calls index call → GoesOn seat seat' →
+    (answer : CallAnswer) → index < length calls → call ≡ get_or calls index call →
+    GoesOn seat seat' →
     AnswersCall seat seat' call answer
     → IsLeft start calls seat index → IsLeft start calls seat' (index + 1)
 one_less_left start seat seat' calls index call answer within here goes says left =
@@ -154,7 +155,7 @@ module _ (cache : SharedView) (others : List (List Call)) (calls : List Call)
   others_stopped fault.Gone stopped few = absurd stopped
   others_stopped fault.NoThread stopped few = absurd stopped
 
-  both_ran : (told more joined : Told) → Joins told more joined →
+  both_ran : (told more joined : RunResult) → Joins told more joined →
       IfOk told (λ lines. RunsAll cache 0 others lines.items seats) →
       IfOk more (λ lines. Runs (new_seat cache (length others)) 0 calls lines.items seat)
       → IfOk joined (λ lines. RunsAll cache 0 all_lists lines.items all_seats)
@@ -164,13 +165,13 @@ module _ (cache : SharedView) (others : List (List Call)) (calls : List Call)
       (subst (λ n. Runs (new_seat cache n) 0 calls more.items seat) (omega arith) run))
   both_ran (Ok told) (Ok more) (Err why) same runs run = tt
   both_ran (Ok told) (Err why) joined same runs run =
-      subst (λ (t : Told). IfOk t (λ lines. RunsAll cache 0 all_lists lines.items all_seats))
+      subst (λ (t : RunResult). IfOk t (λ lines. RunsAll cache 0 all_lists lines.items all_seats))
       (sym same) tt
   both_ran (Err why) more joined same runs run =
-      subst (λ (t : Told). IfOk t (λ lines. RunsAll cache 0 all_lists lines.items all_seats))
+      subst (λ (t : RunResult). IfOk t (λ lines. RunsAll cache 0 all_lists lines.items all_seats))
       (sym same) tt
 
-  one_stopped : (told more joined : Told) → Joins told more joined →
+  one_stopped : (told more joined : RunResult) → Joins told more joined →
       IfErr told (λ why. StopsLists why cache others seats) →
       IfErr more (λ why. StopsList why (new_seat cache (length others)) calls seat)
       → counted seats ≤ adds_of_lists others → seat.count ≤ adds_of_list calls →
@@ -179,13 +180,13 @@ module _ (cache : SharedView) (others : List (List Call)) (calls : List Call)
   one_stopped (Ok told) (Ok more) (Err why) same stop stopped few own =
       subst (λ w. StopsLists w cache all_lists all_seats) (sym same) tt
   one_stopped (Ok told) (Err why) joined same stop stopped few own =
-      subst (λ (t : Told). IfErr t (λ w. StopsLists w cache all_lists all_seats)) (sym same)
+      subst (λ (t : RunResult). IfErr t (λ w. StopsLists w cache all_lists all_seats)) (sym same)
       (list_stopped why stopped few)
   one_stopped (Err why) more joined same stop stopped few own =
-      subst (λ (t : Told). IfErr t (λ w. StopsLists w cache all_lists all_seats)) (sym same)
+      subst (λ (t : RunResult). IfErr t (λ w. StopsLists w cache all_lists all_seats)) (sym same)
       (others_stopped why stop own)
 
-  list_joined : (told more joined : Told) → EndsLists cache others told seats →
+  list_joined : (told more joined : RunResult) → EndsLists cache others told seats →
       EndsList (new_seat cache (length others)) calls more seat → Joins told more joined →
       EndsLists cache all_lists joined all_seats
   list_joined told more joined ends end same = record {
@@ -222,7 +223,7 @@ no_lists cache (calls ∷ lists) lines before seats new parted none empty =
 
 -- the runs with that of the last list
 pub one_list_joined : (cache : SharedView) (lists others : List (Vec Call Global))
-    (calls : List Call) (told more joined : Told) (seats seats' : List SeatView)
+    (calls : List Call) (told more joined : RunResult) (seats seats' : List SeatView)
     (from seat : SeatView)
     → calls_in lists ≡ calls_in others ++ calls ∷ [] → from ≡ new_seat cache (length others) →
     EndsLists cache (calls_in others) told seats → EndsList from calls more seat →

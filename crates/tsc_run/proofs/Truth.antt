@@ -14,8 +14,8 @@ use Rattle.tsc_trace_format.specs.declared.trace.Call.TheVariants.{Add, Batch, G
 use Rattle.tsc_trace_format.specs.Traces.{Trace}
 use Rattle.tsc_trace.specs.Log.{made, said_after, entry_after, with_addition, after_call}
 use Rattle.tsc_trace.specs.declared.log.Line.{Line}
-use Rattle.tsc_trace.specs.declared.log.Said.{Said}
-use Rattle.tsc_trace.specs.declared.log.Said.TheVariants as said
+use Rattle.tsc_trace.specs.declared.log.CallAnswer.{CallAnswer}
+use Rattle.tsc_trace.specs.declared.log.CallAnswer.TheVariants as said
 use Rattle.tsc_check.specs.Verdict.{reach}
 use Rattle.tsc_check.specs.TrueLog.{AreTrueLines, AreTrueLists, IsRunOf, adds_of_list, adds_of_lists}
 use Rattle.tsc_shared.specs.Seats.{SharedView, SeatView, new_seat}
@@ -28,13 +28,13 @@ use Rattle.tsc_run.specs.Runs.{AnswersCall, Runs, RunsAll}
 
 -- ---- each line
 
-same_line : (line : Line) (thread index : ℕ) (answer : Said) → line.thread ≡ thread →
+same_line : (line : Line) (thread index : ℕ) (answer : CallAnswer) → line.thread ≡ thread →
     line.index ≡ index → line.said ≡ answer →
     line ≡ record { thread = thread; index = index; said = answer }
 same_line line thread index answer a b c =
     ap (λ (t : ℕ). record { thread = t; index = line.index; said = line.said }) a ∙
     ap (λ (i : ℕ). record { thread = thread; index = i; said = line.said }) b
-    ∙ ap (λ (s : Said). record { thread = thread; index = index; said = s }) c
+    ∙ ap (λ (s : CallAnswer). record { thread = thread; index = index; said = s }) c
 
 -- an addition whose answer has this place, after a first part of what its seat has seen then
 record IsTaken (old mid : SeatView) (a : Addition) (receipt : Receipt) : Type 0 where
@@ -68,7 +68,7 @@ taken old mid a receipt goes acc =
 
 -- What a call was answered is what it answers after a first part of what its seat has seen then,
 -- and reaches just what it has seen then.
-record IsTold (old mid : SeatView) (call : Call) (answer : Said) : Type 0 where
+record IsTold (old mid : SeatView) (call : Call) (answer : CallAnswer) : Type 0 where
   before : History
   told : answer ≡ said_after old.cache.config before call
   part : BeginsWith mid.seen (after_call old.number before call)
@@ -76,7 +76,7 @@ record IsTold (old mid : SeatView) (call : Call) (answer : Said) : Type 0 where
   reached : reach answer ≡ length mid.seen
   count : mid.count ≡ old.count + cond (adds call) 1 0
 
-is_told : (old mid : SeatView) (call : Call) (answer : Said) → GoesOn old mid →
+is_told : (old mid : SeatView) (call : Call) (answer : CallAnswer) → GoesOn old mid →
     AnswersCall old mid call answer → IsTold old mid call answer
 is_told old mid (Add span value now) (said.Add place added) goes says =
     let t = taken old mid (one_mark span value now)
@@ -123,7 +123,7 @@ is_told old mid Low (said.Low front time) goes says = record {
 is_told old mid call answer goes says = absurd says
 
 -- an Add that is accepted counts
-pub count_after : (old mid : SeatView) (call : Call) (answer : Said) → GoesOn old mid →
+pub count_after : (old mid : SeatView) (call : Call) (answer : CallAnswer) → GoesOn old mid →
     AnswersCall old mid call answer → mid.count ≡ old.count + cond (adds call) 1 0
 count_after old mid call answer goes says = (is_told old mid call answer goes says).count
 

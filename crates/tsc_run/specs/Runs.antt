@@ -3,7 +3,7 @@ use Rattle.std.specs.Prelude.{◌≡◌, ◌<◌, ◌≤◌, ℕ, suc, ◌+◌, 
 use Rattle.std.specs.List.{Contains, sum_by}
 use Rattle.std.specs.declared.alloc.Global.{Global}
 use Rattle.tsc_shared.specs.Seats.{SharedView, SeatView, FrontView, new_seat, new_seats}
-use Rattle.tsc_shared.specs.Answers.{GoesOn, Accepts, Looks, ReadsFloor}
+use Rattle.tsc_shared.specs.Answers.{GoesOn, Accepts, AnswersLookup, ReadsFloor}
 use Rattle.tsc_cache.specs.declared.added.Added.{Added}
 use Rattle.tsc_trace_format.specs.Calls.{Addition, adds, one_mark, several_marks}
 use Rattle.tsc_trace_format.specs.Limits.{most_calls}
@@ -11,8 +11,8 @@ use Rattle.tsc_trace_format.specs.Traces.{AllFit, EachFits}
 use Rattle.tsc_trace_format.specs.declared.trace.Call.{Call}
 use Rattle.tsc_trace_format.specs.declared.trace.Call.TheVariants.{Add, Batch, Get, Low}
 use Rattle.tsc_trace.specs.declared.log.Line.{Line}
-use Rattle.tsc_trace.specs.declared.log.Said.{Said}
-use Rattle.tsc_trace.specs.declared.log.Said.TheVariants as said
+use Rattle.tsc_trace.specs.declared.log.CallAnswer.{CallAnswer}
+use Rattle.tsc_trace.specs.declared.log.CallAnswer.TheVariants as said
 use Rattle.tsc_check.specs.TrueLog.{adds_of_list, adds_of_lists}
 use Rattle.tsc_run.specs.declared.fault.RunFault.{RunFault}
 use Rattle.tsc_run.specs.declared.fault.RunFault.TheVariants as fault
@@ -24,13 +24,13 @@ AcceptsAs old new a place added = (front : FrontView) ×
 
 -- What is said of a call is what the shared cache answered, where the seat was as the first before
 -- and is as the second then.
-abbrev pub AnswersCall : SeatView → SeatView → Call → Said → Type 0
+abbrev pub AnswersCall : SeatView → SeatView → Call → CallAnswer → Type 0
 AnswersCall old new (Add span value now) (said.Add place added) =
     AcceptsAs old new (one_mark span value now) place added
 AnswersCall old new (Batch marks now) (said.Batch place added) =
     AcceptsAs old new (several_marks marks now) place added
 AnswersCall old new (Get span) (said.Get front value) =
-    Looks old new span (record { value = value; front = front })
+    AnswersLookup old new span (record { value = value; front = front })
 AnswersCall old new Low (said.Low front time) = ReadsFloor old new (record { time = time; front = front })
 AnswersCall old new call said = ⊥
 
@@ -78,8 +78,8 @@ RunsAll cache thread (calls ∷ lists) lines (seat ∷ seats) =
 RunsAll cache thread lists lines seats = ⊥
 
 -- what a run comes to: its lines, or why it ended early
-abbrev pub Told : Type 0
-Told = Result (Vec Line Global) RunFault
+abbrev pub RunResult : Type 0
+RunResult = Result (Vec Line Global) RunFault
 
 -- Why a list's run ended early, where its seat was as the first before and is as the second then:
 -- one of its Adds found the history full, which the seat has seen; or it is said that memory was
@@ -92,7 +92,7 @@ StopsList other old calls new = ⊥
 
 -- How a list's run ends: its seat is of the same cache and has at most the list's Adds, whatever it
 -- comes to.
-pub record EndsList (old : SeatView) (calls : List Call) (told : Told) (new : SeatView) : Type
+pub record EndsList (old : SeatView) (calls : List Call) (told : RunResult) (new : SeatView) : Type
     0 where
   pub cache : new.cache ≡ old.cache
   pub few : new.count ≤ old.count + adds_of_list calls
@@ -120,7 +120,7 @@ StopsLists other cache lists seats = ⊥
 
 -- How the runs of lists end, each at a new seat of the cache: all seats come back, with at most the
 -- lists' Adds, whatever the runs come to.
-pub record EndsLists (cache : SharedView) (lists : List (List Call)) (told : Told)
+pub record EndsLists (cache : SharedView) (lists : List (List Call)) (told : RunResult)
     (seats : List SeatView) : Type 0 where
   pub of_cache : All (λ (seat : SeatView). seat.cache ≡ cache) seats
   pub as_many : length seats ≡ length lists
@@ -130,7 +130,7 @@ pub record EndsLists (cache : SharedView) (lists : List (List Call)) (told : Tol
 
 -- What some runs and one more come to together: all lines in a row, or why one of them ended early,
 -- or want of memory.
-abbrev pub Joins : Told → Told → Told → Type 0
+abbrev pub Joins : RunResult → RunResult → RunResult → Type 0
 Joins (Ok lines) (Ok more) (Ok all) = all.items ≡ lines.items ++ more.items
 Joins (Ok lines) (Ok more) (Err why) = why ≡ fault.NoMemory
 Joins (Ok lines) (Err stopped) all = all ≡ Err stopped

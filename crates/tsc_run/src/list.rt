@@ -10,7 +10,7 @@ use crate::fault::RunFault;
 use std::alloc::Global;
 use std::sync::Wait;
 use tsc_shared::{AddFault, Gate, Seat, SharedCache};
-use tsc_trace::{Call, Line, Said};
+use tsc_trace::{Call, CallAnswer, Line};
 
 /// What a list's run leaves: its seat, and a line for each of its calls, or why it ended early.
 #[derive(Drop)]
@@ -40,7 +40,7 @@ fn answer<R: Wait, G: Gate>(
     seat: &mut Seat,
     call: &Call,
     gate: &G,
-) -> Result<Said, RunFault>
+) -> Result<CallAnswer, RunFault>
     requires cache { seat.old.cache ≡ cache.now }
     requires fits { call_fits seat.old.cache.config call.now ≡ true }
     ensures seat { GoesOn seat.old seat.new }
@@ -50,7 +50,7 @@ fn answer<R: Wait, G: Gate>(
     match call {
         Call::Add { span, value, now } => {
             match cache.add_gated(rt, seat, span, *value, *now, gate) {
-                Ok(receipt) => Ok(Said::Add {
+                Ok(receipt) => Ok(CallAnswer::Add {
                     place: receipt.place,
                     added: receipt.added,
                 }),
@@ -59,7 +59,7 @@ fn answer<R: Wait, G: Gate>(
         }
         Call::Batch { marks, now } => {
             match cache.add_all_gated(rt, seat, marks.slice(), *now, gate) {
-                Ok(receipt) => Ok(Said::Batch {
+                Ok(receipt) => Ok(CallAnswer::Batch {
                     place: receipt.place,
                     added: receipt.added,
                 }),
@@ -68,14 +68,14 @@ fn answer<R: Wait, G: Gate>(
         }
         Call::Get { span } => {
             let answer = cache.get_max(seat, span)?;
-            Ok(Said::Get {
+            Ok(CallAnswer::Get {
                 front: answer.front,
                 value: answer.value,
             })
         }
         Call::Low => {
             let answer = cache.low_water(seat)?;
-            Ok(Said::Low {
+            Ok(CallAnswer::Low {
                 front: answer.front,
                 time: answer.time,
             })

@@ -16,10 +16,10 @@ use Rattle.uuid.proofs.TextLemmas.{by_index_length, by_index_at}
 use Rattle.uuid.proofs.RoundTrips.{parses_hyphenated}
 use Rattle.tsc_time.specs.Time.{Time, is_in_range}
 use Rattle.tsc_time.specs.OwnedTime.{OwnedTime, Owner, IsMadeOwner, IsMadeValue, owner_of}
-use Rattle.tsc_trace.specs.declared.log.Said.{Said}
-use Rattle.tsc_trace.specs.declared.log.Said.TheVariants as said
-use Rattle.tsc_trace.specs.LogText.{space, dot, time_text, owner_text, said_text, line_text}
-use Rattle.tsc_trace.specs.LogReading.{IsWritable, IsWritableSaid}
+use Rattle.tsc_trace.specs.declared.log.CallAnswer.{CallAnswer}
+use Rattle.tsc_trace.specs.declared.log.CallAnswer.TheVariants as said
+use Rattle.tsc_trace.specs.LogText.{space, dot, time_text, owner_text, answer_text, line_text}
+use Rattle.tsc_trace.specs.LogReading.{IsWritable, IsWritableAnswer}
 use Rattle.tsc_trace.specs.ReadingBack.{IsWithout, ReadsBack, ReadsField}
 use Rattle.tsc_trace.proofs.Cuts.{cut_same, no_cut}
 use Rattle.tsc_trace.proofs.LineTexts.{decimal_without, line_ascii, parts_below, uuid_length, time_without_space, without_by_test}
@@ -266,9 +266,9 @@ pub get_refused : (fields rest : List ℕ) (front : ℕ) →
     ReadsField (λ n. n < 2 ^ 64) decimal fields (Some (front, rest))
     → ((value : OwnedTime) → IsMadeValue value →
     rest ≢ time_text value.time ++ space ∷ owner_text value.owner)
-    → ReadsBack IsWritableSaid said_text (codes "get" ++ space ∷ fields) None
+    → ReadsBack IsWritableAnswer answer_text (codes "get" ++ space ∷ fields) None
 get_refused fields rest front field none = refused where
-  refused : (s : Said) → IsWritableSaid s → codes "get" ++ space ∷ fields ≢ said_text s
+  refused : (s : CallAnswer) → IsWritableAnswer s → codes "get" ++ space ∷ fields ≢ answer_text s
   refused (said.Add place added) h e = let heads : 103 ≡ 97 =
       ap (λ (bytes : List ℕ). get_or bytes 0 0) e in absurd (omega (arith, heads))
   refused (said.Batch place added) h e = let heads : 103 ≡ 98 =
@@ -295,7 +295,7 @@ pub get_read : (fields rest at name : List ℕ) (front : ℕ) (time : Time) (own
     (rest ≡ at ++ space ∷ name)
     → ReadsBack (λ time. is_in_range time ≡ true) time_text at (Some time) →
     ReadsBack IsMadeOwner owner_text name (Some owner)
-    → ReadsBack IsWritableSaid said_text (codes "get" ++ space ∷ fields)
+    → ReadsBack IsWritableAnswer answer_text (codes "get" ++ space ∷ fields)
     (Some (said.Get front (record { time = time; owner = owner })))
 get_read fields rest at name front time owner field cut first second =
     ((field.0, record { time = first.0; owner = second.0 }), found) where
@@ -303,7 +303,7 @@ get_read fields rest at name front time owner field cut first second =
           → said.Get front (record { time = time; owner = owner }) ≡ said.Get n value
       same_value n value fronts times owners = rw (fronts, times, owners) refl
 
-      found : (s : Said) → IsWritableSaid s → codes "get" ++ space ∷ fields ≡ said_text s
+      found : (s : CallAnswer) → IsWritableAnswer s → codes "get" ++ space ∷ fields ≡ answer_text s
           → said.Get front (record { time = time; owner = owner }) ≡ s
       found (said.Add place added) h e = let heads : 103 ≡ 97 =
           ap (λ (bytes : List ℕ). get_or bytes 0 0) e in absurd (omega (arith, heads))
@@ -324,9 +324,9 @@ get_read fields rest at name front time owner field cut first second =
 
 -- an answer has a space
 pub said_needs_a_space : (text : List ℕ) → IsWithout space text →
-    ReadsBack IsWritableSaid said_text text None
+    ReadsBack IsWritableAnswer answer_text text None
 said_needs_a_space text without = refused where
-  refused : (s : Said) → IsWritableSaid s → text ≢ said_text s
+  refused : (s : CallAnswer) → IsWritableAnswer s → text ≢ answer_text s
   refused (said.Add place added) h e = no_cut space (codes "add") _ text without e
   refused (said.Batch place added) h e = no_cut space (codes "batch") _ text without e
   refused (said.Get front value) h e = no_cut space (codes "get") _ text without e
@@ -336,9 +336,9 @@ said_needs_a_space text without = refused where
 pub wrong_word : (text word fields : List ℕ) → IsWithout space word ×
     (text ≡ word ++ space ∷ fields)
     → word ≢ codes "add" → word ≢ codes "batch" → word ≢ codes "get" → word ≢ codes "low" →
-    ReadsBack IsWritableSaid said_text text None
+    ReadsBack IsWritableAnswer answer_text text None
 wrong_word text word fields cut no_add no_batch no_get no_low = refused where
-  refused : (s : Said) → IsWritableSaid s → text ≢ said_text s
+  refused : (s : CallAnswer) → IsWritableAnswer s → text ≢ answer_text s
   refused (said.Add place added) h e =
       no_add (cut_same space word fields (codes "add") _ cut.0 (without_by_test (codes "add") refl)
       (sym cut.1 ∙ e)).0

@@ -1,6 +1,6 @@
 pub mod LogExamples
 pub mod Additions
-pub mod SaidOfCalls
+pub mod AnswersOfCalls
 pub mod Playing
 pub mod ListSteps
 pub mod Cuts

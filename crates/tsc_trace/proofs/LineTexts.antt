@@ -13,10 +13,10 @@ use Rattle.uuid.proofs.TextLemmas.{by_index_length, by_index_at, nibble_small}
 use Rattle.tsc_time.specs.Time.{Time, is_in_range}
 use Rattle.tsc_time.specs.OwnedTime.{Owner}
 use Rattle.tsc_trace.specs.declared.log.Line.{Line}
-use Rattle.tsc_trace.specs.declared.log.Said.{Said}
-use Rattle.tsc_trace.specs.declared.log.Said.TheVariants as said
-use Rattle.tsc_trace.specs.LogText.{space, dot, line_feed, bit_text, time_text, owner_text, said_text, line_text}
-use Rattle.tsc_trace.specs.LogReading.{IsWritable, IsWritableSaid}
+use Rattle.tsc_trace.specs.declared.log.CallAnswer.{CallAnswer}
+use Rattle.tsc_trace.specs.declared.log.CallAnswer.TheVariants as said
+use Rattle.tsc_trace.specs.LogText.{space, dot, line_feed, bit_text, time_text, owner_text, answer_text, line_text}
+use Rattle.tsc_trace.specs.LogReading.{IsWritable, IsWritableAnswer}
 use Rattle.tsc_trace.specs.ReadingBack.{IsWithout}
 
 -- a byte that a line may have: ASCII, and no control character
@@ -123,7 +123,7 @@ owner_plain (Some uuid) = record {
 spaced : {a b : List ℕ} → IsPlainText a → IsPlainText b → IsPlainText (a ++ space ∷ b)
 spaced first second = between space (is_plain 32 refl refl) first second
 
-said_plain : (s : Said) → IsWritableSaid s → IsPlainText (said_text s)
+said_plain : (s : CallAnswer) → IsWritableAnswer s → IsPlainText (answer_text s)
 said_plain (said.Add place added) h =
     spaced (word_plain (codes "add") refl)
     (spaced (decimal_plain place h.0)

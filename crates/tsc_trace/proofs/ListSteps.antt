@@ -7,7 +7,7 @@ use Rattle.tsc_cache.specs.Settings.{Settings}
 use Rattle.tsc_trace.specs.Play.{Standing, said_at, next, next_all, played, played_lists}
 use Rattle.tsc_trace_format.specs.declared.trace.Call.{Call}
 use Rattle.tsc_trace.specs.declared.log.Line.{Line}
-use Rattle.tsc_trace.specs.declared.log.Said.{Said}
+use Rattle.tsc_trace.specs.declared.log.CallAnswer.{CallAnswer}
 use Rattle.tsc_trace.specs.declared.player.Player.{Player}
 use Rattle.tsc_trace.specs.PlayerParts.{StandsAt}
 
@@ -50,7 +50,7 @@ pub record IsUnderWay (old new : Player) (settings : Settings) (thread index : �
 
 -- One more call of the list is answered, and its line is told.
 pub one_more_call : (old mid new : Player) (settings : Settings) (thread index : ℕ)
-    (calls : List Call) (call : Call) (said : Said) (from : Standing) → index < length calls →
+    (calls : List Call) (call : Call) (said : CallAnswer) (from : Standing) → index < length calls →
     call ≡ get_or calls index call
     → ((settings : Settings) (at : Standing) → StandsAt mid settings at →
     said ≡ said_at settings at call)
@@ -68,7 +68,7 @@ one_more_call old mid new settings thread index calls call said from lt is says 
     let line : record { thread = thread; index = index; said = said } ∷
     played settings thread (index + 1) after left ≡ played settings thread index u.at
     (drop index calls)
-    = ap (λ (s : Said). record { thread = thread; index = index; said = s } ∷
+    = ap (λ (s : CallAnswer). record { thread = thread; index = index; said = s } ∷
     played settings thread (index + 1) after left) (says settings u.at u.stands)
     ∙ ap (λ n. record { thread = thread; index = index; said = said_at settings u.at call } ∷
     played settings thread n after left) (add-one index)

@@ -9,7 +9,7 @@ use Rattle.tsc_trace.specs.LogText.{log_text}
 use Rattle.tsc_trace_format.specs.declared.trace.Call.TheVariants.{Add, Batch, Get, Low}
 use Rattle.tsc_trace_format.specs.Traces.{Trace}
 use Rattle.tsc_trace.specs.declared.log.Line.{Line}
-use Rattle.tsc_trace.specs.declared.log.Said.TheVariants as said
+use Rattle.tsc_trace.specs.declared.log.CallAnswer.TheVariants as said
 use Rattle.std.specs.Fmt.{digits}
 use Rattle.uuid.specs.Text.{by_index}
 

@@ -4,7 +4,7 @@ use Rattle.std.proofs.lemmas.List.Elements.{All-nil, All-cons}
 use Rattle.std.specs.Fmt.{digits}
 use Rattle.tsc_cache.proofs.ExampleSettings.{at}
 use Rattle.tsc_trace.specs.declared.log.Line.{Line}
-use Rattle.tsc_trace.specs.declared.log.Said.TheVariants as said
+use Rattle.tsc_trace.specs.declared.log.CallAnswer.TheVariants as said
 use Rattle.tsc_trace.specs.LogReading.{IsWritable, ReadsAs}
 use Rattle.tsc_trace_format.proofs.ExampleTraces.{ended}
 

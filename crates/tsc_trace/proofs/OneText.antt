@@ -6,10 +6,10 @@ use Rattle.tsc_cache.specs.declared.added.Added.{Added}
 use Rattle.tsc_time.specs.Time.{Time, is_in_range}
 use Rattle.tsc_time.specs.OwnedTime.{OwnedTime, Owner, IsMadeOwner, IsMadeValue}
 use Rattle.tsc_trace.specs.declared.log.Line.{Line}
-use Rattle.tsc_trace.specs.declared.log.Said.{Said}
-use Rattle.tsc_trace.specs.declared.log.Said.TheVariants as said
-use Rattle.tsc_trace.specs.LogText.{space, dot, line_feed, bit_text, time_text, owner_text, said_text, line_text}
-use Rattle.tsc_trace.specs.LogReading.{IsWritable, IsWritableSaid}
+use Rattle.tsc_trace.specs.declared.log.CallAnswer.{CallAnswer}
+use Rattle.tsc_trace.specs.declared.log.CallAnswer.TheVariants as said
+use Rattle.tsc_trace.specs.LogText.{space, dot, line_feed, bit_text, time_text, owner_text, answer_text, line_text}
+use Rattle.tsc_trace.specs.LogReading.{IsWritable, IsWritableAnswer}
 use Rattle.tsc_trace.proofs.Cuts.{cut_same}
 use Rattle.tsc_trace.proofs.LineTexts.{decimal_without, parts_below, time_without_space, bit_without_space, line_without_feed}
 use Rattle.tsc_trace.proofs.FieldReading.{none_is_no_uuid, parsed_owner}
@@ -93,7 +93,8 @@ same_added a b small small' e =
     added_by_parts a.kept a.rotated a.evicted b first.0 second.0
     (decimal_injective a.evicted b.evicted small small' second.1)
 
-same_said : (s t : Said) → IsWritableSaid s → IsWritableSaid t → said_text s ≡ said_text t → s ≡ t
+same_said : (s t : CallAnswer) → IsWritableAnswer s → IsWritableAnswer t →
+    answer_text s ≡ answer_text t → s ≡ t
 same_said (said.Add place added) (said.Add place' added') h k e =
     let same = number_then place place'
     (bit_text added.kept ++ space ∷ (bit_text added.rotated ++ space ∷ decimal added.evicted))
@@ -147,7 +148,7 @@ same_said (said.Low front time) (said.Low front' time') h k e =
     let times : time ≡ time' = same_time time time' h.1 k.1 same.1 in
     cc
 
-line_by_parts : (thread index : ℕ) (answer : Said) (line : Line) → thread ≡ line.thread →
+line_by_parts : (thread index : ℕ) (answer : CallAnswer) (line : Line) → thread ≡ line.thread →
     index ≡ line.index → answer ≡ line.said
     → record { thread = thread; index = index; said = answer } ≡ line
 line_by_parts thread index answer line threads indexes answers = rw (threads, indexes, answers) refl
@@ -158,9 +159,9 @@ same_line a b h k e =
     let thread' : b.thread < 2 ^ 64 = let t = k.thread in omega arith in
     let index : a.index < 2 ^ 64 = let i = h.index in omega arith in
     let index' : b.index < 2 ^ 64 = let i = k.index in omega arith in
-    let first = number_then a.thread b.thread (decimal a.index ++ space ∷ said_text a.said)
-    (decimal b.index ++ space ∷ said_text b.said) thread thread' e in
-    let second = number_then a.index b.index (said_text a.said) (said_text b.said) index index'
+    let first = number_then a.thread b.thread (decimal a.index ++ space ∷ answer_text a.said)
+    (decimal b.index ++ space ∷ answer_text b.said) thread thread' e in
+    let second = number_then a.index b.index (answer_text a.said) (answer_text b.said) index index'
     first.1 in
     line_by_parts a.thread a.index a.said b first.0 second.0
     (same_said a.said b.said h.said k.said second.1)

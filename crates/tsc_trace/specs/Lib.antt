@@ -1,5 +1,5 @@
 pub mod Limits
-pub mod Sayings
+pub mod CallAnswers
 pub mod Log
 pub mod LogText
 pub mod LogReading

@@ -9,15 +9,15 @@ use Rattle.tsc_trace_format.specs.declared.trace.Call.{Call}
 use Rattle.tsc_trace_format.specs.declared.trace.Call.TheVariants.{Add, Batch, Get, Low}
 use Rattle.tsc_trace_format.specs.Traces.{Trace}
 use Rattle.tsc_trace.specs.declared.log.Line.{Line}
-use Rattle.tsc_trace.specs.declared.log.Said.{Said}
-use Rattle.tsc_trace.specs.declared.log.Said.TheVariants as said
+use Rattle.tsc_trace.specs.declared.log.CallAnswer.{CallAnswer}
+use Rattle.tsc_trace.specs.declared.log.CallAnswer.TheVariants as said
 
 -- what an addition makes of a state, and what it answers
 abbrev pub made : Settings → CacheState → Addition → Stepped
 made settings s a = step_all settings s a.marks a.now
 
 -- what a call answers in a state, where so many Adds came before
-abbrev pub said_in : Settings → CacheState → ℕ → Call → Said
+abbrev pub said_in : Settings → CacheState → ℕ → Call → CallAnswer
 said_in settings s front (Add span value now) =
     said.Add front (made settings s (one_mark span value now)).added
 said_in settings s front (Batch marks now) =
@@ -26,7 +26,7 @@ said_in settings s front (Get span) = said.Get front (look s span)
 said_in settings s front Low = said.Low front s.floor
 
 -- what a call answers after a history, from the state that the history leaves of the opening one
-abbrev pub said_after : Settings → History → Call → Said
+abbrev pub said_after : Settings → History → Call → CallAnswer
 said_after settings h call = said_in settings (state_of settings h) (length h) call
 
 -- the entry that an addition makes after a history, by the list with this number, which is its seat

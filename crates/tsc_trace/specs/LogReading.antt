@@ -5,25 +5,25 @@ use Rattle.tsc_time.specs.Time.{is_in_range}
 use Rattle.tsc_time.specs.OwnedTime.{IsMadeValue}
 use Rattle.tsc_trace.specs.declared.log.Line.{Line}
 use Rattle.tsc_trace.specs.declared.log.Log.{Log}
-use Rattle.tsc_trace.specs.declared.log.Said.{Said}
-use Rattle.tsc_trace.specs.declared.log.Said.TheVariants as said
+use Rattle.tsc_trace.specs.declared.log.CallAnswer.{CallAnswer}
+use Rattle.tsc_trace.specs.declared.log.CallAnswer.TheVariants as said
 use Rattle.tsc_trace.specs.declared.log_reader.LogFault.{LogFault}
 use Rattle.tsc_trace.specs.declared.log_reader.LogFault.TheVariants.{Text, Length, NoMemory}
 use Rattle.tsc_trace.specs.Limits.{most_lines}
 use Rattle.tsc_trace.specs.LogText.{line_feed, line_text, log_text}
 
 -- An answer that a log can hold: its counts take 64 bits, and its time and owner can be made.
-abbrev pub IsWritableSaid : Said → Type 0
-IsWritableSaid (said.Add place added) = (place < 2 ^ 64) × (added.evicted < 2 ^ 64)
-IsWritableSaid (said.Batch place added) = (place < 2 ^ 64) × (added.evicted < 2 ^ 64)
-IsWritableSaid (said.Get front value) = (front < 2 ^ 64) × IsMadeValue value
-IsWritableSaid (said.Low front time) = (front < 2 ^ 64) × (is_in_range time ≡ true)
+abbrev pub IsWritableAnswer : CallAnswer → Type 0
+IsWritableAnswer (said.Add place added) = (place < 2 ^ 64) × (added.evicted < 2 ^ 64)
+IsWritableAnswer (said.Batch place added) = (place < 2 ^ 64) × (added.evicted < 2 ^ 64)
+IsWritableAnswer (said.Get front value) = (front < 2 ^ 64) × IsMadeValue value
+IsWritableAnswer (said.Low front time) = (front < 2 ^ 64) × (is_in_range time ≡ true)
 
 -- A line that a log can hold: the number of its list, and its place there, take 32 bits.
 pub record IsWritable (line : Line) : Type 0 where
   pub thread : line.thread < 2 ^ 32
   pub index : line.index < 2 ^ 32
-  pub said : IsWritableSaid line.said
+  pub said : IsWritableAnswer line.said
 
 -- Lines that a log can hold, and not too many of them.
 pub record IsLog (lines : List Line) : Type 0 where

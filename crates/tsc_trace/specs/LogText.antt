@@ -5,8 +5,8 @@ use Rattle.uuid.specs.Text.{hyphenated_text, lower}
 use Rattle.tsc_time.specs.Time.{Time}
 use Rattle.tsc_time.specs.OwnedTime.{Owner}
 use Rattle.tsc_trace.specs.declared.log.Line.{Line}
-use Rattle.tsc_trace.specs.declared.log.Said.{Said}
-use Rattle.tsc_trace.specs.declared.log.Said.TheVariants as said
+use Rattle.tsc_trace.specs.declared.log.CallAnswer.{CallAnswer}
+use Rattle.tsc_trace.specs.declared.log.CallAnswer.TheVariants as said
 
 -- the byte between two fields
 abbrev pub space : ℕ
@@ -34,23 +34,23 @@ owner_text None = codes "none"
 owner_text (Some uuid) = hyphenated_text lower uuid
 
 -- an answer: its fields with one space between each two
-abbrev pub said_text : Said → List ℕ
-said_text (said.Add place added) =
+abbrev pub answer_text : CallAnswer → List ℕ
+answer_text (said.Add place added) =
     join_with_byte space (codes "add" ∷ decimal place ∷ bit_text added.kept ∷
     bit_text added.rotated ∷ decimal added.evicted ∷ [])
-said_text (said.Batch place added) =
+answer_text (said.Batch place added) =
     join_with_byte space (codes "batch" ∷ decimal place ∷ bit_text added.kept ∷
     bit_text added.rotated ∷ decimal added.evicted ∷ [])
-said_text (said.Get front value) =
+answer_text (said.Get front value) =
     join_with_byte space (codes "get" ∷ decimal front ∷ time_text value.time ∷
     owner_text value.owner ∷ [])
-said_text (said.Low front time) = join_with_byte space
+answer_text (said.Low front time) = join_with_byte space
     (codes "low" ∷ decimal front ∷ time_text time ∷ [])
 
 -- a line without its line feed: its list, its place in it, and its answer
 abbrev pub line_text : Line → List ℕ
 line_text line = join_with_byte space
-    (decimal line.thread ∷ decimal line.index ∷ said_text line.said ∷ [])
+    (decimal line.thread ∷ decimal line.index ∷ answer_text line.said ∷ [])
 
 -- the lines, each ended by a line feed
 abbrev pub log_text : List Line → List ℕ

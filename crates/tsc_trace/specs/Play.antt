@@ -6,7 +6,7 @@ use Rattle.tsc_trace_format.specs.Calls.{Addition, addition_of}
 use Rattle.tsc_trace_format.specs.declared.trace.Call.{Call}
 use Rattle.tsc_trace.specs.Log.{made, said_in}
 use Rattle.tsc_trace.specs.declared.log.Line.{Line}
-use Rattle.tsc_trace.specs.declared.log.Said.{Said}
+use Rattle.tsc_trace.specs.declared.log.CallAnswer.{CallAnswer}
 
 -- where a replay stands: the state of the cache, and how many Adds there were
 pub record Standing : Type 0 where
@@ -14,7 +14,7 @@ pub record Standing : Type 0 where
   pub adds : ℕ
 
 -- what a call answers there
-abbrev pub said_at : Settings → Standing → Call → Said
+abbrev pub said_at : Settings → Standing → Call → CallAnswer
 said_at settings at call = said_in settings at.state at.adds call
 
 -- where the replay stands with what may be added

@@ -14,7 +14,7 @@ mod player;
 mod printer;
 mod replays;
 
-pub use log::{Line, Lines, Log, Said, Told, log_text};
+pub use log::{AddOutcome, CallAnswer, Line, Lines, Log, log_text};
 pub use log_reader::{LogFault, read_log};
 pub use player::{add_all_fitting, add_fitting, play, play_with_progress};
 pub use replays::{

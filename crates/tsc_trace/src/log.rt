@@ -1,5 +1,5 @@
 ghost use Rattle.std.specs.Prelude.{◌≡◌, ◌≤◌, All, IfOk, length};
-ghost use Rattle.tsc_trace.specs.Sayings.{front_of, kind_of_said, told_of};
+ghost use Rattle.tsc_trace.specs.CallAnswers.{front_of, kind_of_answer, outcome_of};
 ghost use Rattle.tsc_trace.specs.LogText.{bit_text, log_text, owner_text};
 ghost use Rattle.tsc_trace.specs.LogReading.{IsWritable};
 
@@ -14,7 +14,7 @@ use uuid::Uuid;
 
 /// What a call answered.
 #[derive(Clone, Copy, Debug, PartialEq, Eq)]
-pub enum Said {
+pub enum CallAnswer {
     /// The place of the Add among all Adds, counted from 0, and what it did.
     Add { place: u64, added: Added },
     /// The place of the batch among all Adds, counted from 0, and what its marks did together.
@@ -28,34 +28,33 @@ pub enum Said {
 /// What the answer of an Add or a batch says: its place among all Adds, counted from 0, and what it
 /// did.
 #[derive(Clone, Copy, Debug, PartialEq, Eq)]
-pub struct Told {
+pub struct AddOutcome {
     pub place: u64,
     pub added: Added,
 }
 
-impl Said {
+impl CallAnswer {
     /// Of what kind the call is that was answered so.
     pub fn kind(self) -> Kind
-        ensures { result ≡ kind_of_said self }
+        ensures { result ≡ kind_of_answer self }
     {
         match self {
-            Said::Add { .. } => Kind::Add,
-            Said::Batch { .. } => Kind::Batch,
-            Said::Get { .. } => Kind::Get,
-            Said::Low { .. } => Kind::Low,
+            CallAnswer::Add { .. } => Kind::Add,
+            CallAnswer::Batch { .. } => Kind::Batch,
+            CallAnswer::Get { .. } => Kind::Get,
+            CallAnswer::Low { .. } => Kind::Low,
         }
     }
 
     /// What it says was added.
-    pub fn told(self) -> Option<Told>
-        ensures { result ≡ told_of self }
+    pub fn told(self) -> Option<AddOutcome>
+        ensures { result ≡ outcome_of self }
     {
         match self {
-            Said::Add { place, added } | Said::Batch { place, added } => Some(Told {
-                place,
-                added,
-            }),
-            Said::Get { .. } | Said::Low { .. } => None,
+            CallAnswer::Add { place, added } | CallAnswer::Batch { place, added } => Some(
+                AddOutcome { place, added },
+            ),
+            CallAnswer::Get { .. } | CallAnswer::Low { .. } => None,
         }
     }
 
@@ -64,8 +63,8 @@ impl Said {
         ensures { result ≡ front_of self }
     {
         match self {
-            Said::Add { place, .. } | Said::Batch { place, .. } => place,
-            Said::Get { front, .. } | Said::Low { front, .. } => front,
+            CallAnswer::Add { place, .. } | CallAnswer::Batch { place, .. } => place,
+            CallAnswer::Get { front, .. } | CallAnswer::Low { front, .. } => front,
         }
     }
 }
@@ -75,7 +74,7 @@ impl Said {
 pub struct Line {
     pub thread: u32,
     pub index: u32,
-    pub said: Said,
+    pub said: CallAnswer,
 }
 
 /// The lines of a log: those of the first list in the order of its calls, then those of the next.
@@ -143,27 +142,27 @@ fn owner_word(owner: Option<Uuid>, room: &mut [u8]) -> &str
     }
 }
 
-impl fmt::Display for Said {
+impl fmt::Display for CallAnswer {
     ghost use Rattle.std.specs.Prelude.{Some};
-    ghost use Rattle.tsc_trace.specs.LogText.{said_text};
+    ghost use Rattle.tsc_trace.specs.LogText.{answer_text};
 
-    ghost output = { λ said. Some (said_text said) };
+    ghost output = { λ said. Some (answer_text said) };
 
     fn fmt<W: fmt::Write>(&self, f: &mut fmt::Formatter<W>) -> fmt::Result {
         match self {
-            Said::Add { place, added } => {
+            CallAnswer::Add { place, added } => {
                 let kept = bit(added.kept);
                 let rotated = bit(added.rotated);
                 let evicted = added.evicted;
                 write!(f, "add {place} {kept} {rotated} {evicted}")
             }
-            Said::Batch { place, added } => {
+            CallAnswer::Batch { place, added } => {
                 let kept = bit(added.kept);
                 let rotated = bit(added.rotated);
                 let evicted = added.evicted;
                 write!(f, "batch {place} {kept} {rotated} {evicted}")
             }
-            Said::Get { front, value } => {
+            CallAnswer::Get { front, value } => {
                 let time = value.time();
                 let wall = time.wall();
                 let logical = time.logical();
@@ -171,7 +170,7 @@ impl fmt::Display for Said {
                 let owner = owner_word(value.owner(), &mut room);
                 write!(f, "get {front} {wall}.{logical} {owner}")
             }
-            Said::Low { front, time } => {
+            CallAnswer::Low { front, time } => {
                 let wall = time.wall();
                 let logical = time.logical();
                 write!(f, "low {front} {wall}.{logical}")

@@ -9,7 +9,7 @@ ghost use Rattle.tsc_trace_format.specs.Limits.{most_calls};
 ghost use Rattle.tsc_trace.specs.Log.{log_of, made};
 ghost use Rattle.tsc_trace.specs.Play.{Standing, said_at, played};
 
-use crate::log::{Line, Lines, Log, Said};
+use crate::log::{CallAnswer, Line, Lines, Log};
 use std::alloc::Global;
 use tsc_cache::{Added, Cache, CacheFault, Mark, TimestampCache};
 use tsc_span::Span;
@@ -76,7 +76,7 @@ impl Player {
     ghost use Rattle.tsc_trace.specs.PlayerParts.{HasMade, StandsAt};
 
     /// Makes a call, and gives its answer.
-    fn answer(&mut self, call: &Call) -> Result<Said, NoMemory>
+    fn answer(&mut self, call: &Call) -> Result<CallAnswer, NoMemory>
         requires count { self.old.adds + 1 < 2 ^ 64 }
         requires fits { call_fits self.old.cache.settings call.now ≡ true }
         ensures said { IfOk result
@@ -90,7 +90,7 @@ impl Player {
             Call::Add { span, value, now } => {
                 let added = add_fitting(&mut self.cache, span, *value, *now)?;
                 self.adds += 1;
-                Ok(Said::Add {
+                Ok(CallAnswer::Add {
                     place: front,
                     added,
                 })
@@ -99,13 +99,13 @@ impl Player {
                 let added = add_all_fitting(&mut self.cache, marks.slice(), *now)?;
                 let place = front;
                 self.adds = place + 1;
-                Ok(Said::Batch { place, added })
+                Ok(CallAnswer::Batch { place, added })
             }
-            Call::Get { span } => Ok(Said::Get {
+            Call::Get { span } => Ok(CallAnswer::Get {
                 front,
                 value: self.cache.get_max(span),
             }),
-            Call::Low => Ok(Said::Low {
+            Call::Low => Ok(CallAnswer::Low {
                 front,
                 time: self.cache.low_water(),
             }),

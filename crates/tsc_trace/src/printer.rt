@@ -3,9 +3,9 @@
 //! The digits of a number come from the last to the first, so a text that grows at its front takes
 //! each of them once, and no memory is asked for.
 ghost use Rattle.std.specs.Prelude.{◌≡◌, ◌+◌, ◌≤◌, [], ◌∷◌, ◌++◌, length, codes, decimal};
-ghost use Rattle.tsc_trace.specs.LogText.{bit_text, dot, line_feed, line_text, owner_text, said_text, space, time_text};
+ghost use Rattle.tsc_trace.specs.LogText.{bit_text, dot, line_feed, line_text, owner_text, answer_text, space, time_text};
 
-use crate::log::{Line, Said};
+use crate::log::{CallAnswer, Line};
 use itoa::write_digits;
 use std::marker::Model;
 use tsc_cache::Added;
@@ -87,22 +87,22 @@ impl Printer {
     }
 
     /// Puts an answer before the text.
-    fn put_said(&mut self, said: &Said)
+    fn put_said(&mut self, said: &CallAnswer)
         requires { length self.old ≤ 1 }
-        ensures text { self.new ≡ said_text said.now ++ self.old }
+        ensures text { self.new ≡ answer_text said.now ++ self.old }
         ensures room { length self.new ≤ 103 + length self.old }
     {
         match said {
-            Said::Add { place, added } => self.put_added(b"add", *place, added),
-            Said::Batch { place, added } => self.put_added(b"batch", *place, added),
-            Said::Get { front, value } => {
+            CallAnswer::Add { place, added } => self.put_added(b"add", *place, added),
+            CallAnswer::Batch { place, added } => self.put_added(b"batch", *place, added),
+            CallAnswer::Get { front, value } => {
                 self.put_owner(value.owner());
                 self.put_byte(b' ');
                 self.put_time(value.time());
                 self.put_field(*front);
                 self.put_field_word(b"get");
             }
-            Said::Low { front, time } => {
+            CallAnswer::Low { front, time } => {
                 self.put_time(*time);
                 self.put_field(*front);
                 self.put_field_word(b"low");

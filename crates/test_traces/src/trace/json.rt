@@ -1,6 +1,6 @@
 //! What both readers tell of a trace, and what its calls are read as.
 use crate::support::*;
-use crate::trace::readers::{Told, told};
+use crate::trace::readers::{AddOutcome, told};
 use tsc_span::Span;
 use tsc_time::{Timestamp, Value};
 use tsc_trace::read_trace;
@@ -199,7 +199,7 @@ const WHOLE: Frame = ("", "", 0, 0);
 const LISTS: Frame = (WIDE, "}", 0, 0);
 
 /// What a row wants to be told in a frame: how many calls there are, or the fault and its call.
-fn wanted(frame: Frame, want: &str) -> Told {
+fn wanted(frame: Frame, want: &str) -> AddOutcome {
     let (kind, number) = want.split_once(' ').unwrap_or((want, "0"));
     let number: u64 = number.parse().unwrap_or(u64::MAX);
     let call = number.saturating_add(frame.2);

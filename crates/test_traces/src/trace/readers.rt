@@ -5,7 +5,7 @@ use tsc_trace_fast::quick_trace;
 use tsc_trace_format::{Trace, TraceFault};
 
 /// What reading tells: how many calls there are, or the fault.
-pub(crate) type Told = Result<usize, TraceFault>;
+pub(crate) type AddOutcome = Result<usize, TraceFault>;
 
 /// What the reader tells that takes a trace from its tokens where it can. Where memory is refused
 /// it is asked once more.
@@ -31,7 +31,11 @@ fn are_same(alloc: Global, first: &Trace, second: &Trace) -> Result<bool, AllocE
 }
 
 /// How many calls two traces have, or none where they differ.
-fn calls_of(alloc: Global, first: &Trace, second: &Trace) -> Result<Option<Told>, AllocError> {
+fn calls_of(
+    alloc: Global,
+    first: &Trace,
+    second: &Trace,
+) -> Result<Option<AddOutcome>, AllocError> {
     if !are_same(alloc, first, second)? {
         return Ok(None);
     }
@@ -43,7 +47,7 @@ fn calls_of(alloc: Global, first: &Trace, second: &Trace) -> Result<Option<Told>
 }
 
 /// What both readers tell of these bytes, or none where they differ.
-pub(crate) fn told(alloc: Global, bytes: &[u8]) -> Result<Option<Told>, AllocError> {
+pub(crate) fn told(alloc: Global, bytes: &[u8]) -> Result<Option<AddOutcome>, AllocError> {
     match (read_quickly(alloc, bytes), read_by_values(alloc, bytes)) {
         (Ok(first), Ok(second)) => calls_of(alloc, &first, &second),
         (Err(first), Err(second)) => {

@@ -4,7 +4,7 @@ ghost use Rattle.std.specs.Arc.{arc_value};
 ghost use Rattle.tsc_cache.specs.Settings.{fits};
 ghost use Rattle.tsc_cache.specs.Batch.{all_fit};
 ghost use Rattle.tsc_shared.specs.Seats.{SeatView, IsSeat, new_seats};
-ghost use Rattle.tsc_shared.specs.Answers.{AnswersTriedAdd, one_mark, Looks, IsAbove, TellsNoPart, ReadsFloor, ReadsFigures};
+ghost use Rattle.tsc_shared.specs.Answers.{AnswersTriedAdd, one_mark, AnswersLookup, IsAbove, TellsNoPart, ReadsFloor, ReadsFigures};
 ghost use Rattle.tsc_ffi_store.specs.Seating.{Sits, Deals, IsKeeper};
 
 use crate::seats::owner::SharedHandle;
@@ -46,7 +46,7 @@ impl SeatHandle {
     /// The latest time on a span over keys that lie elsewhere, as
     /// [`SharedCache::get_max_ref`](tsc_shared::SharedCache::get_max_ref) answers.
     pub fn get_max_ref(&mut self, span: &SpanRef<'_>) -> Answer
-        ensures looked { Looks self.old self.new span.now result }
+        ensures looked { AnswersLookup self.old self.new span.now result }
         ensures above { IsAbove self.new span.now result.value }
         ensures whole { TellsNoPart self.new span.now result.value }
     {

@@ -6,11 +6,11 @@ ghost use Rattle.std.specs.Prelude.{◌≡◌, ◌<◌, ◌^◌, ◌++◌, ◌�
 ghost use Rattle.std.specs.Prelude.{codes, decimal, option_map, true, MatchOption};
 ghost use Rattle.tsc_time.specs.Time.{is_in_range};
 ghost use Rattle.tsc_time.specs.OwnedTime.{IsMadeOwner, owner_of};
-ghost use Rattle.tsc_trace.specs.LogText.{bit_text, dot, line_text, owner_text, said_text, space, time_text};
-ghost use Rattle.tsc_trace.specs.LogReading.{IsWritable, IsWritableSaid};
+ghost use Rattle.tsc_trace.specs.LogText.{bit_text, dot, line_text, owner_text, answer_text, space, time_text};
+ghost use Rattle.tsc_trace.specs.LogReading.{IsWritable, IsWritableAnswer};
 ghost use Rattle.tsc_trace.specs.ReadingBack.{IsAnyBit, IsWithout, ReadsBack, ReadsField};
 
-use crate::log::{Line, Said};
+use crate::log::{CallAnswer, Line};
 use tsc_cache::Added;
 use tsc_time::{Timestamp, Value};
 use uuid::Uuid;
@@ -30,8 +30,8 @@ pub(super) fn read_line(text: &str) -> Option<Line>
 }
 
 /// An answer: its word and its fields.
-fn said(text: &str) -> Option<Said>
-    ensures { ReadsBack IsWritableSaid said_text text.now result }
+fn said(text: &str) -> Option<CallAnswer>
+    ensures { ReadsBack IsWritableAnswer answer_text text.now result }
 {
     let (word, fields) = cut_field(text)?;
     match word {
@@ -44,8 +44,8 @@ fn said(text: &str) -> Option<Said>
 }
 
 /// What an Add answered, by the fields behind its word.
-fn add(fields: &str) -> Option<Said>
-    ensures { ReadsBack IsWritableSaid said_text (codes "add" ++ space ∷ fields.now) result }
+fn add(fields: &str) -> Option<CallAnswer>
+    ensures { ReadsBack IsWritableAnswer answer_text (codes "add" ++ space ∷ fields.now) result }
 {
     let (place, rest) = number_field(fields)?;
     let (kept, rest) = bit_field(rest)?;
@@ -56,12 +56,12 @@ fn add(fields: &str) -> Option<Said>
         rotated,
         evicted,
     };
-    Some(Said::Add { place, added })
+    Some(CallAnswer::Add { place, added })
 }
 
 /// What a batch answered, by the fields behind its word.
-fn batch(fields: &str) -> Option<Said>
-    ensures { ReadsBack IsWritableSaid said_text (codes "batch" ++ space ∷ fields.now) result }
+fn batch(fields: &str) -> Option<CallAnswer>
+    ensures { ReadsBack IsWritableAnswer answer_text (codes "batch" ++ space ∷ fields.now) result }
 {
     let (place, rest) = number_field(fields)?;
     let (kept, rest) = bit_field(rest)?;
@@ -72,26 +72,26 @@ fn batch(fields: &str) -> Option<Said>
         rotated,
         evicted,
     };
-    Some(Said::Batch { place, added })
+    Some(CallAnswer::Batch { place, added })
 }
 
 /// What a lookup answered, by the fields behind its word.
-fn get(fields: &str) -> Option<Said>
-    ensures { ReadsBack IsWritableSaid said_text (codes "get" ++ space ∷ fields.now) result }
+fn get(fields: &str) -> Option<CallAnswer>
+    ensures { ReadsBack IsWritableAnswer answer_text (codes "get" ++ space ∷ fields.now) result }
 {
     let (front, rest) = number_field(fields)?;
     let (at, name) = cut_field(rest)?;
     let value = Value::of(time(at)?, owner(name)?);
-    Some(Said::Get { front, value })
+    Some(CallAnswer::Get { front, value })
 }
 
 /// Where the floor stood, by the fields behind its word.
-fn low(fields: &str) -> Option<Said>
-    ensures { ReadsBack IsWritableSaid said_text (codes "low" ++ space ∷ fields.now) result }
+fn low(fields: &str) -> Option<CallAnswer>
+    ensures { ReadsBack IsWritableAnswer answer_text (codes "low" ++ space ∷ fields.now) result }
 {
     let (front, rest) = number_field(fields)?;
     let time = time(rest)?;
-    Some(Said::Low { front, time })
+    Some(CallAnswer::Low { front, time })
 }
 
 /// A number of 64 bits.

@@ -9,7 +9,7 @@ use Rattle.tsc_trace_format.specs.Calls.{one_mark, several_marks}
 use Rattle.tsc_trace_format.specs.declared.trace.Call.{Call}
 use Rattle.tsc_trace_format.specs.declared.trace.Call.TheVariants.{Add, Batch}
 use Rattle.tsc_trace.specs.Log.{made, said_after, entry_after, after_call}
-use Rattle.tsc_trace.specs.Sayings.{told_of}
+use Rattle.tsc_trace.specs.CallAnswers.{outcome_of}
 use Rattle.tsc_check.specs.Verdict.{is_of_kind, is_same_answer}
 use Rattle.tsc_check.proofs.sweep.is_other_add.Goals as goal
 
@@ -18,7 +18,7 @@ returns-in_ok-made-in-Add-clause-other c = λ settings h s add kind.
     let said = c.args.said in
     let did = c.in_ok-made-in-Add.made in
     let call : Call = Add c.in-Add.span c.in-Add.value c.in-Add.now in
-    let told : told_of (said_after settings h call) ≡
+    let told : outcome_of (said_after settings h call) ≡
     Some (record { place = length h; added = did }) =
     ap (λ (a : Added). Some (record { place = length h; added = a }))
     (sym (c.in_ok-made-in-Add.ensures.added settings (state_of settings h) s)) in
@@ -44,7 +44,7 @@ returns-in_ok-made_all-in-Batch-clause-other c = λ settings h s add kind.
     let is = c.in_ok-made_all-in-Batch.ensures.added settings (state_of settings h) s ∙
     ap (λ ms. (made settings (state_of settings h) (several_marks ms c.in-Batch.now)).added)
     c.slice.ensures in
-    let told : told_of (said_after settings h call) ≡
+    let told : outcome_of (said_after settings h call) ≡
     Some (record { place = length h; added = did }) =
     ap (λ (a : Added). Some (record { place = length h; added = a })) (sym is) in
     subst (λ (d : Call). is_of_kind d said ≡ true →

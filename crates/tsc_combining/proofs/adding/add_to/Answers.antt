@@ -3,7 +3,8 @@ use Rattle.std.proofs.Common.{◌∙◌, sym, ap}
 use Rattle.tsc_cache.specs.Settings.{Settings}
 use Rattle.tsc_cache.specs.Batch.{all_fit}
 use Rattle.tsc_left_right.specs.Rule.{marks_in, late_adds}
-use Rattle.tsc_combining.proofs.InPlace.{caught_up_settings, not_refused, no_part_then, untouched_lags}
+use Rattle.tsc_combining.proofs.InPlace.{caught_up_settings, not_refused, no_part_then}
+use Rattle.tsc_combining.proofs.InPlace.{untouched_lags}
 use Rattle.tsc_combining.proofs.AddingUp.{taken_then, none_late}
 use Rattle.tsc_combining.proofs.adding.add_to.Goals as goal
 

@@ -3,7 +3,7 @@ use Rattle.std.proofs.Common.{sym, subst, []}
 use Rattle.tsc_cache.specs.State.{step_all}
 use Rattle.tsc_cache.specs.History.{state_of}
 use Rattle.tsc_cache.specs.CacheView.{RepresentsState}
-use Rattle.tsc_left_right.specs.Rule.{Lags, marks_in}
+use Rattle.tsc_left_right.specs.Rule.{LagsBy, marks_in}
 use Rattle.tsc_combining.proofs.AddingUp.{lacks_none}
 use Rattle.tsc_combining.proofs.adding.renew.Goals as goal
 
@@ -12,9 +12,9 @@ returns-clause-stands c = λ t h lags.
     subst (λ cache. RepresentsState cache t.config (step_all t.config (state_of t.config h)
     (marks_in c.args.add.now.marks) c.args.add.now.moment).state) (sym c.in_ok-new.ensures.ok)
     (c.in_ok-next.ensures.stands t.config (state_of t.config h) (lacks_none t h c.deref.result.now
-    (subst (λ cache. Lags t h [] cache) (sym c.deref.ensures) lags)))
+    (subst (λ cache. LagsBy t h [] cache) (sym c.deref.ensures) lags)))
 
 pub returns-clause-added : goal.returns-clause-added
 returns-clause-added c = λ t h lags.
     c.in_ok-next.ensures.added t.config (state_of t.config h) (lacks_none t h c.deref.result.now
-    (subst (λ cache. Lags t h [] cache) (sym c.deref.ensures) lags))
+    (subst (λ cache. LagsBy t h [] cache) (sym c.deref.ensures) lags))

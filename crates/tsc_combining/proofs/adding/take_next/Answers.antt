@@ -59,8 +59,7 @@ returns-in-Ok-take_new c =
         record {
           active = kept.active;
           length = kept.length;
-          flips = kept.flips;
-          served = kept.served;
+          head = kept.head;
         },
         c.in-Ok-take_new.ensures.taken.1,
         c.in-Ok-take_new.ensures.taken.2 ∙ c.take.ensures.after,

@@ -1,285 +1,218 @@
 -- Proves the contract of `prepare`. Prepares an Add that is to be published, and those that others
 -- ask for beside it.
-use Rattle.std.proofs.Common.{◌∙◌, refl, sym, ap, ◌+◌, ◌-◌, ◌%◌, arith}
+use Rattle.std.proofs.Common.{◌∙◌, refl, sym, ap, ◌+◌, ◌-◌, arith}
 use Rattle.tsc_left_right.specs.declared.table.WriterState.{WriterState}
+use Rattle.tsc_left_right.specs.Rule.{standby_side}
 use Rattle.tsc_left_right.proofs.Calls.{still_of}
-use Rattle.tsc_combining.proofs.Outcomes.{held_leaves, own_added, can_serve, served_flips}
+use Rattle.tsc_combining.proofs.Outcomes.{held_leaves, own_added, can_serve, served, served_head}
 use Rattle.tsc_combining.proofs.Outcomes.{served_requests, served_writes, back_batch, back_leaves}
 use Rattle.tsc_combining.proofs.Outcomes.{prepared}
 use Rattle.tsc_combining.proofs.writing.prepare.Goals as goal
 
 pub returns-in-Err-clause-left : goal.returns-in-Err-clause-left
 returns-in-Err-clause-left c =
-    held_leaves c.args.who.now.me c.args.context.now.setup.now.seats c.args.state.now c.take_next.new.state
-    c.requires.state c.in-Err.ensures.same.1 c.in-Err.ensures.same.0.served
+    held_leaves c.args.who.now.me c.args.context.now.setup.now.seats c.args.state.now
+    c.take_next.new.state c.requires.state c.in-Err.ensures.same.1
 
-pub overflow_add-standby : goal.overflow_add-standby
-overflow_add-standby c =
-    let t = c.in-Ok.ensures.taken in
-    let limit = ap (λ s. s.limit) c.requires.seat.setup in
-    omega (
-      arith,
-      t.0.flips,
-      c.requires.state.few,
-      c.requires.state.is_after.length,
-      c.requires.state.is_after.flips_is,
-      c.requires.make.room,
-      limit,
-    )
-
-pub serve_all-served-requires-clause-serving : goal.serve_all-served-requires-clause-serving
-serve_all-served-requires-clause-serving c =
+pub serve_all-plan-requires-clause-serving : goal.serve_all-plan-requires-clause-serving
+serve_all-plan-requires-clause-serving c =
     let me = c.args.who.now.me in
-    let add = c.args.add in
-    let seats = c.args.context.now.setup.now.seats in
-    let first = c.take_next.new.state in
-    let t = c.in-Ok.ensures.taken in
-    let all = ap (λ s. s.seats) c.requires.seat.setup in
-    let limit = ap (λ s. s.limit) c.requires.seat.setup in
-    let room = c.args.context.now.setup.now.limit - first.length - 1 in
-    let s0 = can_serve me seats c.args.state.now add room first.served first.lagging.others.items
-    c.in-Ok.next.cache all c.requires.state
-    (omega (arith, t.0.length, c.requires.make.room, limit)) t.1.1 t.0.served c.in-Ok.ensures.made.stands
-    in
-    (me.0, own_added me.0 add, s0)
+    let add = c.args.add in (
+      me.0,
+      own_added me.0 add,
+      can_serve me c.args.context.now.setup.now c.args.state.now c.take_next.new.state add
+          c.in-Ok.next.added c.in-Ok.next.cache c.requires.seat.setup c.requires.state
+          c.requires.make c.in-Ok.ensures.taken c.in-Ok.ensures.made,
+    )
 
 pub overflow_add-adds : goal.overflow_add-adds
 overflow_add-adds c =
     let t = c.in-Ok.ensures.taken in
-    let limit = ap (λ s. s.limit) c.requires.seat.setup in
+    let limit = ap (λ t. t.limit) c.requires.seat.setup in
     omega (arith, t.0.length, c.requires.make.room, limit)
 
 pub overflow_add-adds-2 : goal.overflow_add-adds-2
 overflow_add-adds-2 c =
     let me = c.args.who.now.me in
     let add = c.args.add in
-    let seats = c.args.context.now.setup.now.seats in
+    let setup = c.args.context.now.setup.now in
     let first = c.take_next.new.state in
+    let room = setup.limit - first.length - 1 in
+    let me1 = c.serve_all-plan.new.who.me in
+    let items = c.serve_all-plan.new.others.items in
+    let plan = c.serve_all-plan.result in
+    let next = c.serve_all-plan.new.next in
+    let s = served me me1 setup c.args.state.now first add c.in-Ok.next.added plan items
+    c.in-Ok.next.cache next c.requires.seat.setup c.requires.state c.requires.make
+    c.in-Ok.ensures.taken c.in-Ok.ensures.made c.serve_all-plan.ensures.serving in
     let t = c.in-Ok.ensures.taken in
-    let all = ap (λ s. s.seats) c.requires.seat.setup in
-    let limit = ap (λ s. s.limit) c.requires.seat.setup in
-    let room = c.args.context.now.setup.now.limit - first.length - 1 in
-    let s0 = can_serve me seats c.args.state.now add room first.served first.lagging.others.items
-    c.in-Ok.next.cache all c.requires.state
-    (omega (arith, t.0.length, c.requires.make.room, limit)) t.1.1 t.0.served c.in-Ok.ensures.made.stands
-    in
-    let me1 = c.serve_all-served.new.who.me in
-    let items = c.serve_all-served.new.others.items in
-    let told = c.serve_all-served.result in
-    let next = c.serve_all-served.new.next in
-    let s = c.serve_all-served.ensures.serving me.0 (own_added me.0 add) s0 in
-    let made = c.len-made.ensures ∙ c.serve_all-served.new.others.ok.0 in
+    let limit = ap (λ t. t.limit) c.requires.seat.setup in
+    let made = c.len-made.ensures ∙ c.serve_all-plan.new.others.ok.0 in
     omega (arith, s.1.few, made, t.0.length, c.requires.make.room, limit)
 
 pub install_handles-requires-clause-of : goal.install_handles-requires-clause-of
 install_handles-requires-clause-of c =
     let me = c.args.who.now.me in
     let add = c.args.add in
-    let seats = c.args.context.now.setup.now.seats in
+    let setup = c.args.context.now.setup.now in
     let first = c.take_next.new.state in
-    let t = c.in-Ok.ensures.taken in
-    let all = ap (λ s. s.seats) c.requires.seat.setup in
-    let limit = ap (λ s. s.limit) c.requires.seat.setup in
-    let room = c.args.context.now.setup.now.limit - first.length - 1 in
-    let s0 = can_serve me seats c.args.state.now add room first.served first.lagging.others.items
-    c.in-Ok.next.cache all c.requires.state
-    (omega (arith, t.0.length, c.requires.make.room, limit)) t.1.1 t.0.served c.in-Ok.ensures.made.stands
-    in
-    let me1 = c.serve_all-served.new.who.me in
-    let items = c.serve_all-served.new.others.items in
-    let told = c.serve_all-served.result in
-    let next = c.serve_all-served.new.next in
-    let s = c.serve_all-served.ensures.serving me.0 (own_added me.0 add) s0 in
-    still_of c.args.who.now c.serve_all-served.new.who c.args.context.now.shared.now.table_id
-    c.requires.seat.of c.serve_all-served.ensures.table (ap (λ v. v.setup) s.1.answers.is)
+    let room = setup.limit - first.length - 1 in
+    let me1 = c.serve_all-plan.new.who.me in
+    let items = c.serve_all-plan.new.others.items in
+    let plan = c.serve_all-plan.result in
+    let next = c.serve_all-plan.new.next in
+    let s = served me me1 setup c.args.state.now first add c.in-Ok.next.added plan items
+    c.in-Ok.next.cache next c.requires.seat.setup c.requires.state c.requires.make
+    c.in-Ok.ensures.taken c.in-Ok.ensures.made c.serve_all-plan.ensures.serving in
+    still_of c.args.who.now c.serve_all-plan.new.who c.args.context.now.shared.now.table_id
+    c.requires.seat.of c.serve_all-plan.ensures.table (ap (λ v. v.setup) s.1.batch.is)
 
 pub install_handles-requires-clause-cleared : goal.install_handles-requires-clause-cleared
 install_handles-requires-clause-cleared c =
     let me = c.args.who.now.me in
     let add = c.args.add in
-    let seats = c.args.context.now.setup.now.seats in
+    let setup = c.args.context.now.setup.now in
     let first = c.take_next.new.state in
-    let t = c.in-Ok.ensures.taken in
-    let all = ap (λ s. s.seats) c.requires.seat.setup in
-    let limit = ap (λ s. s.limit) c.requires.seat.setup in
-    let room = c.args.context.now.setup.now.limit - first.length - 1 in
-    let s0 = can_serve me seats c.args.state.now add room first.served first.lagging.others.items
-    c.in-Ok.next.cache all c.requires.state
-    (omega (arith, t.0.length, c.requires.make.room, limit)) t.1.1 t.0.served c.in-Ok.ensures.made.stands
-    in
-    let me1 = c.serve_all-served.new.who.me in
-    let items = c.serve_all-served.new.others.items in
-    let told = c.serve_all-served.result in
-    let next = c.serve_all-served.new.next in
-    let s = c.serve_all-served.ensures.serving me.0 (own_added me.0 add) s0 in
-    served_writes me me1 seats add room told items next all s
+    let room = setup.limit - first.length - 1 in
+    let me1 = c.serve_all-plan.new.who.me in
+    let items = c.serve_all-plan.new.others.items in
+    let plan = c.serve_all-plan.result in
+    let next = c.serve_all-plan.new.next in
+    let s = served me me1 setup c.args.state.now first add c.in-Ok.next.added plan items
+    c.in-Ok.next.cache next c.requires.seat.setup c.requires.state c.requires.make
+    c.in-Ok.ensures.taken c.in-Ok.ensures.made c.serve_all-plan.ensures.serving in
+    let all = ap (λ t. t.seats) c.requires.seat.setup in
+    served_writes me me1 setup.seats add room plan items next all s
 
 pub install_handles-requires-clause-counts : goal.install_handles-requires-clause-counts
 install_handles-requires-clause-counts c =
     let me = c.args.who.now.me in
     let add = c.args.add in
-    let seats = c.args.context.now.setup.now.seats in
+    let setup = c.args.context.now.setup.now in
     let first = c.take_next.new.state in
-    let t = c.in-Ok.ensures.taken in
-    let all = ap (λ s. s.seats) c.requires.seat.setup in
-    let limit = ap (λ s. s.limit) c.requires.seat.setup in
-    let room = c.args.context.now.setup.now.limit - first.length - 1 in
-    let s0 = can_serve me seats c.args.state.now add room first.served first.lagging.others.items
-    c.in-Ok.next.cache all c.requires.state
-    (omega (arith, t.0.length, c.requires.make.room, limit)) t.1.1 t.0.served c.in-Ok.ensures.made.stands
-    in
-    let me1 = c.serve_all-served.new.who.me in
-    let items = c.serve_all-served.new.others.items in
-    let told = c.serve_all-served.result in
-    let next = c.serve_all-served.new.next in
-    let s = c.serve_all-served.ensures.serving me.0 (own_added me.0 add) s0 in
-    let made = c.len-made.ensures ∙ c.serve_all-served.new.others.ok.0 in (
-      ap (λ n. (n + 1) % 2) (t.0.flips ∙ sym (served_flips me me1 seats c.args.state.now add room
-          told items next c.requires.state s)),
-      made ∙ served_requests me me1 add room told items next s,
+    let room = setup.limit - first.length - 1 in
+    let me1 = c.serve_all-plan.new.who.me in
+    let items = c.serve_all-plan.new.others.items in
+    let plan = c.serve_all-plan.result in
+    let next = c.serve_all-plan.new.next in
+    let s = served me me1 setup c.args.state.now first add c.in-Ok.next.added plan items
+    c.in-Ok.next.cache next c.requires.seat.setup c.requires.state c.requires.make
+    c.in-Ok.ensures.taken c.in-Ok.ensures.made c.serve_all-plan.ensures.serving in
+    let made = c.len-made.ensures ∙ c.serve_all-plan.new.others.ok.0 in (
+      c.standby_side-standby.ensures ∙ ap standby_side (c.in-Ok.ensures.taken.0.head
+          ∙ sym (served_head me me1 setup.seats c.args.state.now add room plan items next
+          c.requires.state s)),
+      made ∙ served_requests me me1 add room plan items next s,
     )
 
 pub send_all_back-state-requires-clause-of : goal.send_all_back-state-requires-clause-of
 send_all_back-state-requires-clause-of c =
     let me = c.args.who.now.me in
     let add = c.args.add in
-    let seats = c.args.context.now.setup.now.seats in
+    let setup = c.args.context.now.setup.now in
     let first = c.take_next.new.state in
-    let t = c.in-Ok.ensures.taken in
-    let all = ap (λ s. s.seats) c.requires.seat.setup in
-    let limit = ap (λ s. s.limit) c.requires.seat.setup in
-    let room = c.args.context.now.setup.now.limit - first.length - 1 in
-    let s0 = can_serve me seats c.args.state.now add room first.served first.lagging.others.items
-    c.in-Ok.next.cache all c.requires.state
-    (omega (arith, t.0.length, c.requires.make.room, limit)) t.1.1 t.0.served c.in-Ok.ensures.made.stands
-    in
-    let me1 = c.serve_all-served.new.who.me in
-    let items = c.serve_all-served.new.others.items in
-    let told = c.serve_all-served.result in
-    let next = c.serve_all-served.new.next in
-    let s = c.serve_all-served.ensures.serving me.0 (own_added me.0 add) s0 in
-    still_of c.serve_all-served.new.who c.install_handles.new.who c.args.context.now.shared.now.table_id
-    (still_of c.args.who.now c.serve_all-served.new.who c.args.context.now.shared.now.table_id
-    c.requires.seat.of c.serve_all-served.ensures.table (ap (λ v. v.setup) s.1.answers.is))
+    let room = setup.limit - first.length - 1 in
+    let me1 = c.serve_all-plan.new.who.me in
+    let items = c.serve_all-plan.new.others.items in
+    let plan = c.serve_all-plan.result in
+    let next = c.serve_all-plan.new.next in
+    let s = served me me1 setup c.args.state.now first add c.in-Ok.next.added plan items
+    c.in-Ok.next.cache next c.requires.seat.setup c.requires.state c.requires.make
+    c.in-Ok.ensures.taken c.in-Ok.ensures.made c.serve_all-plan.ensures.serving in
+    still_of c.serve_all-plan.new.who c.install_handles.new.who
+    c.args.context.now.shared.now.table_id
+    (still_of c.args.who.now c.serve_all-plan.new.who c.args.context.now.shared.now.table_id
+    c.requires.seat.of c.serve_all-plan.ensures.table (ap (λ v. v.setup) s.1.batch.is))
     c.install_handles.ensures.table (ap (λ m. m.0.setup) c.install_handles.ensures.cleared.is)
 
 pub send_all_back-state-requires-clause-made : goal.send_all_back-state-requires-clause-made
 send_all_back-state-requires-clause-made c =
     let me = c.args.who.now.me in
     let add = c.args.add in
-    let seats = c.args.context.now.setup.now.seats in
+    let setup = c.args.context.now.setup.now in
     let first = c.take_next.new.state in
-    let t = c.in-Ok.ensures.taken in
-    let all = ap (λ s. s.seats) c.requires.seat.setup in
-    let limit = ap (λ s. s.limit) c.requires.seat.setup in
-    let room = c.args.context.now.setup.now.limit - first.length - 1 in
-    let s0 = can_serve me seats c.args.state.now add room first.served first.lagging.others.items
-    c.in-Ok.next.cache all c.requires.state
-    (omega (arith, t.0.length, c.requires.make.room, limit)) t.1.1 t.0.served c.in-Ok.ensures.made.stands
-    in
-    let me1 = c.serve_all-served.new.who.me in
-    let items = c.serve_all-served.new.others.items in
-    let told = c.serve_all-served.result in
-    let next = c.serve_all-served.new.next in
-    let s = c.serve_all-served.ensures.serving me.0 (own_added me.0 add) s0 in (
-      me.0,
-      own_added me.0 add,
-      s.1.collected,
-      seats,
-      back_batch me me1 c.install_handles.new.who.me seats add room told items next all s
-          c.install_handles.ensures.cleared,
-    )
+    let room = setup.limit - first.length - 1 in
+    let me1 = c.serve_all-plan.new.who.me in
+    let items = c.serve_all-plan.new.others.items in
+    let plan = c.serve_all-plan.result in
+    let next = c.serve_all-plan.new.next in
+    let s = served me me1 setup c.args.state.now first add c.in-Ok.next.added plan items
+    c.in-Ok.next.cache next c.requires.seat.setup c.requires.state c.requires.make
+    c.in-Ok.ensures.taken c.in-Ok.ensures.made c.serve_all-plan.ensures.serving in
+    let all = ap (λ t. t.seats) c.requires.seat.setup in
+    let b = back_batch me me1 c.install_handles.new.who.me setup.seats add room plan items next
+    all s c.install_handles.ensures.cleared in
+    (me.0, own_added me.0 add, s.1.collected, setup.seats, b)
 
-pub returns-then-not-install_handles-clause-left :
-    goal.returns-then-not-install_handles-clause-left
+pub returns-then-not-install_handles-clause-left : goal.returns-then-not-install_handles-clause-left
 returns-then-not-install_handles-clause-left c =
     let me = c.args.who.now.me in
     let add = c.args.add in
-    let seats = c.args.context.now.setup.now.seats in
+    let setup = c.args.context.now.setup.now in
     let first = c.take_next.new.state in
+    let room = setup.limit - first.length - 1 in
+    let me1 = c.serve_all-plan.new.who.me in
+    let items = c.serve_all-plan.new.others.items in
+    let plan = c.serve_all-plan.result in
+    let next = c.serve_all-plan.new.next in
+    let s = served me me1 setup c.args.state.now first add c.in-Ok.next.added plan items
+    c.in-Ok.next.cache next c.requires.seat.setup c.requires.state c.requires.make
+    c.in-Ok.ensures.taken c.in-Ok.ensures.made c.serve_all-plan.ensures.serving in
+    let all = ap (λ t. t.seats) c.requires.seat.setup in
     let t = c.in-Ok.ensures.taken in
-    let all = ap (λ s. s.seats) c.requires.seat.setup in
-    let limit = ap (λ s. s.limit) c.requires.seat.setup in
-    let room = c.args.context.now.setup.now.limit - first.length - 1 in
-    let s0 = can_serve me seats c.args.state.now add room first.served first.lagging.others.items
-    c.in-Ok.next.cache all c.requires.state
-    (omega (arith, t.0.length, c.requires.make.room, limit)) t.1.1 t.0.served c.in-Ok.ensures.made.stands
-    in
-    let me1 = c.serve_all-served.new.who.me in
-    let items = c.serve_all-served.new.others.items in
-    let told = c.serve_all-served.result in
-    let next = c.serve_all-served.new.next in
-    let s = c.serve_all-served.ensures.serving me.0 (own_added me.0 add) s0 in
-    back_leaves me c.send_all_back-state.new.who.me seats c.args.state.now _ add
-    (own_added me.0 add) seats c.send_all_back-state.result c.requires.state
-    (c.send_all_back-state.ensures.back me.0 (own_added me.0 add) s.1.collected seats
-    (back_batch me me1 c.install_handles.new.who.me seats add room told items next all s
-    c.install_handles.ensures.cleared))
-    t.0.active t.2 t.0.length t.0.flips refl
+    let b = back_batch me me1 c.install_handles.new.who.me setup.seats add room plan items next
+    all s c.install_handles.ensures.cleared in
+    back_leaves me c.send_all_back-state.new.who.me setup.seats c.args.state.now _ setup.seats
+    c.send_all_back-state.result c.requires.state
+    (c.send_all_back-state.ensures.back me.0 (own_added me.0 add) s.1.collected setup.seats b)
+    t.0.active t.2 t.0.length refl
 
 pub swap-requires : goal.swap-requires
 swap-requires c =
     let me = c.args.who.now.me in
     let add = c.args.add in
-    let seats = c.args.context.now.setup.now.seats in
+    let setup = c.args.context.now.setup.now in
     let first = c.take_next.new.state in
+    let room = setup.limit - first.length - 1 in
+    let me1 = c.serve_all-plan.new.who.me in
+    let items = c.serve_all-plan.new.others.items in
+    let plan = c.serve_all-plan.result in
+    let next = c.serve_all-plan.new.next in
+    let s = served me me1 setup c.args.state.now first add c.in-Ok.next.added plan items
+    c.in-Ok.next.cache next c.requires.seat.setup c.requires.state c.requires.make
+    c.in-Ok.ensures.taken c.in-Ok.ensures.made c.serve_all-plan.ensures.serving in
     let t = c.in-Ok.ensures.taken in
-    let all = ap (λ s. s.seats) c.requires.seat.setup in
-    let limit = ap (λ s. s.limit) c.requires.seat.setup in
-    let room = c.args.context.now.setup.now.limit - first.length - 1 in
-    let s0 = can_serve me seats c.args.state.now add room first.served first.lagging.others.items
-    c.in-Ok.next.cache all c.requires.state
-    (omega (arith, t.0.length, c.requires.make.room, limit)) t.1.1 t.0.served c.in-Ok.ensures.made.stands
-    in
-    let me1 = c.serve_all-served.new.who.me in
-    let items = c.serve_all-served.new.others.items in
-    let told = c.serve_all-served.result in
-    let next = c.serve_all-served.new.next in
-    let s = c.serve_all-served.ensures.serving me.0 (own_added me.0 add) s0 in
-    let made = c.len-made.ensures ∙ c.serve_all-served.new.others.ok.0 in (
-      omega (arith, s.1.few, made, t.0.length, c.requires.make.room, limit),
-      omega (
-        arith,
-        t.0.flips,
-        c.requires.state.few,
-        c.requires.state.is_after.length,
-        c.requires.state.is_after.flips_is,
-        c.requires.make.room,
-        limit,
-      ),
-    )
+    let limit = ap (λ t. t.limit) c.requires.seat.setup in
+    let made = c.len-made.ensures ∙ c.serve_all-plan.new.others.ok.0 in
+    omega (arith, s.1.few, made, t.0.length, c.requires.make.room, limit)
 
 pub returns-clause-made : goal.returns-clause-made
 returns-clause-made c =
     let me = c.args.who.now.me in
     let add = c.args.add in
-    let seats = c.args.context.now.setup.now.seats in
+    let setup = c.args.context.now.setup.now in
     let first = c.take_next.new.state in
+    let room = setup.limit - first.length - 1 in
+    let me1 = c.serve_all-plan.new.who.me in
+    let items = c.serve_all-plan.new.others.items in
+    let plan = c.serve_all-plan.result in
+    let next = c.serve_all-plan.new.next in
+    let s = served me me1 setup c.args.state.now first add c.in-Ok.next.added plan items
+    c.in-Ok.next.cache next c.requires.seat.setup c.requires.state c.requires.make
+    c.in-Ok.ensures.taken c.in-Ok.ensures.made c.serve_all-plan.ensures.serving in
+    let all = ap (λ t. t.seats) c.requires.seat.setup in
     let t = c.in-Ok.ensures.taken in
-    let all = ap (λ s. s.seats) c.requires.seat.setup in
-    let limit = ap (λ s. s.limit) c.requires.seat.setup in
-    let room = c.args.context.now.setup.now.limit - first.length - 1 in
-    let s0 = can_serve me seats c.args.state.now add room first.served first.lagging.others.items
-    c.in-Ok.next.cache all c.requires.state
-    (omega (arith, t.0.length, c.requires.make.room, limit)) t.1.1 t.0.served c.in-Ok.ensures.made.stands
-    in
-    let me1 = c.serve_all-served.new.who.me in
-    let items = c.serve_all-served.new.others.items in
-    let told = c.serve_all-served.result in
-    let next = c.serve_all-served.new.next in
-    let s = c.serve_all-served.ensures.serving me.0 (own_added me.0 add) s0 in
-    let made = c.len-made.ensures ∙ c.serve_all-served.new.others.ok.0 in
+    let made = c.len-made.ensures ∙ c.serve_all-plan.new.others.ok.0 in
     let between : WriterState = record {
       active = first.active;
       standby = first.standby;
-      lagging = record { own = first.lagging.own; others = c.serve_all-served.new.others };
+      lagging = record { own = first.lagging.own; others = c.serve_all-plan.new.others };
       length = first.length;
-      flips = first.flips;
-      served = told;
+      head = plan;
     } in
-    prepared me me1 c.install_handles.new.who.me seats c.args.state.now between c.swap.new.state add
-    c.in-Ok.next.added room told (first.length + 1 + c.len-made.result) c.len-made.result items next
-    all c.requires.state c.requires.make s made
+    prepared me me1 c.install_handles.new.who.me setup.seats c.args.state.now between
+    c.swap.new.state add c.in-Ok.next.added room plan (first.length + 1 + c.len-made.result)
+    c.len-made.result items next all c.requires.state c.requires.make s made
     (c.install_handles.ensures.installed c.if-not-install_handles.false)
-    (ap (λ n. n + 1 + c.len-made.result) t.0.length) t.0.active t.0.length t.0.flips refl refl
+    (ap (λ n. n + 1 + c.len-made.result) t.0.length) t.0.active t.0.length refl refl
     c.swap.ensures c.in-Ok.ensures.made.tells

@@ -43,7 +43,8 @@ returns-then-not-wait_for_readers-clause-left g c =
     let me = c.args.who.now.me in
     let state = c.args.state.value in
     let p = c.wait_for_readers.ensures.pinned c.if-not-wait_for_readers.true in record {
-      leave = leaves_at me c.wait_for_readers.new.who.me p.0.0 p.0.1 state c.requires.writer.1 p.0.2;
+      leave = leaves_at me c.wait_for_readers.new.who.me p.0.0 p.0.1 state c.requires.writer.1
+          p.0.2;
       why = (
         omega (
           arith,
@@ -67,8 +68,9 @@ prepare-requires-clause-state g c =
     let me = c.args.who.now.me in
     subst (HoldsState c.wait_for_readers.new.who.me c.args.context.now.setup.now.seats)
     (sym c.deref_mut.ensures.value)
-    (holds_state me c.wait_for_readers.new.who.me c.args.context.now.setup.now.seats c.args.state.value
-    c.requires.writer.1 (c.wait_for_readers.ensures.cleared c.if-not-wait_for_readers.false))
+    (holds_state me c.wait_for_readers.new.who.me c.args.context.now.setup.now.seats
+    c.args.state.value c.requires.writer.1
+    (c.wait_for_readers.ensures.cleared c.if-not-wait_for_readers.false))
 
 pub prepare-requires-clause-make : goal.prepare-requires-clause-make
 prepare-requires-clause-make g c =

@@ -1,9 +1,9 @@
 -- Proves the contract of `collect`. Takes the Add that a seat asks for, if it asks for one.
-use Rattle.std.proofs.Common.{◌∙◌, ◌∷◌, arith, refl}
+use Rattle.std.proofs.Common.{◌∙◌, ◌∷◌, arith, refl, ap}
 use mathlib.Core.Option as maybe
 use Rattle.atomic_table.specs.Table.{step, rest}
-use Rattle.tsc_left_right.specs.Steps.{state_in}
-use Rattle.tsc_left_right.proofs.RequestCalls.{collect_at, collects_then, collected_then, bit_found}
+use Rattle.tsc_left_right.specs.Rule.{answer_bit}
+use Rattle.tsc_left_right.proofs.RequestCalls.{collect_at, collects_then, collected_then}
 use Rattle.tsc_left_right.proofs.serving.collect.Goals as goal
 
 pub load-toggle-requires : goal.load-toggle-requires
@@ -24,8 +24,8 @@ returns-clause-collected c =
     (collects_then st c.load-toggle.result c.args.seat c.request_word.result
     c.args.who.now.me c.load-toggle.new.seat.me refl c.request_word.ensures.value
     c.load-toggle.ensures.2)
-    (λ same. c.if-served-seat.false (bit_found c.args.served c.args.seat
-    (state_in c.args.who.now.me.0).served c.load-toggle.result c.requires.may.told same))
+    (λ same. c.if-answer_bit-toggle.false (c.answer_bit.ensures
+    ∙ ap (λ n. answer_bit n c.args.seat) c.requires.may.plan_is ∙ same))
     c.request_slot.ensures.value (c.exchange.ensures.2
     ∙ (λ i. (c.request_slot.result, c.in-Request.is i) ∷ rest c.load-toggle.new.seat.me.1))
     c.exchange.ensures.3

@@ -1,116 +1,100 @@
 -- Proves the contract of `publish`. Makes the writer's own Add, if there is one, and then all that
--- it has collected, in the order in which it has collected them.
-use Rattle.std.proofs.Common.{◌∙◌, sym, refl, ap, arith, ◌++◌}
-use Rattle.std.specs.Arc.{arc_value}
+-- it has collected, in that order.
+use Rattle.std.proofs.Common.{◌∙◌, refl, ap, arith, ◌++◌}
+use Rattle.std.specs.Prelude.{bit_xor}
 use mathlib.Core.Option as maybe
 use Rattle.atomic_table.specs.Table.{step}
-use Rattle.tsc_left_right.specs.declared.table.Slot.TheVariants.{Empty, Writer}
-use Rattle.tsc_left_right.specs.Steps.{state_in, with_state, flipped, own_of}
-use Rattle.tsc_left_right.specs.Participating.{slots_of}
+use Rattle.tsc_left_right.specs.declared.table.Slot.TheVariants.{Empty}
+use Rattle.tsc_left_right.specs.declared.table.WriterState.{WriterState}
+use Rattle.tsc_left_right.specs.Steps.{own_of}
+use Rattle.tsc_left_right.specs.Participating.{published_in}
 use Rattle.tsc_left_right.proofs.Calls.{first_in}
-use Rattle.tsc_left_right.proofs.WriterCalls.{publishes_first, publishes_last, publish_at}
-use Rattle.tsc_left_right.proofs.WriterCalls.{published_then, published_first, published_last}
-use Rattle.tsc_left_right.proofs.WriterCalls.{taken_writer, writer_same}
+use Rattle.tsc_left_right.proofs.WriterCalls.{all_answered, publishes_hand, can_publish}
+use Rattle.tsc_left_right.proofs.WriterCalls.{publish_at, published_then, release_published}
+use Rattle.tsc_left_right.proofs.WriterCalls.{released_then}
 use Rattle.tsc_left_right.proofs.writing.publish.Goals as goal
 
 pub exchange-requires : goal.exchange-requires
 exchange-requires c =
     let me = c.args.who.now.me in
-    let state = c.args.state in
-    let first = publishes_first me.0 me c.turn_past.new.who.me
-    (arc_value state.value.active) state.value.length me.0.setup.seats c.args.requests
-    c.requires.installed c.requires.requests c.turn_past.ensures.turned in (
-      c.turn_past.ensures.table ∙ c.requires.of.table,
-      first_in c.turn_past.new.who.me.1 (c.requires.installed.slots ++ slots_of
-          (state_in me.0).collected) 0 0 Empty (ap (λ m. m.1) first) refl,
+    let h = c.requires.installed in
+    let a = all_answered me.0 me c.lay_replies-head.new.who.me c.args.state.value
+    c.deref-2.result.now c.deref-3.result.now c.as_slice-others.result.now
+    c.lay_replies-head.result h c.requires.ready (c.as_slice-others.ensures.value
+    ∙ ap (λ d. d.lagging.others.items) c.deref.ensures) c.deref-2.ensures c.deref-3.ensures
+    c.lay_replies-head.ensures.answered in (
+      c.lay_replies-head.ensures.table ∙ c.requires.of.table,
+      first_in c.lay_replies-head.new.who.me.1 (h.slots ++ a.0.replies) 0 0 Empty
+          (ap (λ m. m.1) a.0.is) refl,
     )
 
 pub store-requires : goal.store-requires
 store-requires c =
     let me = c.args.who.now.me in
-    let state = c.args.state in
-    let first = publishes_first me.0 me c.turn_past.new.who.me
-    (arc_value state.value.active) state.value.length me.0.setup.seats c.args.requests
-    c.requires.installed c.requires.requests c.turn_past.ensures.turned in
-    let last = publishes_last me.0 c.turn_past.new.who.me c.exchange.new.seat.me
-    c.turn.new.self.me me.0.setup.seats state c.requires.installed.slots first
-    c.exchange.ensures.3 c.turn.ensures.2 in (
-      c.turn.ensures.0 ∙ c.exchange.ensures.0 ∙ c.turn_past.ensures.table ∙ c.requires.of.table,
+    let h = c.requires.installed in
+    let n = bit_xor c.lay_replies-head.result 1 in
+    let a = all_answered me.0 me c.lay_replies-head.new.who.me c.args.state.value
+    c.deref-2.result.now c.deref-3.result.now c.as_slice-others.result.now
+    c.lay_replies-head.result h c.requires.ready (c.as_slice-others.ensures.value
+    ∙ ap (λ d. d.lagging.others.items) c.deref.ensures) c.deref-2.ensures c.deref-3.ensures
+    c.lay_replies-head.ensures.answered in
+    let can = can_publish me.0 me c.lay_replies-head.new.who.me c.args.state.value n _ h
+    c.requires.ready a.0 a.1 (ap (λ (d : WriterState). record d { head = n })
+    c.deref_mut.ensures.value) in (
+      c.turn.ensures.0 ∙ c.exchange.ensures.0 ∙ c.lay_replies-head.ensures.table
+          ∙ c.requires.of.table,
       omega (arith, c.requires.of.sized.words),
       publish_at c.args.shared.now.key c.args.shared.now.table_id.slots
-          (step c.args.shared.now.table_id.slots 16 c.deref.result.now.flips 0 maybe.none)
-          c.turn.new.self.id me.0 me c.turn.new.self.me c.deref.result.now.flips state
-          c.requires.installed c.requires.ready last (ap (λ d. d.flips) c.deref.ensures),
+          (step c.args.shared.now.table_id.slots 16 n 0 maybe.none) c.turn.new.self.id me.0
+          c.turn.new.self.me n _ h.slots a.0.replies h.holds can
+          (publishes_hand me.0 me c.lay_replies-head.new.who.me c.exchange.new.seat.me
+          c.turn.new.self.me _ _ _ _ _ h a.0 c.exchange.ensures.3 c.turn.ensures.2),
     )
 
-pub exchange-requires-2 : goal.exchange-requires-2
-exchange-requires-2 c =
+pub store-requires-2 : goal.store-requires-2
+store-requires-2 c =
     let me = c.args.who.now.me in
-    let state = c.args.state in
-    let first = publishes_first me.0 me c.turn_past.new.who.me
-    (arc_value state.value.active) state.value.length me.0.setup.seats c.args.requests
-    c.requires.installed c.requires.requests c.turn_past.ensures.turned in
-    let last = publishes_last me.0 c.turn_past.new.who.me c.exchange.new.seat.me
-    c.turn.new.self.me me.0.setup.seats state c.requires.installed.slots first
-    c.exchange.ensures.3 c.turn.ensures.2 in
-    let done = published_then (step c.args.shared.now.table_id.slots 16 c.deref.result.now.flips 0
-    maybe.none) c.deref.result.now.flips me.0 c.turn.new.self.me c.store.new.seat.me
-    c.requires.installed.slots (arc_value state.value.active) state.value.length
-    me.0.setup.seats state c.requires.installed.filled last c.store.ensures.2 in
-    let again = published_first me.0
-    (with_state me.0 (flipped (state_in me.0) (own_of state.value))) c.store.new.seat.me
-    c.turn_past-2.new.who.me c.args.requests state done c.requires.requests
-    c.turn_past-2.ensures.turned in (
-      c.turn_past-2.ensures.table ∙ c.store.ensures.0 ∙ c.turn.ensures.0 ∙ c.exchange.ensures.0
-          ∙ c.turn_past.ensures.table ∙ c.requires.of.table,
-      first_in c.turn_past-2.new.who.me.1 (slots_of (state_in me.0).collected) 0 0
-          (Writer state) (ap (λ m. m.1) again) refl,
+    let h = c.requires.installed in
+    let n = bit_xor c.lay_replies-head.result 1 in
+    let own = ap own_of c.deref_mut.ensures.value in
+    let a = all_answered me.0 me c.lay_replies-head.new.who.me c.args.state.value
+    c.deref-2.result.now c.deref-3.result.now c.as_slice-others.result.now
+    c.lay_replies-head.result h c.requires.ready (c.as_slice-others.ensures.value
+    ∙ ap (λ d. d.lagging.others.items) c.deref.ensures) c.deref-2.ensures c.deref-3.ensures
+    c.lay_replies-head.ensures.answered in
+    let can = can_publish me.0 me c.lay_replies-head.new.who.me c.args.state.value n _ h
+    c.requires.ready a.0 a.1 (ap (λ (d : WriterState). record d { head = n })
+    c.deref_mut.ensures.value) in
+    let then_ = published_then (step c.args.shared.now.table_id.slots 16 n 0 maybe.none) n me.0
+    c.turn.new.self.me c.store.new.seat.me _ h.slots a.0.replies (own_of c.args.state.value) can own
+    (publishes_hand me.0 me c.lay_replies-head.new.who.me c.exchange.new.seat.me
+    c.turn.new.self.me _ _ _ _ _ h a.0 c.exchange.ensures.3 c.turn.ensures.2) c.store.ensures.2 in (
+      c.store.ensures.0 ∙ c.turn.ensures.0 ∙ c.exchange.ensures.0
+          ∙ c.lay_replies-head.ensures.table ∙ c.requires.of.table,
+      omega (arith, c.requires.of.sized.words),
+      release_published c.args.shared.now.key c.args.shared.now.table_id.slots
+          (step c.args.shared.now.table_id.slots 0 0 0 maybe.none) c.store.new.seat.id me.0
+          c.store.new.seat.me n _ h.slots a.0.replies (own_of c.args.state.value) h.holds can own
+          then_,
     )
-
-pub unreachable-requires : goal.unreachable-requires
-unreachable-requires c =
-    let me = c.args.who.now.me in
-    let state = c.args.state in
-    let first = publishes_first me.0 me c.turn_past.new.who.me
-    (arc_value state.value.active) state.value.length me.0.setup.seats c.args.requests
-    c.requires.installed c.requires.requests c.turn_past.ensures.turned in
-    let last = publishes_last me.0 c.turn_past.new.who.me c.exchange.new.seat.me
-    c.turn.new.self.me me.0.setup.seats state c.requires.installed.slots first
-    c.exchange.ensures.3 c.turn.ensures.2 in
-    let done = published_then (step c.args.shared.now.table_id.slots 16 c.deref.result.now.flips 0
-    maybe.none) c.deref.result.now.flips me.0 c.turn.new.self.me c.store.new.seat.me
-    c.requires.installed.slots (arc_value state.value.active) state.value.length
-    me.0.setup.seats state c.requires.installed.filled last c.store.ensures.2 in
-    let again = published_first me.0
-    (with_state me.0 (flipped (state_in me.0) (own_of state.value))) c.store.new.seat.me
-    c.turn_past-2.new.who.me c.args.requests state done c.requires.requests
-    c.turn_past-2.ensures.turned in
-    c.in_default.not-Writer state (taken_writer c.turn_past-2.new.who.me.1
-    (slots_of (state_in me.0).collected) state c.exchange-2.result (ap (λ m. m.1) again)
-    c.exchange-2.ensures.2)
 
 pub returns-clause-published : goal.returns-clause-published
 returns-clause-published c =
     let me = c.args.who.now.me in
-    let state = c.args.state in
-    let first = publishes_first me.0 me c.turn_past.new.who.me
-    (arc_value state.value.active) state.value.length me.0.setup.seats c.args.requests
-    c.requires.installed c.requires.requests c.turn_past.ensures.turned in
-    let last = publishes_last me.0 c.turn_past.new.who.me c.exchange.new.seat.me
-    c.turn.new.self.me me.0.setup.seats state c.requires.installed.slots first
-    c.exchange.ensures.3 c.turn.ensures.2 in
-    let done = published_then (step c.args.shared.now.table_id.slots 16 c.deref.result.now.flips 0
-    maybe.none) c.deref.result.now.flips me.0 c.turn.new.self.me c.store.new.seat.me
-    c.requires.installed.slots (arc_value state.value.active) state.value.length
-    me.0.setup.seats state c.requires.installed.filled last c.store.ensures.2 in
-    let again = published_first me.0
-    (with_state me.0 (flipped (state_in me.0) (own_of state.value))) c.store.new.seat.me
-    c.turn_past-2.new.who.me c.args.requests state done c.requires.requests
-    c.turn_past-2.ensures.turned in (
-      writer_same c.in-Writer.state state (sym c.in-Writer.is
-          ∙ taken_writer c.turn_past-2.new.who.me.1 (slots_of (state_in me.0).collected) state
-          c.exchange-2.result (ap (λ m. m.1) again) c.exchange-2.ensures.2),
-      published_last me.0 (with_state me.0 (flipped (state_in me.0) (own_of state.value)))
-          c.turn_past-2.new.who.me c.exchange-2.new.seat.me c.turn-2.new.self.me state again
-          c.exchange-2.ensures.3 c.turn-2.ensures.2,
-    )
+    let h = c.requires.installed in
+    let n = bit_xor c.lay_replies-head.result 1 in
+    let own = ap own_of c.deref_mut.ensures.value in
+    let a = all_answered me.0 me c.lay_replies-head.new.who.me c.args.state.value
+    c.deref-2.result.now c.deref-3.result.now c.as_slice-others.result.now
+    c.lay_replies-head.result h c.requires.ready (c.as_slice-others.ensures.value
+    ∙ ap (λ d. d.lagging.others.items) c.deref.ensures) c.deref-2.ensures c.deref-3.ensures
+    c.lay_replies-head.ensures.answered in
+    let can = can_publish me.0 me c.lay_replies-head.new.who.me c.args.state.value n _ h
+    c.requires.ready a.0 a.1 (ap (λ (d : WriterState). record d { head = n })
+    c.deref_mut.ensures.value) in
+    let then_ = published_then (step c.args.shared.now.table_id.slots 16 n 0 maybe.none) n me.0
+    c.turn.new.self.me c.store.new.seat.me _ h.slots a.0.replies (own_of c.args.state.value) can own
+    (publishes_hand me.0 me c.lay_replies-head.new.who.me c.exchange.new.seat.me
+    c.turn.new.self.me _ _ _ _ _ h a.0 c.exchange.ensures.3 c.turn.ensures.2) c.store.ensures.2 in
+    released_then c.store.new.seat.me c.store-2.new.seat.me
+    (published_in me.0 (own_of c.args.state.value)) _ then_ c.store-2.ensures.2

@@ -1,12 +1,12 @@
--- Proves the contract of `release`. Tells all seats whose requests were answered or sent back, and
--- releases the writer lock.
-use Rattle.std.proofs.Common.{◌∙◌, refl, ap, arith, ◌∷◌}
+-- Proves the contract of `release`. Releases the writer lock.
+use Rattle.std.proofs.Common.{◌∙◌, refl, ap, arith, ◌∷◌, ◌++◌, []}
 use mathlib.Core.Option as maybe
 use Rattle.atomic_table.specs.Table.{step}
 use Rattle.tsc_left_right.specs.declared.table.Slot.TheVariants.{Empty, Writer}
+use Rattle.tsc_left_right.specs.Participating.{cleared_in}
 use Rattle.tsc_left_right.proofs.Calls.{first_in}
-use Rattle.tsc_left_right.proofs.WriterCalls.{none_collected, serve_at, release_at, releases_hand}
-use Rattle.tsc_left_right.proofs.WriterCalls.{released_then, laid_first}
+use Rattle.tsc_left_right.proofs.WriterCalls.{none_collected, release_at, releases_hand}
+use Rattle.tsc_left_right.proofs.WriterCalls.{released_then}
 use Rattle.tsc_left_right.proofs.writing.release.Goals as goal
 
 pub exchange-requires : goal.exchange-requires
@@ -23,38 +23,23 @@ pub store-requires : goal.store-requires
 store-requires c =
     let me = c.args.who.now.me in
     let lock = c.requires.may.lock in (
-      c.exchange.ensures.0 ∙ c.requires.of.table,
-      omega (arith, c.requires.of.sized.words),
-      serve_at c.args.shared.now.key c.args.shared.now.table_id.slots
-          (step c.args.shared.now.table_id.slots 32 c.deref-2.result.now.served 0 maybe.none)
-          c.exchange.new.seat.id me.0 c.exchange.new.seat.me lock.0 lock.1
-          ((0, Writer c.args.state) ∷ lock.2.slots) c.deref-2.result.now.served
-          (laid_first me c.exchange.new.seat.me lock c.args.state
-          (none_collected me lock c.requires.may.none) c.exchange.ensures.3) lock.2.holds
-          (ap (λ d. d.served) c.deref-2.ensures ∙ c.requires.may.served),
-    )
-
-pub store-requires-2 : goal.store-requires-2
-store-requires-2 c =
-    let me = c.args.who.now.me in
-    let lock = c.requires.may.lock in (
-      c.turn.ensures.0 ∙ c.store.ensures.0 ∙ c.exchange.ensures.0 ∙ c.requires.of.table,
+      c.turn.ensures.0 ∙ c.exchange.ensures.0 ∙ c.requires.of.table,
       omega (arith, c.requires.of.sized.words),
       release_at c.args.shared.now.key c.args.shared.now.table_id.slots
           (step c.args.shared.now.table_id.slots 0 0 0 maybe.none) c.turn.new.self.id me.0
           c.turn.new.self.me lock.0 lock.1 lock.2.slots c.args.state
-          (releases_hand me c.exchange.new.seat.me c.store.new.seat.me c.turn.new.self.me lock
-          c.args.state (none_collected me lock c.requires.may.none) c.exchange.ensures.3
-          c.store.ensures.2 c.turn.ensures.2)
-          lock.2.holds c.requires.may.none lock.2.filled c.requires.may.is_after
-          c.requires.may.served,
+          (releases_hand me c.exchange.new.seat.me c.turn.new.self.me lock c.args.state
+          (none_collected me lock c.requires.may.none) c.exchange.ensures.3 c.turn.ensures.2)
+          lock.2.holds c.requires.may.none c.requires.may.is_told lock.2.filled
+          c.requires.may.is_after,
     )
 
 pub returns-clause-released : goal.returns-clause-released
 returns-clause-released c =
     let me = c.args.who.now.me in
     let lock = c.requires.may.lock in
-    released_then me c.turn.new.self.me c.store-2.new.seat.me lock _
-    (releases_hand me c.exchange.new.seat.me c.store.new.seat.me c.turn.new.self.me lock
-    c.args.state (none_collected me lock c.requires.may.none) c.exchange.ensures.3 c.store.ensures.2
-    c.turn.ensures.2) c.store-2.ensures.2
+    released_then c.turn.new.self.me c.store.new.seat.me (cleared_in me.0 lock.0 lock.1)
+    (lock.2.slots ++ (0, Writer c.args.state) ∷ [])
+    (releases_hand me c.exchange.new.seat.me c.turn.new.self.me lock c.args.state
+    (none_collected me lock c.requires.may.none) c.exchange.ensures.3 c.turn.ensures.2)
+    c.store.ensures.2

@@ -8,7 +8,7 @@ use Rattle.tsc_check.specs.Verdict.{verdict_of}
 use Rattle.tsc_check.specs.TrueLog.{IsRunOf, adds_of_lists}
 use Rattle.tsc_check.proofs.TrueVerdict.{run_is_right}
 use Rattle.std.specs.Prelude.{Ok, Err, IfOk, IfErr}
-use Rattle.tsc_run.specs.Runs.{RunsAll, StopsLists, Told}
+use Rattle.tsc_run.specs.Runs.{RunsAll, StopsLists, RunResult}
 use Rattle.tsc_run.proofs.Seating.{can_end}
 use Rattle.tsc_run.proofs.Unstarted.{is_started}
 use Rattle.tsc_run.proofs.Truth.{run_of}
@@ -51,7 +51,7 @@ returns g c =
     let lists = c.slice-lists.ensures.value ∙ ap (λ (t : Trace). t.threads) c.trace.view_is in
     let config = opened.settings_kept ∙ ap (λ (t : Trace). t.config) c.trace.view_is in
     let told : c.in_ok-runs.runs.told ≡ Ok c.in_ok-lines.lines = search rules in
-    let ran_all = subst (λ (told : Told). IfOk told
+    let ran_all = subst (λ (told : RunResult). IfOk told
     (λ all. RunsAll cache 0 (map (λ calls. calls.items) slices) all.items
     c.in_ok-runs.runs.seats.items)) told c.in_ok-runs.ensures.runs.ran in
     let runs = subst (λ (ls : List (List Call)). RunsAll cache 0 ls lines
@@ -76,7 +76,8 @@ returns-in_err-lines-clause-why g c =
     let limit : cache.limit ≡ adds_of_lists lists = c.in_ok-cache.ensures.opened.limit_kept ∙
     c.count_all_adds-adds.ensures.value in
     let told : c.in_ok-runs.runs.told ≡ Err why = search rules in
-    let stopped = subst (λ (told : Told). IfErr told (λ why. StopsLists why cache lists seats)) told
+    let stopped = subst (λ (told : RunResult). IfErr told (λ why. StopsLists why cache
+    lists seats)) told
     c.in_ok-runs.ensures.runs.stopped in
     let same : c.from_residual-in_err-lines.result ≡ Err why = search rules in
     rw same (can_end why cache lists seats c.in-Ok._closed limit stopped c.in-Ok.ensures.closed)
@@ -87,7 +88,8 @@ returns-in_err-lines-clause-no_thread g c =
     map (λ calls. calls.items) c.slice-lists.result.now in let seats =
     c.in_ok-runs.runs.seats.items in let why = c.in_err-lines.field-0.0 in
     let told : c.in_ok-runs.runs.told ≡ Err why = search rules in
-    let stopped = subst (λ (told : Told). IfErr told (λ why. StopsLists why cache lists seats)) told
+    let stopped = subst (λ (told : RunResult). IfErr told (λ why. StopsLists why cache
+    lists seats)) told
     c.in_ok-runs.ensures.runs.stopped in
     let same : c.from_residual-in_err-lines.result ≡ Err why = search rules in
     let started = is_started why cache lists seats stopped in

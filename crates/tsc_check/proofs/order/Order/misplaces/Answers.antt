@@ -4,7 +4,7 @@ use Rattle.std.proofs.Common.{◌≡◌, ◌∙◌, sym, ap, refl, ◌-◌, ◌�
 use Rattle.std.specs.Prelude.{slice_get}
 use Rattle.std.proofs.lemmas.Bool.Decides.{nat_tests}
 use Rattle.std.proofs.lemmas.Option.{slice_get_read}
-use Rattle.tsc_trace.specs.Sayings.{front_of}
+use Rattle.tsc_trace.specs.CallAnswers.{front_of}
 use Rattle.tsc_check.specs.Verdict.{adds_in}
 use Rattle.tsc_check.proofs.Misplaced.{known_above, past_last, taken, front_wrong}
 use Rattle.tsc_check.proofs.order.Order.misplaces.Goals as goal

@@ -2,7 +2,7 @@
 -- elsewhere.
 use Rattle.std.proofs.Common.{subst}
 use Rattle.tsc_shared.specs.Keeping.{seat_view}
-use Rattle.tsc_shared.specs.Answers.{Looks}
+use Rattle.tsc_shared.specs.Answers.{AnswersLookup}
 use Rattle.tsc_shared.proofs.SeatSteps.{kept_looked, looks_now, is_above, tells_no_part}
 use Rattle.tsc_shared.proofs.shared.SharedCache.get_max_ref.Goals as goal
 
@@ -14,7 +14,7 @@ invariant_of-seat c = let l = c.read_max-value.ensures.looked in
 
 pub returns-clause-looked : goal.returns-clause-looked
 returns-clause-looked c = let l = c.read_max-value.ensures.looked in
-    subst (λ old. Looks old (seat_view c.read_max-value.new.who) c.args.span.now
+    subst (λ old. AnswersLookup old (seat_view c.read_max-value.new.who) c.args.span.now
     (record { value = c.read_max-value.result.0; front = c.read_max-value.result.1 }))
     c.seat.view_is
     (looks_now c.seat.inside.participant c.read_max-value.new.who c.read_max-value.result.1 l.0

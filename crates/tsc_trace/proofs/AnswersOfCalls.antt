@@ -8,9 +8,9 @@ use Rattle.tsc_trace_format.specs.declared.trace.Call.TheVariants.{Add, Batch, G
 use Rattle.tsc_trace_format.specs.declared.trace.Kind.{Kind}
 use Rattle.tsc_trace_format.specs.declared.trace.Kind.TheVariants as kind
 use Rattle.tsc_trace.specs.Log.{made, said_in}
-use Rattle.tsc_trace.specs.Sayings.{kind_of_said, told_of, front_of}
-use Rattle.tsc_trace.specs.declared.log.Said.{Said}
-use Rattle.tsc_trace.specs.declared.log.Said.TheVariants as said
+use Rattle.tsc_trace.specs.CallAnswers.{kind_of_answer, outcome_of, front_of}
+use Rattle.tsc_trace.specs.declared.log.CallAnswer.{CallAnswer}
+use Rattle.tsc_trace.specs.declared.log.CallAnswer.TheVariants as said
 
 -- ---- kinds
 
@@ -40,22 +40,22 @@ call_adds (Batch marks now) = refl
 call_adds (Get span) = refl
 call_adds Low = refl
 
-said_adds : (s : Said) → is_some (told_of s) ≡ adds_by_kind (kind_of_said s)
+said_adds : (s : CallAnswer) → is_some (outcome_of s) ≡ adds_by_kind (kind_of_answer s)
 said_adds (said.Add place added) = refl
 said_adds (said.Batch place added) = refl
 said_adds (said.Get front value) = refl
 said_adds (said.Low front time) = refl
 
 -- an answer of a call's kind tells of an addition just where the call adds
-pub tells_where_adds : (call : Call) (s : Said) →
-    is_same_kind (kind_of call) (kind_of_said s) ≡ true → is_some (told_of s) ≡ adds call
+pub tells_where_adds : (call : Call) (s : CallAnswer) →
+    is_same_kind (kind_of call) (kind_of_answer s) ≡ true → is_some (outcome_of s) ≡ adds call
 tells_where_adds call s same = said_adds s ∙
-    ap adds_by_kind (sym (one_kind (kind_of call) (kind_of_said s) same)) ∙ sym (call_adds call)
+    ap adds_by_kind (sym (one_kind (kind_of call) (kind_of_answer s) same)) ∙ sym (call_adds call)
 
 -- ---- what a call answers
 
 pub kind_in : (settings : Settings) (s : CacheState) (front : ℕ) (call : Call) →
-    kind_of_said (said_in settings s front call) ≡ kind_of call
+    kind_of_answer (said_in settings s front call) ≡ kind_of call
 kind_in settings s front (Add span value now) = refl
 kind_in settings s front (Batch marks now) = refl
 kind_in settings s front (Get span) = refl
@@ -69,14 +69,14 @@ front_in settings s front (Get span) = refl
 front_in settings s front Low = refl
 
 pub tells_in : (settings : Settings) (s : CacheState) (front : ℕ) (call : Call) →
-    is_some (told_of (said_in settings s front call)) ≡ adds call
+    is_some (outcome_of (said_in settings s front call)) ≡ adds call
 tells_in settings s front (Add span value now) = refl
 tells_in settings s front (Batch marks now) = refl
 tells_in settings s front (Get span) = refl
 tells_in settings s front Low = refl
 
 pub told_in : (settings : Settings) (s : CacheState) (front : ℕ) (call : Call) →
-    told_of (said_in settings s front call) ≡
+    outcome_of (said_in settings s front call) ≡
     option_map (λ a. record { place = front; added = (made settings s a).added }) (addition_of call)
 told_in settings s front (Add span value now) = refl
 told_in settings s front (Batch marks now) = refl
