@@ -2,15 +2,16 @@
 
 mod batches;
 mod between;
+mod by_bytes;
 mod cache;
+mod compare;
 mod growths;
 mod hand_over;
 mod keys;
-mod marks;
 mod player;
 mod random;
 mod refused;
-mod rows;
+mod steps;
 mod summaries;
 mod texts;
 mod work;

@@ -8,3 +8,5 @@
 mod cache;
 #[cfg(test)]
 mod page;
+#[cfg(test)]
+mod words;

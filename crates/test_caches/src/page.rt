@@ -3,6 +3,7 @@
 
 mod borrowed;
 mod filled;
+mod filling;
 mod full;
 mod keys;
 mod pages;
@@ -10,6 +11,7 @@ mod refused;
 mod rows;
 mod shared;
 mod span;
+mod stage;
 mod steps;
 mod time;
 mod tree;

@@ -1,119 +1,75 @@
 //! Marks that are added together, all of them or none, by each call that does so.
-use super::player::play;
-use super::rows::Does::{Add, Look, Stand, With};
-use super::rows::{
-    AT_20, AT_25, AT_40, DROPPED, FIRST, FLOOR, KEPT, NOBODY, NONE, NOT_KEPT, REFUSED, RETENTION,
-    ROTATED, Row, SECOND, TOGETHER, Table, Text,
-};
+use super::player::{RETENTION, TOGETHER};
+use super::steps::play;
 use std::test::Fail;
 
-const BATCHES: &[Row] = &[
-    (
-        "two owners at one time",
-        &[
-            (With, b"a", AT_20, FIRST),
-            (Add(AT_20, KEPT), b"b|[a,c)", AT_20, SECOND),
-            (Stand(1, 0, FLOOR), NONE, FLOOR, NOBODY),
-            (Look, b"a", AT_20, NOBODY),
-            (Look, b"b", AT_20, SECOND),
-            (Look, b"c", FLOOR, NOBODY),
-        ],
-    ),
-    (
-        "one rotates",
-        &[
-            (Add(AT_20, ROTATED), b"a|b|c|d|e", AT_20, FIRST),
-            (Stand(2, 1, FLOOR), NONE, FLOOR, NOBODY),
-            (Look, b"a|e", AT_20, FIRST),
-        ],
-    ),
-    (
-        "no marks",
-        &[
-            (Add(AT_20, NOT_KEPT), NONE, FLOOR, NOBODY),
-            (Stand(1, 0, FLOOR), NONE, FLOOR, NOBODY),
-            (Look, b"a", FLOOR, NOBODY),
-        ],
-    ),
-    (
-        "none is kept",
-        &[
-            (With, b"a", FLOOR, FIRST),
-            (Add(AT_20, NOT_KEPT), b"(a,a)", AT_20, FIRST),
-            (Stand(1, 0, FLOOR), NONE, FLOOR, NOBODY),
-            (Look, b"a", FLOOR, NOBODY),
-        ],
-    ),
-    (
-        "the last alone is kept",
-        &[
-            (With, b"a", FLOOR, FIRST),
-            (Add(AT_20, KEPT), b"b", AT_20, FIRST),
-            (Stand(1, 0, FLOOR), NONE, FLOOR, NOBODY),
-            (Look, b"a", FLOOR, NOBODY),
-            (Look, b"b", AT_20, FIRST),
-        ],
-    ),
-    (
-        "one is too large",
-        &[
-            (Add(AT_20, REFUSED), b"a|*\x00\x65a", AT_20, FIRST),
-            (Stand(1, 0, FLOOR), NONE, FLOOR, NOBODY),
-            (Look, b"a", FLOOR, NOBODY),
-        ],
-    ),
-    (
-        "the first is too large",
-        &[
-            (Add(AT_20, REFUSED), b"*\x00\x65a|a", AT_20, FIRST),
-            (Stand(1, 0, FLOOR), NONE, FLOOR, NOBODY),
-            (Look, b"a", FLOOR, NOBODY),
-        ],
-    ),
-    (
-        "one below the floor is too large",
-        &[
-            (Add(AT_20, REFUSED), b"*\x00\x65a", FLOOR, FIRST),
-            (Stand(1, 0, FLOOR), NONE, FLOOR, NOBODY),
-            (Look, b"a", FLOOR, NOBODY),
-        ],
-    ),
-];
+const BATCHES: &str = "# two owners at one time
+with a 20¹
+add b|[a,c) 20² 20 kept
+stand 1 0 5
+look a 20
+look b 20²
+look c 5
+# one rotates
+add a|b|c|d|e 20¹ 20 rotated
+stand 2 1 5
+look a|e 20¹
+# no marks
+add - 5 20 not_kept
+stand 1 0 5
+look a 5
+# none is kept
+with a 5¹
+add (a,a) 20¹ 20 not_kept
+stand 1 0 5
+look a 5
+# the last alone is kept
+with a 5¹
+add b 20¹ 20 kept
+stand 1 0 5
+look a 5
+look b 20¹
+# one is too large
+add a|a×101 20¹ 20 refused
+stand 1 0 5
+look a 5
+# the first is too large
+add a×101|a 20¹ 20 refused
+stand 1 0 5
+look a 5
+# one below the floor is too large
+add a×101 5¹ 20 refused
+stand 1 0 5
+look a 5";
 
-const TIGHT: &[Row] = &[
-    (
-        "the page that they filled is dropped",
-        &[
-            (With, b"a|b", AT_20, FIRST),
-            (Add(AT_40, DROPPED), b"c", AT_40, FIRST),
-            (Stand(1, 1, AT_20), NONE, FLOOR, NOBODY),
-            (Look, b"a", AT_20, NOBODY),
-            (Look, b"c", AT_40, FIRST),
-        ],
-    ),
-    (
-        "two rotations drop a page each, and the last mark none",
-        &[
-            (With, b"a|b", AT_20, FIRST),
-            (With, b"c|d", AT_25, FIRST),
-            (Add(AT_40, Some((true, true, 2))), b"e|f", AT_40, FIRST),
-            (Stand(1, 2, AT_25), NONE, FLOOR, NOBODY),
-            (Look, b"a|d", AT_25, NOBODY),
-            (Look, b"f", AT_40, FIRST),
-        ],
-    ),
-];
+const TIGHT: &str = "# the page that they filled is dropped
+with a|b 20¹
+add c 40¹ 40 dropped
+stand 1 1 20
+look a 20
+look c 40¹
+# two rotations drop a page each, and the last mark none
+with a|b 20¹
+with c|d 25¹
+add e|f 40¹ 40 dropped_2
+stand 1 2 25
+look a|d 25
+look f 40¹";
 
 /// What has to be answered alike, beside what is added.
-const FEW: Text = b"a|b|[a,z)";
-
-static TABLES: [Table; 2] = [
-    ((132, 132, 2, RETENTION), TOGETHER, FEW, BATCHES),
-    ((66, 66, 1, RETENTION), TOGETHER, FEW, TIGHT),
-];
+const FEW: &str = "a|b|[a,z)";
 
 /// Also for `scripts/refuse-each-growth`.
 #[test]
 fn a_refused_batch_can_be_made_again(rt: HostRuntime) -> Result<(), Fail> {
-    play(&rt, rt.alloc(), &TABLES)
+    play(
+        &rt,
+        rt.alloc(),
+        &((132, 132, 2, RETENTION), TOGETHER, FEW, BATCHES),
+    )?;
+    play(
+        &rt,
+        rt.alloc(),
+        &((66, 66, 1, RETENTION), TOGETHER, FEW, TIGHT),
+    )
 }

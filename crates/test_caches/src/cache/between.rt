@@ -1,11 +1,12 @@
 //! Lookups and Adds by the bytes of a start and an end.
-use super::marks::{at, config, value};
-use super::rows::{AT_20, FIRST, FLOOR, Limits, NOBODY, RETENTION};
+use super::player::{Limits, RETENTION, config};
+use crate::words::{FIRST, at, ends};
 use std::alloc::Global;
 use std::test::Fail;
-use tsc_cache::{AddBetweenFault, Added, Cache, CacheFault, TimestampCache};
+use tsc_cache::{AddBetweenFault, Added, Cache, TimestampCache};
 use tsc_span::{Ends, Key, Span, SpanFault, SpanRef};
 use tsc_time::Value;
+use uuid::Uuid;
 
 /// How many bytes the keys have, each of which is the beginning of the next one. The last is too
 /// long for an Add.
@@ -20,11 +21,11 @@ const LAST: u32 = 9;
 /// ends.
 const LOOKS: u32 = 168;
 
-/// A lookup by the places of its keys in `LENGTHS`.
+/// A lookup by the places of its keys in `LENGTHS`. The end 6 is none.
 #[derive(Clone, Copy)]
 struct Look {
     start: u32,
-    end: Option<u32>,
+    end: u32,
     ends: Ends,
 }
 
@@ -37,12 +38,15 @@ fn key(place: u32) -> &'static [u8] {
     LONGEST.get(..*length).unwrap_or(&LONGEST)
 }
 
+fn value(wall: u32) -> Value {
+    Value::of(at(u64::from(wall), 0), Uuid::from_u128(FIRST))
+}
+
 impl Look {
     fn of(number: u32) -> Look {
-        let end = number / 4 % 7;
         Look {
             start: number / 28,
-            end: (end < 6).then_some(end),
+            end: number / 4 % 7,
             ends: Ends {
                 exclude_from: number & 1 != 0,
                 exclude_to: number & 2 != 0,
@@ -52,61 +56,71 @@ impl Look {
 
     /// The lookup of the mark at a place.
     fn of_mark(place: u32) -> Look {
-        let behind = place % 2 != 0;
         Look {
             start: place / 2,
-            end: (place < LAST).then_some(place.div_ceil(2)),
-            ends: Ends {
-                exclude_from: behind,
-                exclude_to: behind,
-            },
+            end: if place < LAST { place.div_ceil(2) } else { 6 },
+            ends: ends(if place % 2 == 0 { "[]" } else { "()" }),
         }
     }
 
     /// The places of the first and of the last mark that the lookup overlaps; `None` where it is of
     /// the empty span.
     fn places(self) -> Option<(u32, u32)> {
-        let start = self.start.min(LAST);
-        let first = 2 * start + u32::from(self.ends.exclude_from);
-        let Some(end) = self.end else {
-            return Some((first, LAST));
-        };
+        let (start, end) = (2 * self.start.min(LAST), 2 * self.end.min(LAST));
         if start == end {
             let is_point = !self.ends.exclude_from || !self.ends.exclude_to;
-            return is_point.then_some((2 * start, 2 * start));
+            return is_point.then_some((start, start));
         }
-        let last = (2 * end.min(LAST)).saturating_sub(u32::from(self.ends.exclude_to));
+        let first = start + u32::from(self.ends.exclude_from);
+        if self.end == 6 {
+            return Some((first, LAST));
+        }
+        let last = end.saturating_sub(u32::from(self.ends.exclude_to));
         (start < end).then_some((first, last))
     }
 
     /// What is answered, where the times of marks rise or fall.
     fn told(self, rises: bool) -> Value {
         match self.places() {
-            Some((_, last)) if rises => value((u64::from(100 + last.min(LAST)), 0), FIRST),
-            Some((first, _)) => value((u64::from(100 - first.min(LAST)), 0), FIRST),
-            None => value(FLOOR, NOBODY),
+            Some((_, last)) if rises => value(100 + last.min(LAST)),
+            Some((first, _)) => value(100 - first.min(LAST)),
+            None => Value::unowned(at(5, 0)),
         }
     }
 
     fn end_key(self) -> Option<&'static [u8]> {
-        match self.end {
-            Some(end) => Some(key(end)),
-            None => None,
+        if self.end < 6 {
+            Some(key(self.end))
+        } else {
+            None
         }
     }
 
     /// Whether one of its keys is the longest.
     fn has_longest(self) -> bool {
-        self.start == 5 || self.end == Some(5)
+        self.start == 5 || self.end == 5
     }
-}
 
-/// The span over the keys of a lookup, which are none of the longest.
-fn span(alloc: Global, look: Look) -> Result<Span, SpanFault> {
-    let from = Key::new(alloc, key(look.start))?;
-    match look.end {
-        Some(end) => Ok(Span::for_lookup(from, Key::new(alloc, key(end))?, look.ends)),
-        None => Ok(Span::onward(from, look.ends.exclude_from)),
+    /// What a cache answers by bytes.
+    fn answer(self, cache: &Cache) -> Value {
+        cache.get_max_between(key(self.start), self.end_key(), self.ends)
+    }
+
+    /// The span over the keys, which are none of the longest.
+    fn span(self, alloc: Global) -> Result<Span, SpanFault> {
+        let from = Key::new(alloc, key(self.start))?;
+        match self.end_key() {
+            Some(end) => Ok(Span::for_lookup(from, Key::new(alloc, end)?, self.ends)),
+            None => Ok(Span::onward(from, self.ends.exclude_from)),
+        }
+    }
+
+    /// Why an Add over the keys is refused, whatever the cache.
+    fn refusal(self) -> Option<AddBetweenFault> {
+        if self.has_longest() {
+            return Some(AddBetweenFault::KeyTooLong);
+        }
+        (self.end < self.start).then_some(AddBetweenFault::Inverted)
     }
 }
 
@@ -121,55 +135,36 @@ fn span_over<'a>(start: &'a [u8], end: Option<&'a [u8]>, ends: Ends) -> SpanRef<
     }
 }
 
-/// Whether a lookup is answered this by bytes, and by a span over them.
-fn answers(cache: &Cache, look: Look, told: Value) -> bool {
-    let (start, end) = (key(look.start), look.end_key());
-    let by_bytes = cache.get_max_between(start, end, look.ends) == told;
-    by_bytes && cache.get_max_ref(&span_over(start, end, look.ends)) == told
-}
-
-/// Whether a lookup is answered this by a span that is made of its keys.
-fn answers_made(alloc: Global, cache: &Cache, look: Look, told: Value) -> Result<bool, SpanFault> {
-    if look.has_longest() {
-        return Ok(true);
-    }
-    Ok(cache.get_max(&span(alloc, look)?) == told)
-}
-
-/// Adds the mark at a place.
-fn add(alloc: Global, cache: &mut Cache, place: u32, rises: bool) -> Result<(), Fail> {
-    let look = Look::of_mark(place);
-    let span = span(alloc, look)?;
-    cache.add(&span, look.told(rises), at(AT_20))?;
-    Ok(())
+/// Whether a lookup is answered this by bytes, by a span over them, and by one that is made of
+/// them.
+fn answers(alloc: Global, cache: &Cache, look: Look, told: Value) -> Result<bool, Fail> {
+    let made = look.has_longest() || cache.get_max(&look.span(alloc)?) == told;
+    let over = span_over(key(look.start), look.end_key(), look.ends);
+    Ok(made && look.answer(cache) == told && cache.get_max_ref(&over) == told)
 }
 
 /// The number of the first lookup that is answered otherwise than it has to be, where times rise or
 /// fall.
-fn first_wrong(alloc: Global, cache: &mut Cache, rises: bool) -> Result<Option<u32>, Fail> {
+fn first_wrong(alloc: Global, rises: bool) -> Result<Option<u32>, Fail> {
+    let limits = (1_048_576, 1_048_576, 2, RETENTION);
+    let mut cache = Cache::new(alloc, config(limits)?)?;
     for place in 0..LAST + 1 {
-        add(alloc, cache, place, rises)?;
+        let look = Look::of_mark(place);
+        cache.add(&look.span(alloc)?, look.told(rises), at(20, 0))?;
     }
     for number in 0..LOOKS {
         let look = Look::of(number);
-        let told = look.told(rises);
-        if !answers(cache, look, told) || !answers_made(alloc, cache, look, told)? {
+        if !answers(alloc, &cache, look, look.told(rises))? {
             return Ok(Some(number));
         }
     }
     Ok(None)
 }
 
-/// The same on a new cache.
-fn wrong(alloc: Global, rises: bool) -> Result<Option<u32>, Fail> {
-    let mut cache = Cache::new(alloc, config((1_048_576, 1_048_576, 2, RETENTION))?)?;
-    first_wrong(alloc, &mut cache, rises)
-}
-
 #[test]
 fn by_bytes_as_by_spans(rt: HostRuntime) -> Result<(), Fail> {
     for rises in [true, false] {
-        let wrong = wrong(rt.alloc(), rises)?;
+        let wrong = first_wrong(rt.alloc(), rises)?;
         assert_eq!(rt;
             wrong,
             None,
@@ -179,23 +174,6 @@ fn by_bytes_as_by_spans(rt: HostRuntime) -> Result<(), Fail> {
     Ok(())
 }
 
-/// The same fault of an Add by bytes.
-fn by_bytes(fault: CacheFault) -> AddBetweenFault {
-    match fault {
-        CacheFault::TooLarge => AddBetweenFault::TooLarge,
-        CacheFault::NoMemory => AddBetweenFault::NoMemory,
-    }
-}
-
-/// Why an Add over the keys of a lookup is refused, whatever the cache.
-fn refusal(look: Look) -> Option<AddBetweenFault> {
-    match look.end {
-        _ if look.has_longest() => Some(AddBetweenFault::KeyTooLong),
-        Some(end) if end < look.start => Some(AddBetweenFault::Inverted),
-        _ => None,
-    }
-}
-
 /// What an Add of the span over the keys of a lookup answers.
 fn add_made(
     alloc: Global,
@@ -203,12 +181,12 @@ fn add_made(
     look: Look,
     value: Value,
 ) -> Result<Result<Added, AddBetweenFault>, SpanFault> {
-    if let Some(fault) = refusal(look) {
+    if let Some(fault) = look.refusal() {
         return Ok(Err(fault));
     }
-    match cache.add(&span(alloc, look)?, value, value.time()) {
+    match cache.add(&look.span(alloc)?, value, value.time()) {
         Ok(added) => Ok(Ok(added)),
-        Err(fault) => Ok(Err(by_bytes(fault))),
+        Err(fault) => Ok(Err(fault.into())),
     }
 }
 
@@ -217,9 +195,7 @@ fn are_alike(cache: &Cache, other: &Cache) -> bool {
     let mut alike = cache.figures() == other.figures();
     for number in 0..LOOKS {
         let look = Look::of(number);
-        let (start, end) = (key(look.start), look.end_key());
-        alike &= cache.get_max_between(start, end, look.ends)
-            == other.get_max_between(start, end, look.ends);
+        alike &= look.answer(cache) == look.answer(other);
     }
     alike
 }
@@ -231,7 +207,7 @@ fn first_other(alloc: Global, limits: Limits) -> Result<Option<u32>, Fail> {
     let mut beside = Cache::new(alloc, config(limits)?)?;
     for number in 0..LOOKS {
         let look = Look::of(number);
-        let value = value((10 + u64::from(number.wrapping_mul(37) % LOOKS), 0), FIRST);
+        let value = value(10 + number.wrapping_mul(37) % LOOKS);
         let made = add_made(alloc, &mut beside, look, value)?;
         let (start, end) = (key(look.start), look.end_key());
         let added = cache.add_between(start, end, look.ends, value, value.time());

@@ -1,434 +1,277 @@
 //! What single marks come to, on pages of several sizes.
-use super::marks::at;
-use super::player::play;
-use super::rows::Does::{Add, Counted, Each, Look, Share, Stand, Swap, Version};
-use super::rows::{
-    ALL, AT_20, AT_30, AT_40, AT_41, AT_50, AT_60, AT_80, Call, DROPPED, FIRST, FLOOR, KEPT,
-    LETTERS, Limits, NOBODY, NONE, NOT_KEPT, REFUSED, RETENTION, ROTATED, Row, SECOND, SINGLE,
-    Table, Time,
-};
+use super::player::{ALL, Limits, RETENTION, SINGLE};
+use super::steps::{LETTERS, play};
+use crate::words::{all_hold, at};
 use std::test::Fail;
 use tsc_cache::{Config, ConfigFault};
 
-const LATEST: Time = (9_223_372_036_854_775_807, 2_147_483_647);
-
-const USUAL: &[Row] = &[
-    (
-        "a new cache",
-        &[
-            (Look, b"a", FLOOR, NOBODY),
-            (Stand(1, 0, FLOOR), NONE, FLOOR, NOBODY),
-        ],
-    ),
-    (
-        "a range",
-        &[
-            (Add(AT_20, KEPT), b"[a,c)", AT_20, FIRST),
-            (Look, b"a|b", AT_20, FIRST),
-            (Look, b"c", FLOOR, NOBODY),
-            (Stand(1, 0, FLOOR), NONE, FLOOR, NOBODY),
-        ],
-    ),
-    (
-        "two owners at one time",
-        &[
-            (Add(AT_20, KEPT), b"a", AT_20, FIRST),
-            (Add(AT_20, KEPT), b"a", AT_20, SECOND),
-            (Look, b"a", AT_20, NOBODY),
-        ],
-    ),
-    (
-        "one owner twice",
-        &[
-            (Each(AT_20, KEPT), b"a|a", AT_20, FIRST),
-            (Look, b"a", AT_20, FIRST),
-        ],
-    ),
-    (
-        "two ranges that meet",
-        &[
-            (Add(AT_20, KEPT), b"[a,c)", AT_20, FIRST),
-            (Add(AT_20, KEPT), b"[b,d)", AT_20, SECOND),
-            (Look, b"a", AT_20, FIRST),
-            (Look, b"b|[a,d)", AT_20, NOBODY),
-            (Look, b"c", AT_20, SECOND),
-        ],
-    ),
-    (
-        "an owner after none",
-        &[
-            (Add(AT_20, KEPT), b"a", AT_20, NOBODY),
-            (Add(AT_20, KEPT), b"a", AT_20, FIRST),
-            (Look, b"a", AT_20, NOBODY),
-        ],
-    ),
-    (
-        "at the floor, and above it",
-        &[
-            (Add(AT_20, NOT_KEPT), b"a", FLOOR, FIRST),
-            (Add(AT_20, KEPT), b"a", (5, 1), FIRST),
-            (Look, b"a", (5, 1), FIRST),
-        ],
-    ),
-    (
-        "both ends excluded",
-        &[
-            (Add(AT_20, KEPT), b"(a,c)", AT_20, FIRST),
-            (Look, b"a|c", FLOOR, NOBODY),
-            (Look, b"b", AT_20, FIRST),
-        ],
-    ),
-    (
-        "a gap without keys",
-        &[
-            (Add(AT_20, KEPT), b"(a,a\x00)", AT_20, FIRST),
-            (Look, b"(a,a\x00)|[a,a\x00]", AT_20, FIRST),
-            (Look, b"a|a\x00", FLOOR, NOBODY),
-        ],
-    ),
-    (
-        "equal ends",
-        &[
-            (Add(AT_20, KEPT), b"[a,a)", AT_20, FIRST),
-            (Look, b"a", AT_20, FIRST),
-            (Look, b"(a,a)", FLOOR, NOBODY),
-        ],
-    ),
-    (
-        "an empty span",
-        &[
-            (Add(AT_20, NOT_KEPT), b"(a,a)", AT_20, FIRST),
-            (Look, b"a", FLOOR, NOBODY),
-        ],
-    ),
-    (
-        "no end",
-        &[
-            (Add(AT_20, KEPT), b"[m,", AT_20, FIRST),
-            (Look, b"\xff|m|[z,", AT_20, FIRST),
-            (Look, b"l", FLOOR, NOBODY),
-        ],
-    ),
-    (
-        "a page whose top is the limit stays",
-        &[
-            (Each(AT_20, KEPT), b"a|b|c|d", AT_30, FIRST),
-            (Add(AT_20, ROTATED), b"e", AT_30, FIRST),
-            (Each(AT_40, KEPT), b"f|g|h", AT_41, FIRST),
-            (Add(AT_40, ROTATED), b"i", AT_41, FIRST),
-            (Stand(3, 2, FLOOR), NONE, FLOOR, NOBODY),
-            (Look, b"a", AT_30, FIRST),
-        ],
-    ),
-    (
-        "a logical count above the limit drops it",
-        &[
-            (Each(AT_20, KEPT), b"a|b|c|d", AT_30, FIRST),
-            (Add(AT_20, ROTATED), b"e", AT_30, FIRST),
-            (Each(AT_40, KEPT), b"f|g|h", AT_41, FIRST),
-            (Add((40, 1), DROPPED), b"i", AT_41, FIRST),
-            (Stand(2, 2, AT_30), NONE, FLOOR, NOBODY),
-            (Look, b"a", AT_30, NOBODY),
-        ],
-    ),
-    (
-        "a moment before the retention has passed",
-        &[
-            (Each(AT_20, KEPT), b"a|b|c|d", AT_20, FIRST),
-            (Add(AT_20, ROTATED), b"e", AT_20, FIRST),
-            (Each(AT_20, KEPT), b"f|g|h", AT_20, FIRST),
-            (Add((9, 0), ROTATED), b"i", AT_20, FIRST),
-            (Stand(3, 2, FLOOR), NONE, FLOOR, NOBODY),
-        ],
-    ),
-    (
-        "a page is kept for its base",
-        &[
-            (Each(AT_20, KEPT), b"a|b|c|d", AT_50, FIRST),
-            (Add(AT_20, ROTATED), b"e", AT_20, FIRST),
-            (Each(AT_20, KEPT), b"f|g|h", AT_20, FIRST),
-            (Stand(2, 1, FLOOR), NONE, FLOOR, NOBODY),
-            (Add(AT_80, DROPPED), b"i", AT_60, FIRST),
-            (Stand(2, 2, AT_50), NONE, FLOOR, NOBODY),
-            (Each(AT_80, KEPT), b"j|k|l", AT_60, FIRST),
-            (Add(AT_40, ROTATED), b"m", AT_60, FIRST),
-            (Stand(3, 3, AT_50), NONE, FLOOR, NOBODY),
-            (Look, b"e", AT_50, NOBODY),
-        ],
-    ),
-    (
-        "the oldest page has the latest time",
-        &[
-            (Each(AT_20, KEPT), b"a|b|c|d", AT_50, FIRST),
-            (Add(AT_20, ROTATED), b"e", AT_20, FIRST),
-            (Each(AT_20, KEPT), b"f|g|h", AT_20, FIRST),
-            (Add(AT_20, ROTATED), b"i", AT_30, FIRST),
-            (Stand(3, 2, FLOOR), NONE, FLOOR, NOBODY),
-            (Look, b"[a,z)", AT_50, FIRST),
-            (Look, b"[e,z)", AT_30, FIRST),
-        ],
-    ),
-    (
-        "the latest time",
-        &[
-            (Add(AT_20, KEPT), b"a", LATEST, FIRST),
-            (Look, b"a", LATEST, FIRST),
-        ],
-    ),
-    (
-        "an inverted range",
-        &[(Look, b"[c,a]|(c,a]|[c,a)|(c,a)", FLOOR, NOBODY)],
-    ),
-    (
-        "versions",
-        &[
-            (Version(0, 1, FLOOR), b"b", FLOOR, NOBODY),
-            (Add(AT_20, KEPT), b"[a,c)", AT_20, FIRST),
-            (Add(AT_20, KEPT), b"b", AT_20, SECOND),
-            (Version(0, 1, FLOOR), b"b", FLOOR, NOBODY),
-            (Version(1, 1, FLOOR), b"b", AT_20, FIRST),
-            (Version(2, 1, FLOOR), b"b", AT_20, NOBODY),
-        ],
-    ),
-    ROTATIONS,
-];
+const USUAL: &str = "# a new cache
+look a 5
+stand 1 0 5
+# a range
+add [a,c) 20¹ 20 kept
+look a|b 20¹
+look c 5
+stand 1 0 5
+# two owners at one time
+add a 20¹ 20 kept
+add a 20² 20 kept
+look a 20
+# one owner twice
+each a|a 20¹ 20 kept
+look a 20¹
+# two ranges that meet
+add [a,c) 20¹ 20 kept
+add [b,d) 20² 20 kept
+look a 20¹
+look b|[a,d) 20
+look c 20²
+# an owner after none
+add a 20 20 kept
+add a 20¹ 20 kept
+look a 20
+# at the floor, and above it
+add a 5¹ 20 not_kept
+add a 5.1¹ 20 kept
+look a 5.1¹
+# both ends excluded
+add (a,c) 20¹ 20 kept
+look a|c 5
+look b 20¹
+# a gap without keys
+add (a,a%00) 20¹ 20 kept
+look (a,a%00)|[a,a%00] 20¹
+look a|a%00 5
+# equal ends
+add [a,a) 20¹ 20 kept
+look a 20¹
+look (a,a) 5
+# an empty span
+add (a,a) 20¹ 20 not_kept
+look a 5
+# no end
+add [m, 20¹ 20 kept
+look %ff|m|[z, 20¹
+look l 5
+# a page whose top is the limit stays
+each a|b|c|d 30¹ 20 kept
+add e 30¹ 20 rotated
+each f|g|h 41¹ 40 kept
+add i 41¹ 40 rotated
+stand 3 2 5
+look a 30¹
+# a logical count above the limit drops it
+each a|b|c|d 30¹ 20 kept
+add e 30¹ 20 rotated
+each f|g|h 41¹ 40 kept
+add i 41¹ 40.1 dropped
+stand 2 2 30
+look a 30
+# a moment before the retention has passed
+each a|b|c|d 20¹ 20 kept
+add e 20¹ 20 rotated
+each f|g|h 20¹ 20 kept
+add i 20¹ 9 rotated
+stand 3 2 5
+# a page is kept for its base
+each a|b|c|d 50¹ 20 kept
+add e 20¹ 20 rotated
+each f|g|h 20¹ 20 kept
+stand 2 1 5
+add i 60¹ 80 dropped
+stand 2 2 50
+each j|k|l 60¹ 80 kept
+add m 60¹ 40 rotated
+stand 3 3 50
+look e 50
+# the oldest page has the latest time
+each a|b|c|d 50¹ 20 kept
+add e 20¹ 20 rotated
+each f|g|h 20¹ 20 kept
+add i 30¹ 20 rotated
+stand 3 2 5
+look [a,z) 50¹
+look [e,z) 30¹
+# the latest time
+add a 9223372036854775807.2147483647¹ 20 kept
+look a 9223372036854775807.2147483647¹
+# an inverted range
+look [c,a]|(c,a]|[c,a)|(c,a) 5
+# versions
+version b 5 0 1 5
+add [a,c) 20¹ 20 kept
+add b 20² 20 kept
+version b 5 0 1 5
+version b 20¹ 1 1 5
+version b 20 2 1 5";
 
 /// Two rotations, of which the second drops a page.
-const ROTATIONS: Row = (
-    "two rotations",
-    &[
-        (Each(AT_20, KEPT), b"a|b|c|d", AT_20, FIRST),
-        (Stand(1, 0, FLOOR), NONE, FLOOR, NOBODY),
-        (Add(AT_20, ROTATED), b"e", AT_20, FIRST),
-        (Stand(2, 1, FLOOR), NONE, FLOOR, NOBODY),
-        (Look, b"a", AT_20, FIRST),
-        (Each(AT_40, KEPT), b"f|g|h", AT_41, FIRST),
-        (Add(AT_40, DROPPED), b"i", AT_41, FIRST),
-        (Stand(2, 2, AT_20), NONE, FLOOR, NOBODY),
-        (Look, b"a|e", AT_20, NOBODY),
-        (Look, b"f", AT_41, FIRST),
-        (Version(5, 2, FLOOR), b"a", AT_20, FIRST),
-    ],
-);
+const ROTATIONS: &str = "# two rotations
+each a|b|c|d 20¹ 20 kept
+stand 1 0 5
+add e 20¹ 20 rotated
+stand 2 1 5
+look a 20¹
+each f|g|h 41¹ 40 kept
+add i 41¹ 40 dropped
+stand 2 2 20
+look a|e 20
+look f 41¹
+version a 20¹ 5 2 5";
 
-const TIGHT: &[Row] = &[
-    (
-        "the only page is dropped",
-        &[
-            (Each(AT_20, KEPT), b"a|b", AT_20, FIRST),
-            (Add(AT_40, DROPPED), b"c", AT_40, FIRST),
-            (Stand(1, 1, AT_20), NONE, FLOOR, NOBODY),
-            (Look, b"a", AT_20, NOBODY),
-            (Look, b"c", AT_40, FIRST),
-        ],
-    ),
-    (
-        "the floor rises above what is added",
-        &[
-            (Each(AT_20, KEPT), b"a|b", AT_20, FIRST),
-            (Add(AT_40, DROPPED), b"c", (15, 0), FIRST),
-            (Stand(1, 1, AT_20), NONE, FLOOR, NOBODY),
-            (Look, b"c", AT_20, NOBODY),
-        ],
-    ),
-];
+const TIGHT: &str = "# the only page is dropped
+each a|b 20¹ 20 kept
+add c 40¹ 40 dropped
+stand 1 1 20
+look a 20
+look c 40¹
+# the floor rises above what is added
+each a|b 20¹ 20 kept
+add c 15¹ 40 dropped
+stand 1 1 20
+look c 20";
 
-const COUNTED: &[Row] = &[(
-    "how far a lookup looks",
-    &[
-        (Add(AT_20, KEPT), b"[a,z)", AT_20, FIRST),
-        (Add(AT_20, ROTATED), b"[b,y)", AT_20, SECOND),
-        (Counted(2), b"c", AT_20, NOBODY),
-        (Look, b"c", AT_20, NOBODY),
-        (Look, b"a", AT_20, FIRST),
-        (Add(AT_20, ROTATED), b"[a,z)", AT_30, SECOND),
-        (Stand(3, 2, FLOOR), NONE, FLOOR, NOBODY),
-        (Counted(1), b"c", AT_30, SECOND),
-        (Look, b"c", AT_30, SECOND),
-    ],
-)];
+const COUNTED: &str = "# how far a lookup looks
+add [a,z) 20¹ 20 kept
+add [b,y) 20² 20 rotated
+counted c 20 2
+look c 20
+look a 20¹
+add [a,z) 30² 20 rotated
+stand 3 2 5
+counted c 30² 1
+look c 30²";
 
 /// On pages of 66 bytes at first and 264 at the most.
-const GROWING: &[Row] = &[
-    (
-        "each page is twice as large as the one before it",
-        &[
-            (Each(AT_20, KEPT), b"a|b", AT_20, FIRST),
-            (Add(AT_20, ROTATED), b"c", AT_20, FIRST),
-            (Each(AT_20, KEPT), b"d|e|f", AT_20, FIRST),
-            (Add(AT_20, ROTATED), b"g", AT_20, FIRST),
-            (Each(AT_20, KEPT), b"h|i|j|k|l|m|n", AT_20, FIRST),
-            (Add(AT_20, ROTATED), b"o", AT_20, FIRST),
-            (Stand(4, 3, FLOOR), NONE, FLOOR, NOBODY),
-        ],
-    ),
-    (
-        "an empty page is dropped, and the floor stays",
-        &[
-            (Add(AT_20, ROTATED), b"*\x00\x64a", AT_20, FIRST),
-            (Add(AT_20, DROPPED), b"b", AT_20, FIRST),
-            (Stand(2, 2, FLOOR), NONE, FLOOR, NOBODY),
-        ],
-    ),
-    (
-        "a page is as large as its first span wants",
-        &[
-            (Add(AT_20, ROTATED), b"*\x00\x65a", AT_20, FIRST),
-            (Add(AT_20, KEPT), b"b", AT_20, FIRST),
-            (Stand(2, 1, FLOOR), NONE, FLOOR, NOBODY),
-        ],
-    ),
-    (
-        "the largest span",
-        &[
-            (Add(AT_20, ROTATED), b"*\x00\xe8a", AT_20, FIRST),
-            (Look, b"*\x00\xe8a", AT_20, FIRST),
-        ],
-    ),
-    (
-        "a span that is too large",
-        &[
-            (Add(AT_20, REFUSED), b"*\x00\xe9a", AT_20, FIRST),
-            (Stand(1, 0, FLOOR), NONE, FLOOR, NOBODY),
-            (Add(AT_20, REFUSED), b"*\x00\xe9a", FLOOR, FIRST),
-            (Look, b"*\x00\xe9a", FLOOR, NOBODY),
-            (
-                Add(AT_20, NOT_KEPT),
-                b"(*\x00\xe9a,*\x00\xe9a)",
-                AT_20,
-                FIRST,
-            ),
-            (Stand(1, 0, FLOOR), NONE, FLOOR, NOBODY),
-        ],
-    ),
-    (
-        "a range that is too large by its two keys",
-        &[
-            (
-                Add(AT_20, REFUSED),
-                b"[*\x00\x64a,*\x00\x65a]",
-                AT_20,
-                FIRST,
-            ),
-            (
-                Add(AT_20, ROTATED),
-                b"[*\x00\x64a,*\x00\x64a]",
-                AT_20,
-                FIRST,
-            ),
-            (
-                Add(AT_20, DROPPED),
-                b"[*\x00\x63a,*\x00\x65a]",
-                AT_20,
-                FIRST,
-            ),
-            (Stand(2, 2, FLOOR), NONE, FLOOR, NOBODY),
-        ],
-    ),
-];
+const GROWING: &str = "# each page is twice as large as the one before it
+each a|b 20¹ 20 kept
+add c 20¹ 20 rotated
+each d|e|f 20¹ 20 kept
+add g 20¹ 20 rotated
+each h|i|j|k|l|m|n 20¹ 20 kept
+add o 20¹ 20 rotated
+stand 4 3 5
+# an empty page is dropped, and the floor stays
+add a×100 20¹ 20 rotated
+add b 20¹ 20 dropped
+stand 2 2 5
+# a page is as large as its first span wants
+add a×101 20¹ 20 rotated
+add b 20¹ 20 kept
+stand 2 1 5
+# the largest span
+add a×232 20¹ 20 rotated
+look a×232 20¹
+# a span that is too large
+add a×233 20¹ 20 refused
+stand 1 0 5
+add a×233 5¹ 20 refused
+look a×233 5
+add (a×233,a×233) 20¹ 20 not_kept
+stand 1 0 5
+# a range that is too large by its two keys
+add [a×100,a×101] 20¹ 20 refused
+add [a×100,a×100] 20¹ 20 rotated
+add [a×99,a×101] 20¹ 20 dropped
+stand 2 2 5";
 
 /// A front page that two caches share is left by each of them when it is added to.
-const SHARED: &[Row] = &[(
-    "a shared front page",
-    &[
-        (Add(AT_20, KEPT), b"a", AT_20, FIRST),
-        (Share, b"(a,a)", AT_30, SECOND),
-        (Add(AT_20, KEPT), b"a", AT_30, SECOND),
-        (Look, b"a", AT_30, SECOND),
-        (Version(0, 1, FLOOR), b"a", AT_20, FIRST),
-        (Swap, NONE, FLOOR, NOBODY),
-        (Look, b"a", AT_20, FIRST),
-        (Add(AT_20, KEPT), b"a", AT_40, FIRST),
-        (Look, b"a", AT_40, FIRST),
-        (Version(0, 1, FLOOR), b"a", AT_30, SECOND),
-    ],
-)];
+const SHARED: &str = "# a shared front page
+add a 20¹ 20 kept
+share (a,a) 30²
+add a 30² 20 kept
+look a 30²
+version a 20¹ 0 1 5
+swap
+look a 20¹
+add a 40¹ 20 kept
+look a 40¹
+version a 30² 0 1 5";
 
-static USUALLY: [Table; 1] = [((132, 132, 2, RETENTION), ALL, LETTERS, USUAL)];
-
-static OTHERWISE: [Table; 4] = [
-    ((66, 66, 1, RETENTION), ALL, LETTERS, TIGHT),
-    ((66, 66, 2, RETENTION), ALL, LETTERS, COUNTED),
-    ((66, 264, 2, RETENTION), ALL, LETTERS, GROWING),
-    (
-        (66, 66, 1, RETENTION),
-        &[Call::Add, Call::AddAll, Call::AddEach],
-        LETTERS,
-        SHARED,
-    ),
-];
+/// Pages of four nodes with keys of one byte, of which two are kept at the least.
+const LIMITS: Limits = (132, 132, 2, RETENTION);
 
 #[test]
 fn what_is_done_and_what_comes_of_it(rt: HostRuntime) -> Result<(), Fail> {
-    play(&rt, rt.alloc(), &USUALLY)
+    play(&rt, rt.alloc(), &(LIMITS, ALL, LETTERS, USUAL))?;
+    play(&rt, rt.alloc(), &(LIMITS, ALL, LETTERS, ROTATIONS))
 }
 
 #[test]
 fn what_comes_of_it_on_other_pages(rt: HostRuntime) -> Result<(), Fail> {
-    play(&rt, rt.alloc(), &OTHERWISE)
+    let alloc = rt.alloc();
+    play(&rt, alloc, &((66, 66, 1, RETENTION), ALL, LETTERS, TIGHT))?;
+    play(&rt, alloc, &((66, 66, 2, RETENTION), ALL, LETTERS, COUNTED))?;
+    play(
+        &rt,
+        alloc,
+        &((66, 264, 2, RETENTION), ALL, LETTERS, GROWING),
+    )?;
+    play(
+        &rt,
+        alloc,
+        &(
+            (66, 66, 1, RETENTION),
+            "add add_all add_each",
+            LETTERS,
+            SHARED,
+        ),
+    )
 }
-
-static ROTATING: [Table; 2] = [
-    ((132, 132, 2, RETENTION), SINGLE, LETTERS, &[ROTATIONS]),
-    ((66, 66, 1, RETENTION), SINGLE, LETTERS, TIGHT),
-];
 
 /// For `scripts/refuse-each-growth`.
 #[test]
 fn a_refused_add_can_be_made_again(rt: HostRuntime) -> Result<(), Fail> {
-    play(&rt, rt.alloc(), &ROTATING)
+    play(&rt, rt.alloc(), &(LIMITS, SINGLE, LETTERS, ROTATIONS))?;
+    play(
+        &rt,
+        rt.alloc(),
+        &((66, 66, 1, RETENTION), SINGLE, LETTERS, TIGHT),
+    )
 }
 
-const LONGEST: u64 = 9_223_372_036_854_775_807;
+/// The fault of limits, or that there is none.
+static CONFIGS: &str = "page_size 63 132 2 10
+page_size 200 132 2 10
+page_size 132 1073741825 2 10
+page_size 1073741825 1073741825 2 10
+min_pages 132 132 0 10
+min_pages 132 132 65 10
+retention 132 132 2 9223372036854775808
+page_size 63 132 0 10
+page_size 63 63 0 9223372036854775808
+min_pages 132 132 0 9223372036854775808
+none 64 64 1 0
+none 64 1073741824 64 9223372036854775807
+none 1073741824 1073741824 2 10";
 
-const TOO_LONG: u64 = 9_223_372_036_854_775_808;
+/// The word of a fault.
+fn word_of(fault: ConfigFault) -> &'static str {
+    match fault {
+        ConfigFault::PageSize => "page_size",
+        ConfigFault::MinPages => "min_pages",
+        ConfigFault::Retention => "retention",
+    }
+}
 
-/// The most bytes that a page may have.
-const LARGEST: u32 = 1_073_741_824;
-
-const TOO_LARGE: u32 = 1_073_741_825;
-
-/// Limits, and the fault where they are refused.
-static CONFIGS: [(Limits, Option<ConfigFault>); 13] = [
-    ((63, 132, 2, 10), Some(ConfigFault::PageSize)),
-    ((200, 132, 2, 10), Some(ConfigFault::PageSize)),
-    ((132, TOO_LARGE, 2, 10), Some(ConfigFault::PageSize)),
-    ((TOO_LARGE, TOO_LARGE, 2, 10), Some(ConfigFault::PageSize)),
-    ((132, 132, 0, 10), Some(ConfigFault::MinPages)),
-    ((132, 132, 65, 10), Some(ConfigFault::MinPages)),
-    ((132, 132, 2, TOO_LONG), Some(ConfigFault::Retention)),
-    ((63, 132, 0, 10), Some(ConfigFault::PageSize)),
-    ((63, 63, 0, TOO_LONG), Some(ConfigFault::PageSize)),
-    ((132, 132, 0, TOO_LONG), Some(ConfigFault::MinPages)),
-    ((64, 64, 1, 0), None),
-    ((64, LARGEST, 64, LONGEST), None),
-    ((LARGEST, LARGEST, 2, 10), None),
-];
-
-/// The number of the first limits that are told or refused otherwise, from 0.
-fn wrong_config(rows: &[(Limits, Option<ConfigFault>)]) -> Result<Option<usize>, Fail> {
-    let low_water = at(FLOOR);
-    for (i, (limits, fault)) in rows.iter().enumerate() {
-        let (page_first, page_max, min_pages, retention) = *limits;
-        let right = match Config::new(page_first, page_max, min_pages, retention, low_water) {
-            Err(told) => *fault == Some(told),
-            Ok(config) => {
-                let sizes = (config.page_first(), config.page_max(), config.min_pages());
-                fault.is_none()
-                    && sizes == (page_first, page_max, min_pages)
-                    && config.retention() == retention
-                    && config.low_water() == low_water
-            }
-        };
-        if !right {
-            return Ok(Some(i));
+/// Whether limits have this fault, or are told as they were given.
+fn is_told([wanted, first, max, least, retention, _]: [&str; 6]) -> Result<bool, Fail> {
+    let (sizes, retention) = (
+        (first.parse()?, max.parse()?, least.parse()?),
+        retention.parse()?,
+    );
+    match Config::new(sizes.0, sizes.1, sizes.2, retention, at(5, 0)) {
+        Err(fault) => Ok(wanted == word_of(fault)),
+        Ok(config) => {
+            let told = (config.page_first(), config.page_max(), config.min_pages());
+            let right = config.retention() == retention && config.low_water() == at(5, 0);
+            Ok(wanted == "none" && told == sizes && right)
         }
     }
-    Ok(None)
 }
 
 #[test]
 fn limits_of_a_configuration(rt: HostRuntime) -> Result<(), Fail> {
-    assert_eq!(rt; wrong_config(&CONFIGS)?, None);
+    all_hold!(rt, CONFIGS, is_told());
     Ok(())
 }

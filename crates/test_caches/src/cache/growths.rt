@@ -1,283 +1,177 @@
 //! How many growths a call asks for, and for how many bytes. Each test makes one call again where
 //! it is refused memory, and nothing else, so as many runs of it pass as that call asks for
 //! growths: `scripts/refuse-each-growth` counts them, and their bytes.
-use super::player::play;
-use super::rows::Does::{
-    Add, Apply, Begin, Known, Look, Open, Read, Stand, Tell, Told, Version, With,
-};
-use super::rows::{
-    AT_20, AT_22, AT_30, Call, FIRST, FLOOR, KEPT, Limits, NOBODY, NONE, Row, SECOND, Table, Text,
-};
+use super::player::Limits;
+use super::steps::play;
 use std::test::Fail;
 
 /// Pages that stay, each of which one key fills, or 66 keys of one byte in two leaves.
 const LIMITS: Limits = (2178, 2178, 64, 1000);
 
-/// Keys that fill a page each.
-const LONG: Text =
-    b"*\x08\x62\x00|*\x08\x62\x01|*\x08\x62\x02|*\x08\x62\x03|*\x08\x62\x04|*\x08\x62\x05|*\x08\x62\x06|*\x08\x62\x07|*\x08\x62\x08|*\x08\x62\x09|*\x08\x62\x0a|*\x08\x62\x0b|*\x08\x62\x0c|*\x08\x62\x0d|*\x08\x62\x0e|*\x08\x62\x0f";
+const ONE_PAGE: &str = "begin %00..%1f|C|%21..%2b|%2d..%42 20
+stand 1 0 5
+look ( 20
+add ( 30 20 kept
+look ( 30
+stand 1 0 5
+version ( 20 0 1 5";
 
-/// Keys that fill one together.
-const SHORT: Text =
-    b"\x00|\x01|\x02|\x03|\x04|\x05|\x06|\x07|\x08|\x09|\x0a|\x0b|\x0c|\x0d|\x0e|\x0f|\x10|\x11|\x12|\x13|\x14|\x15|\x16|\x17|\x18|\x19|\x1a|\x1b|\x1c|\x1d|\x1e|\x1f|C|!|\"|#|$|%|&|'|(|)|*|+|-|.|/|0|1|2|3|4|5|6|7|8|9|:|;|<|=|>|?|@|A|B";
+const MANY_PAGES: &str =
+    "begin %00×2146|%01×2146|%02×2146|%03×2146|%04×2146|%05×2146|%06×2146|%07×2146|%08×2146|%09×2146|%0a×2146|%0b×2146|%0c×2146|%0d×2146|%0e×2146|%0f×2146 20
+begin %00..%1f|C|%21..%2b|%2d..%42 20
+stand 17 16 5
+look ( 20
+add ( 30 20 kept
+look ( 30
+stand 17 16 5
+version ( 20 0 17 5";
 
-const ONE_PAGE: Row = (
-    "a known key on one page",
-    &[
-        (Begin, SHORT, AT_20, NOBODY),
-        (Stand(1, 0, FLOOR), NONE, FLOOR, NOBODY),
-        (Look, b"(", AT_20, NOBODY),
-        (Add(AT_20, KEPT), b"(", AT_30, NOBODY),
-        (Look, b"(", AT_30, NOBODY),
-        (Stand(1, 0, FLOOR), NONE, FLOOR, NOBODY),
-        (Version(0, 1, FLOOR), b"(", AT_20, NOBODY),
-    ],
-);
-
-const MANY_PAGES: Row = (
-    "a known key on 17 pages",
-    &[
-        (Begin, LONG, AT_20, NOBODY),
-        (Begin, SHORT, AT_20, NOBODY),
-        (Stand(17, 16, FLOOR), NONE, FLOOR, NOBODY),
-        (Look, b"(", AT_20, NOBODY),
-        (Add(AT_20, KEPT), b"(", AT_30, NOBODY),
-        (Look, b"(", AT_30, NOBODY),
-        (Stand(17, 16, FLOOR), NONE, FLOOR, NOBODY),
-        (Version(0, 17, FLOOR), b"(", AT_20, NOBODY),
-    ],
-);
-
-const TWO_LEAVES: Row = (
-    "known keys in both leaves",
-    &[
-        (Begin, SHORT, AT_20, NOBODY),
-        (Add(AT_20, KEPT), b"\x0a|(|)|\x0b", AT_30, NOBODY),
-        (Look, b"\x0a|(|)|\x0b", AT_30, NOBODY),
-    ],
-);
+const TWO_LEAVES: &str = "begin %00..%1f|C|%21..%2b|%2d..%42 20
+add %0a|(|)|%0b 30 20 kept
+look %0a|(|)|%0b 30";
 
 /// A page of 5,120 keys.
 const LARGE: Limits = (1_048_576, 1_048_576, 64, 1000);
 
-/// A key of it, a range over many leaves, and one over all.
-const OF_LARGE: Text =
-    b"\x00\x00\x02\x01|[\x00\x00\x01\x01,\x00\x00\x08\x01)|[\x00\x00\x00\x00,\x00\x00\x13\xff]";
+/// Known keys are one key, a range over many leaves, and one over all.
+const KNOWN_ON_LARGE: &str = "read #..5120 20
+stand 1 0 5
+known #513|[#257,#2049)|[#0,#5119] 30
+look #513|[#257,#2049)|[#0,#5119] 30";
 
-const KNOWN_ON_LARGE: Row = (
-    "known keys on a large page, in place",
-    &[
-        (Read, b"#\x14\x00", AT_20, NOBODY),
-        (Stand(1, 0, FLOOR), NONE, FLOOR, NOBODY),
-        (Known, OF_LARGE, AT_30, NOBODY),
-        (Look, OF_LARGE, AT_30, NOBODY),
-    ],
-);
+const KNOWN_AND_NOT_KEPT: &str = "read #..5120 20
+known #513|[#257,#2049)|[#0,#5119] 30
+look #513|[#257,#2049)|[#0,#5119] 30
+known #513|[#257,#2049)|[#0,#5119] 5
+stand 1 0 5";
 
-const KNOWN_AND_NOT_KEPT: Row = (
-    "known keys on a large page, in place, and what is not kept",
-    &[
-        (Read, b"#\x14\x00", AT_20, NOBODY),
-        (Known, OF_LARGE, AT_30, NOBODY),
-        (Look, OF_LARGE, AT_30, NOBODY),
-        (Known, OF_LARGE, FLOOR, NOBODY),
-        (Stand(1, 0, FLOOR), NONE, FLOOR, NOBODY),
-    ],
-);
+const NEW_ON_LARGE: &str = "begin #..5120 20
+add %00%00%02%01%05 30 20 kept
+look %00%00%02%01%05 30
+stand 1 0 5";
 
-const NEW_ON_LARGE: Row = (
-    "a new key on a large page, in place",
-    &[
-        (Begin, b"#\x14\x00", AT_20, NOBODY),
-        (Add(AT_20, KEPT), b"\x00\x00\x02\x01\x05", AT_30, NOBODY),
-        (Look, b"\x00\x00\x02\x01\x05", AT_30, NOBODY),
-        (Stand(1, 0, FLOOR), NONE, FLOOR, NOBODY),
-    ],
-);
+/// The new keys of the range are in one leaf.
+const NEW_RANGE_ON_LARGE: &str = "begin #..5120 20
+add [%00%00%02%01%05,%00%00%02%02%05) 30 20 kept
+look [%00%00%02%01%05,%00%00%02%02%05) 30
+stand 1 0 5";
 
-/// A range with two new keys in one leaf.
-const NEW_RANGE: Text = b"[\x00\x00\x02\x01\x05,\x00\x00\x02\x02\x05)";
-
-const NEW_RANGE_ON_LARGE: Row = (
-    "a range with two new keys on a large page, in place",
-    &[
-        (Begin, b"#\x14\x00", AT_20, NOBODY),
-        (Add(AT_20, KEPT), NEW_RANGE, AT_30, NOBODY),
-        (Look, NEW_RANGE, AT_30, NOBODY),
-        (Stand(1, 0, FLOOR), NONE, FLOOR, NOBODY),
-    ],
-);
-
-const NEXT_ON_LARGE: Row = (
-    "a known key on a large page",
-    &[
-        (Begin, b"#\x14\x00", AT_20, NOBODY),
-        (Add(AT_20, KEPT), b"\x00\x00\x02\x01", AT_30, NOBODY),
-        (Look, b"\x00\x00\x02\x01", AT_30, NOBODY),
-        (Stand(1, 0, FLOOR), NONE, FLOOR, NOBODY),
-    ],
-);
+const NEXT_ON_LARGE: &str = "begin #..5120 20
+add #513 30 20 kept
+look #513 30
+stand 1 0 5";
 
 /// Pages of which each has one key.
 const SMALL: Limits = (64, 64, 64, 1000);
 
-const BATCH_ON_2: Row = (
-    "a batch of known keys on 2 pages",
-    &[
-        (Begin, b"#\x00\x02", AT_20, NOBODY),
-        (Stand(2, 1, FLOOR), NONE, FLOOR, NOBODY),
-        (
-            Add(AT_20, KEPT),
-            b"\x00\x00\x00\x01|\x00\x00\x00\x01",
-            AT_30,
-            NOBODY,
-        ),
-        (Look, b"\x00\x00\x00\x01", AT_30, NOBODY),
-        (Stand(2, 1, FLOOR), NONE, FLOOR, NOBODY),
-    ],
-);
+const BATCH_ON_2: &str = "begin #..2 20
+stand 2 1 5
+add #1|#1 30 20 kept
+look #1 30
+stand 2 1 5";
 
-const BATCH_ON_1000: Row = (
-    "a batch of known keys on 1,000 pages",
-    &[
-        (Begin, b"#\x03\xe8", AT_20, NOBODY),
-        (Stand(1000, 999, FLOOR), NONE, FLOOR, NOBODY),
-        (
-            Add(AT_20, KEPT),
-            b"\x00\x00\x03\xe7|\x00\x00\x03\xe7",
-            AT_30,
-            NOBODY,
-        ),
-        (Look, b"\x00\x00\x03\xe7", AT_30, NOBODY),
-        (Stand(1000, 999, FLOOR), NONE, FLOOR, NOBODY),
-    ],
-);
+const BATCH_ON_1000: &str = "begin #..1000 20
+stand 1000 999 5
+add #999|#999 30 20 kept
+look #999 30
+stand 1000 999 5";
 
-const HANDED_ON: Row = (
-    "what was read is told, and added to another cache",
-    &[
-        (Open(FLOOR), NONE, FLOOR, NOBODY),
-        (Read, b"b", AT_20, FIRST),
-        (Read, b"[d,f)", AT_22, SECOND),
-        (Tell(1000), b"[a,z)", FLOOR, NOBODY),
-        (With, b"b", AT_20, FIRST),
-        (With, b"d", AT_22, SECOND),
-        (Told(FLOOR), b"(d,f)", AT_22, SECOND),
-        (Open((3, 0)), NONE, FLOOR, NOBODY),
-        (Apply, NONE, FLOOR, NOBODY),
-        (Look, b"b", AT_20, FIRST),
-        (Look, b"[d,f)", AT_22, SECOND),
-    ],
-);
-
-static NEXT_ON_ONE: [Table; 1] = [(LIMITS, &[Call::Next], NONE, &[ONE_PAGE])];
-
-static NEXT_ON_MANY: [Table; 1] = [(LIMITS, &[Call::Next], NONE, &[MANY_PAGES])];
-
-static NEXT_ALL: [Table; 1] = [(LIMITS, &[Call::NextAll], NONE, &[TWO_LEAVES])];
-
-static IN_PLACE: [Table; 1] = [(LIMITS, &[Call::Add], NONE, &[MANY_PAGES])];
-
-static IN_PLACE_OF_MANY: [Table; 1] = [(LARGE, &[Call::Add], NONE, &[KNOWN_ON_LARGE])];
-
-static BY_BYTES_OF_MANY: [Table; 1] = [(LARGE, &[Call::AddKey], NONE, &[KNOWN_ON_LARGE])];
-
-static NEW_OF_MANY: [Table; 1] = [(LARGE, &[Call::Add], NONE, &[NEW_ON_LARGE])];
-
-static NEW_BY_BYTES: [Table; 1] = [(LARGE, &[Call::AddKey], NONE, &[NEW_ON_LARGE])];
-
-static BETWEEN_OF_MANY: [Table; 1] = [(LARGE, &[Call::AddBetween], NONE, &[KNOWN_AND_NOT_KEPT])];
-
-static NEW_BETWEEN: [Table; 1] = [(LARGE, &[Call::AddBetween], NONE, &[NEW_ON_LARGE])];
-
-static NEW_RANGE_OF_MANY: [Table; 1] = [(LARGE, &[Call::Add], NONE, &[NEW_RANGE_ON_LARGE])];
-
-static NEW_RANGE_BETWEEN: [Table; 1] = [(LARGE, &[Call::AddBetween], NONE, &[NEW_RANGE_ON_LARGE])];
-
-static NEXT_OF_MANY: [Table; 1] = [(LARGE, &[Call::Next], NONE, &[NEXT_ON_LARGE])];
-
-static BATCH_OF_2: [Table; 1] = [(SMALL, &[Call::NextAll], NONE, &[BATCH_ON_2])];
-
-static BATCH_OF_1000: [Table; 1] = [(SMALL, &[Call::NextAll], NONE, &[BATCH_ON_1000])];
-
-static HANDING_ON: [Table; 1] = [(LIMITS, &[Call::Add], NONE, &[HANDED_ON])];
+const HANDED_ON: &str = "open 5
+read b 20¹
+read [d,f) 22²
+tell [a,z) 1000
+with b 20¹
+with d 22²
+told (d,f) 22² 5
+open 3
+apply
+look b 20¹
+look [d,f) 22²";
 
 #[test]
 fn next_on_one_page(rt: HostRuntime) -> Result<(), Fail> {
-    play(&rt, rt.alloc(), &NEXT_ON_ONE)
+    play(&rt, rt.alloc(), &(LIMITS, "next", "-", ONE_PAGE))
 }
 
 #[test]
 fn next_on_17_pages(rt: HostRuntime) -> Result<(), Fail> {
-    play(&rt, rt.alloc(), &NEXT_ON_MANY)
+    play(&rt, rt.alloc(), &(LIMITS, "next", "-", MANY_PAGES))
 }
 
 #[test]
 fn next_all_of_two_leaves(rt: HostRuntime) -> Result<(), Fail> {
-    play(&rt, rt.alloc(), &NEXT_ALL)
+    play(&rt, rt.alloc(), &(LIMITS, "next_all", "-", TWO_LEAVES))
 }
 
 #[test]
 fn an_add_in_place_on_17_pages(rt: HostRuntime) -> Result<(), Fail> {
-    play(&rt, rt.alloc(), &IN_PLACE)
+    play(&rt, rt.alloc(), &(LIMITS, "add", "-", MANY_PAGES))
 }
 
 #[test]
 fn known_keys_of_a_large_page(rt: HostRuntime) -> Result<(), Fail> {
-    play(&rt, rt.alloc(), &IN_PLACE_OF_MANY)
+    play(&rt, rt.alloc(), &(LARGE, "add", "-", KNOWN_ON_LARGE))
 }
 
 #[test]
 fn known_keys_by_bytes(rt: HostRuntime) -> Result<(), Fail> {
-    play(&rt, rt.alloc(), &BY_BYTES_OF_MANY)
+    play(&rt, rt.alloc(), &(LARGE, "add_key", "-", KNOWN_ON_LARGE))
 }
 
 #[test]
 fn a_new_key_of_a_large_page(rt: HostRuntime) -> Result<(), Fail> {
-    play(&rt, rt.alloc(), &NEW_OF_MANY)
+    play(&rt, rt.alloc(), &(LARGE, "add", "-", NEW_ON_LARGE))
 }
 
 #[test]
 fn a_new_key_by_bytes(rt: HostRuntime) -> Result<(), Fail> {
-    play(&rt, rt.alloc(), &NEW_BY_BYTES)
+    play(&rt, rt.alloc(), &(LARGE, "add_key", "-", NEW_ON_LARGE))
 }
 
 #[test]
 fn known_keys_between(rt: HostRuntime) -> Result<(), Fail> {
-    play(&rt, rt.alloc(), &BETWEEN_OF_MANY)
+    play(
+        &rt,
+        rt.alloc(),
+        &(LARGE, "add_between", "-", KNOWN_AND_NOT_KEPT),
+    )
 }
 
 #[test]
 fn a_new_key_between(rt: HostRuntime) -> Result<(), Fail> {
-    play(&rt, rt.alloc(), &NEW_BETWEEN)
+    play(&rt, rt.alloc(), &(LARGE, "add_between", "-", NEW_ON_LARGE))
 }
 
 #[test]
 fn a_new_range_of_a_large_page(rt: HostRuntime) -> Result<(), Fail> {
-    play(&rt, rt.alloc(), &NEW_RANGE_OF_MANY)
+    play(&rt, rt.alloc(), &(LARGE, "add", "-", NEW_RANGE_ON_LARGE))
 }
 
 #[test]
 fn a_new_range_between(rt: HostRuntime) -> Result<(), Fail> {
-    play(&rt, rt.alloc(), &NEW_RANGE_BETWEEN)
+    play(
+        &rt,
+        rt.alloc(),
+        &(LARGE, "add_between", "-", NEW_RANGE_ON_LARGE),
+    )
 }
 
 #[test]
 fn next_on_a_large_page(rt: HostRuntime) -> Result<(), Fail> {
-    play(&rt, rt.alloc(), &NEXT_OF_MANY)
+    play(&rt, rt.alloc(), &(LARGE, "next", "-", NEXT_ON_LARGE))
 }
 
 #[test]
 fn a_batch_on_2_pages(rt: HostRuntime) -> Result<(), Fail> {
-    play(&rt, rt.alloc(), &BATCH_OF_2)
+    play(&rt, rt.alloc(), &(SMALL, "next_all", "-", BATCH_ON_2))
 }
 
 #[test]
 fn a_batch_on_1000_pages(rt: HostRuntime) -> Result<(), Fail> {
-    play(&rt, rt.alloc(), &BATCH_OF_1000)
+    play(&rt, rt.alloc(), &(SMALL, "next_all", "-", BATCH_ON_1000))
 }
 
 #[test]
 fn what_was_read_is_handed_on(rt: HostRuntime) -> Result<(), Fail> {
-    play(&rt, rt.alloc(), &HANDING_ON)
+    play(&rt, rt.alloc(), &(LIMITS, "add", "-", HANDED_ON))
 }

@@ -1,11 +1,10 @@
 //! Summaries as bytes: those of one summary, written out, and bytes that are none.
-use super::marks::{at, push, value};
-use super::rows::{FIRST, FLOOR, NOBODY, Text};
+use super::compare::are;
+use crate::words::{all_hold, at, bytes, push, span, value};
 use sha2::{Digest, Sha256};
 use std::alloc::{AllocError, Global};
-use std::process::Abort;
 use std::test::Fail;
-use timestamp_cache::{Mark, ReadSummary, SummaryFault};
+use timestamp_cache::{ReadSummary, SummaryFault};
 
 /// The version, the length, what is told, and the digest.
 const WRITTEN: &[u8; 156] =
@@ -22,26 +21,14 @@ const BEFORE: usize = 9;
 
 /// What those bytes are.
 fn told(alloc: Global) -> Result<ReadSummary, Fail> {
-    let mut span = Vec::new(alloc);
-    push(alloc, &mut span, b"[a,z)", value(FLOOR, NOBODY))?;
     let mut marks = Vec::new(alloc);
-    push(alloc, &mut marks, b"b", value((20, 0), FIRST))?;
-    push(alloc, &mut marks, b"(d,f)", value((22, 7), NOBODY))?;
-    let whole = span.pop().ok_or("no span")?;
+    push(alloc, &mut marks, "b", value("20¹")?)?;
+    push(alloc, &mut marks, "(d,f)", value("22.7")?)?;
     Ok(ReadSummary {
-        span: whole.span,
-        floor: at(FLOOR),
+        span: span(alloc, "[a,z)")?,
+        floor: at(5, 0),
         marks,
     })
-}
-
-/// Whether two lists have the same marks.
-fn are(marks: &[Mark], those: &[Mark]) -> bool {
-    let mut all = marks.len() == those.len();
-    for (mark, that) in marks.iter().zip(those) {
-        all &= mark.span == that.span && mark.value == that.value;
-    }
-    all
 }
 
 /// Whether two summaries are the same.
@@ -73,20 +60,14 @@ fn a_summary_is_written_so(rt: HostRuntime) -> Result<(), Fail> {
 #[test]
 fn a_thousand_marks_come_back(rt: HostRuntime) -> Result<(), Fail> {
     let mut told = told(rt.alloc())?;
-    push(
-        rt.alloc(),
-        &mut told.marks,
-        b"#\x03\xe8",
-        value((30, 0), NOBODY),
-    )?;
-    push(
-        rt.alloc(),
-        &mut told.marks,
-        b"*\x10\x00k",
-        value((31, 0), FIRST),
-    )?;
-    push(rt.alloc(), &mut told.marks, b"(h,h)", value((32, 0), FIRST))?;
-    push(rt.alloc(), &mut told.marks, b"(x,", value((33, 0), FIRST))?;
+    for (list, at) in [
+        ("#..1000", "30"),
+        ("k×4096", "31¹"),
+        ("(h,h)", "32¹"),
+        ("(x,", "33¹"),
+    ] {
+        push(rt.alloc(), &mut told.marks, list, value(at)?)?;
+    }
     assert!(rt; comes_back(rt.alloc(), &told)?);
     Ok(())
 }
@@ -112,72 +93,52 @@ fn fault_at(place: usize) -> SummaryFault {
     }
 }
 
-/// Tests that bytes are refused of which the one at some place was changed in this way.
-fn changed(rt: &impl Abort, alloc: Global, place: usize, by: u8) -> Result<(), Fail> {
-    let mut bytes = WRITTEN.to_vec(alloc)?;
-    if let Some(byte) = bytes.get_mut(place) {
-        *byte ^= by;
-    }
-    assert_eq!(rt;
-        fault_of(alloc, &bytes),
-        Some(fault_at(place)),
-        "the byte {place}, by {by}"
-    );
-    Ok(())
-}
-
 #[test]
 fn bytes_that_were_changed_are_refused(rt: HostRuntime) -> Result<(), Fail> {
     for place in 0..WRITTEN.len() {
         for by in [1, 0x80, 0xff] {
-            changed(&rt, rt.alloc(), place, by)?;
+            let mut bytes = WRITTEN.to_vec(rt.alloc())?;
+            if let Some(byte) = bytes.get_mut(place) {
+                *byte ^= by;
+            }
+            let fault = fault_of(rt.alloc(), &bytes);
+            assert_eq!(rt; fault, Some(fault_at(place)), "the byte {place}, by {by}");
         }
     }
     Ok(())
 }
 
-/// Contents with a digest that fits, and what is wrong with each.
-static CONTENTS: [(&str, Text); 12] = [
-    ("nothing", b""),
-    (
-        "a span that is of no kind",
-        b"\x02\0\0\0\0\0\0\0\x05\0\0\0\0\0\0\0\0\0\0\0\0",
-    ),
-    (
-        "a place on no side",
-        b"\x01\x03\0\0\0\0\x02\0\0\0\0\0\0\0\x05\0\0\0\0\0\0\0\0\0\0\0\0",
-    ),
-    ("no second place", b"\x01\0\0\0\0\x01a"),
-    ("a key that ends early", b"\x01\0\0\0\0\x02a"),
-    (
-        "a span that stops where it starts",
-        b"\x01\0\0\0\0\x01a\0\0\0\0\x01a\0\0\0\0\0\0\0\x05\0\0\0\0\0\0\0\0\0\0\0\0",
-    ),
-    (
-        "a span above all keys",
-        b"\x01\x02\x02\0\0\0\0\0\0\0\x05\0\0\0\0\0\0\0\0\0\0\0\0",
-    ),
-    (
-        "a wall time of 2^63",
-        b"\0\x80\0\0\0\0\0\0\0\0\0\0\0\0\0\0\0\0\0\0\0",
-    ),
-    (
-        "a logical count of 2^31",
-        b"\0\0\0\0\0\0\0\0\x05\x80\0\0\0\0\0\0\0\0\0\0\0",
-    ),
-    (
-        "a mark too few",
-        b"\0\0\0\0\0\0\0\0\x05\0\0\0\0\0\0\0\0\0\0\0\x01",
-    ),
-    (
-        "2^64 - 1 marks",
-        b"\0\0\0\0\0\0\0\0\x05\0\0\0\0\xff\xff\xff\xff\xff\xff\xff\xff",
-    ),
-    (
-        "a byte too many",
-        b"\0\0\0\0\0\0\0\0\x05\0\0\0\0\0\0\0\0\0\0\0\0\0",
-    ),
-];
+/// What is wrong with contents that have a digest that fits.
+static CONTENTS: &str = "# the least of all
+none %00×8¦%05¦%00×12
+# nothing
+form ε
+# a span that is of no kind
+form %02¦%00×7¦%05¦%00×12
+# a place on no side
+form %01%03¦%00×4¦%02¦%00×7¦%05¦%00×12
+# no second place
+form %01¦%00×4¦%01a
+# a key that ends early
+form %01¦%00×4¦%02a
+# a span that stops where it starts
+form %01¦%00×4¦%01a¦%00×4¦%01a¦%00×7¦%05¦%00×12
+# a span above all keys
+form %01%02%02¦%00×7¦%05¦%00×12
+# a wall time of 2^63
+form %00%80¦%00×19
+# a logical count of 2^31
+form %00×8¦%05%80¦%00×11
+# a mark too few
+form %00×8¦%05¦%00×11¦%01
+# 2^64 - 1 marks
+form %00×8¦%05¦%00×4¦%ff×8
+# a byte too many
+form %00×8¦%05¦%00×13";
+
+/// A key of 4,096 bytes, and one of 4,097.
+static LONG_KEYS: &str = "none %01¦%00×3¦%10%00¦a×4096¦%02¦%00×7¦%05¦%00×12
+form %01¦%00×3¦%10%01¦a×4097¦%02¦%00×7¦%05¦%00×12";
 
 /// The content in its frame.
 fn framed(alloc: Global, content: &[u8]) -> Result<Vec<u8>, AllocError> {
@@ -191,25 +152,21 @@ fn framed(alloc: Global, content: &[u8]) -> Result<Vec<u8>, AllocError> {
     Ok(bytes)
 }
 
+/// Whether a content has its fault, or none.
+fn is_refused(alloc: Global, [wanted, content, ..]: [&str; 6]) -> Result<bool, Fail> {
+    let content = framed(alloc, &bytes(alloc, content)?)?;
+    let fault = (wanted == "form").then_some(SummaryFault::Form);
+    Ok(fault_of(alloc, &content) == fault)
+}
+
 #[test]
 fn bytes_that_are_no_summary_are_refused(rt: HostRuntime) -> Result<(), Fail> {
-    let least = b"\0\0\0\0\0\0\0\0\x05\0\0\0\0\0\0\0\0\0\0\0\0";
-    assert_eq!(rt; fault_of(rt.alloc(), &framed(rt.alloc(), least)?), None);
-    for (name, content) in &CONTENTS {
-        let fault = fault_of(rt.alloc(), &framed(rt.alloc(), content)?);
-        assert_eq!(rt; fault, Some(SummaryFault::Form), "{name}");
-    }
+    all_hold!(rt, CONTENTS, is_refused(rt.alloc()));
     Ok(())
 }
 
 #[test]
 fn a_key_of_4097_bytes_is_refused(rt: HostRuntime) -> Result<(), Fail> {
-    for (len, fault) in [(4096, None), (4097, Some(SummaryFault::Form))] {
-        let mut content = vec![in rt.alloc(); 1, 0, 0, 0]?;
-        content.extend_from_slice(&u16::to_be_bytes(len))?;
-        content.extend_from_slice(&vec![in rt.alloc(); b'a'; len as usize]?)?;
-        content.extend_from_slice(b"\x02\0\0\0\0\0\0\0\x05\0\0\0\0\0\0\0\0\0\0\0\0")?;
-        assert_eq!(rt; fault_of(rt.alloc(), &framed(rt.alloc(), &content)?), fault);
-    }
+    all_hold!(rt, LONG_KEYS, is_refused(rt.alloc()));
     Ok(())
 }

@@ -1,10 +1,10 @@
 //! Fixed calls to a cache of one large page, whose instructions `scripts/count-steps` counts. Each
 //! test makes the same cache and the same spans, so what it counts above `nothing` its calls took.
-use super::marks::{config, value};
-use super::rows::{FIRST, Limits, NOBODY};
+use super::player::{Limits, config};
+use crate::words::{at, ends, value};
 use std::alloc::Global;
 use std::test::Fail;
-use timestamp_cache::{Cache, Ends, Key, Span, TimestampCache, Value};
+use timestamp_cache::{Cache, Key, Span, TimestampCache, Value};
 
 const LIMITS: Limits = (1_048_576, 1_048_576, 64, 1000);
 
@@ -14,38 +14,10 @@ const NUMBERS: u32 = 8192;
 /// How many calls are made.
 const CALLS: u32 = 512;
 
-/// What is done with each span.
-#[derive(Clone, Copy)]
-enum Does {
-    Nothing,
-    LookUp,
-    Add,
-}
-
-/// Over how many keys a span goes, or that its key is new.
-#[derive(Clone, Copy)]
-enum Over {
-    One,
-    New,
-    Near,
-    Far,
-}
-
 /// The key of a number, which may be a multiple of four and so many more.
 fn key(alloc: Global, number: u32, more: u32) -> Result<Key, Fail> {
     let bytes = number.saturating_mul(4).saturating_add(more).to_be_bytes();
     Ok(Key::new(alloc, &bytes)?)
-}
-
-/// The span from the key of a number, up to one that is so many keys behind it.
-fn range(alloc: Global, number: u32, keys: u32) -> Result<Span, Fail> {
-    let ends = Ends {
-        exclude_from: false,
-        exclude_to: true,
-    };
-    let from = key(alloc, number, 0)?;
-    let to = key(alloc, number.saturating_add(keys), 0)?;
-    Ok(Span::for_lookup(from, to, ends))
 }
 
 /// The number of the key at which the span of a call begins.
@@ -53,22 +25,22 @@ fn first_of(call: u32) -> u32 {
     call.saturating_mul(14)
 }
 
-/// The span of a call.
-fn span(alloc: Global, call: u32, over: Over) -> Result<Span, Fail> {
+/// The span of a call: over so many keys, or of a new one where these are none.
+fn span(alloc: Global, call: u32, keys: u32) -> Result<Span, Fail> {
     let number = first_of(call);
-    match over {
-        Over::One => Ok(Span::point(key(alloc, number, 0)?)),
-        Over::New => Ok(Span::point(key(alloc, number, 1)?)),
-        Over::Near => range(alloc, number, 16),
-        Over::Far => range(alloc, number, 1000),
+    let from = key(alloc, number, u32::from(keys == 0))?;
+    if keys < 2 {
+        return Ok(Span::point(from));
     }
+    let to = key(alloc, number.saturating_add(keys), 0)?;
+    Ok(Span::for_lookup(from, to, ends("[)")))
 }
 
 /// The spans of all calls.
-fn spans(alloc: Global, over: Over) -> Result<Vec<Span>, Fail> {
+fn spans(alloc: Global, keys: u32) -> Result<Vec<Span>, Fail> {
     let mut spans = Vec::new(alloc);
     for call in 0..CALLS {
-        spans.push(span(alloc, call, over)?)?;
+        spans.push(span(alloc, call, keys)?)?;
     }
     Ok(spans)
 }
@@ -80,7 +52,7 @@ fn time_of(number: u32) -> u64 {
 
 /// Adds the key of a number.
 fn add_key(alloc: Global, cache: &mut Cache, number: u32) -> Result<(), Fail> {
-    let value = value((time_of(number), 0), NOBODY);
+    let value = Value::unowned(at(time_of(number), 0));
     cache.add(&Span::point(key(alloc, number, 0)?), value, value.time())?;
     Ok(())
 }
@@ -120,69 +92,70 @@ fn add(cache: &mut Cache, spans: &[Span], value: Value) -> Result<bool, Fail> {
     Ok(all)
 }
 
-/// Does this with spans of a cache, and says whether all comes to what it has to.
-fn works(alloc: Global, does: Does, over: Over) -> Result<bool, Fail> {
+/// Does nothing, looks up or adds with spans over so many keys, and says whether all comes to what
+/// it has to.
+fn works(alloc: Global, does: &str, keys: u32) -> Result<bool, Fail> {
     let mut cache = Cache::new(alloc, config(LIMITS)?)?;
     fill(alloc, &mut cache)?;
-    let (one, new) = (spans(alloc, Over::One)?, spans(alloc, Over::New)?);
-    let (near, far) = (spans(alloc, Over::Near)?, spans(alloc, Over::Far)?);
-    let spans = match over {
-        Over::One => &one,
-        Over::New => &new,
-        Over::Near => &near,
-        Over::Far => &far,
+    let (one, new) = (spans(alloc, 1)?, spans(alloc, 0)?);
+    let (near, far) = (spans(alloc, 16)?, spans(alloc, 1000)?);
+    let spans = match keys {
+        0 => &new,
+        1 => &one,
+        16 => &near,
+        _ => &far,
     };
     match does {
-        Does::Nothing => Ok(cache.pages() == 1),
-        Does::LookUp => Ok(look_up(&cache, spans)),
-        Does::Add => add(&mut cache, spans, value((9000, 0), FIRST)),
+        "look_up" => Ok(look_up(&cache, spans)),
+        "add" => add(&mut cache, spans, value("9000¹")?),
+        _ => Ok(cache.pages() == 1),
     }
 }
 
 #[test]
 fn nothing(rt: HostRuntime) -> Result<(), Fail> {
-    assert!(rt; works(rt.alloc(), Does::Nothing, Over::One)?);
+    assert!(rt; works(rt.alloc(), "nothing", 1)?);
     Ok(())
 }
 
 #[test]
 fn lookups_of_keys(rt: HostRuntime) -> Result<(), Fail> {
-    assert!(rt; works(rt.alloc(), Does::LookUp, Over::One)?);
+    assert!(rt; works(rt.alloc(), "look_up", 1)?);
     Ok(())
 }
 
 #[test]
 fn lookups_of_16_keys(rt: HostRuntime) -> Result<(), Fail> {
-    assert!(rt; works(rt.alloc(), Does::LookUp, Over::Near)?);
+    assert!(rt; works(rt.alloc(), "look_up", 16)?);
     Ok(())
 }
 
 #[test]
 fn lookups_of_1000_keys(rt: HostRuntime) -> Result<(), Fail> {
-    assert!(rt; works(rt.alloc(), Does::LookUp, Over::Far)?);
+    assert!(rt; works(rt.alloc(), "look_up", 1000)?);
     Ok(())
 }
 
 #[test]
 fn adds_of_keys(rt: HostRuntime) -> Result<(), Fail> {
-    assert!(rt; works(rt.alloc(), Does::Add, Over::One)?);
+    assert!(rt; works(rt.alloc(), "add", 1)?);
     Ok(())
 }
 
 #[test]
 fn adds_of_new_keys(rt: HostRuntime) -> Result<(), Fail> {
-    assert!(rt; works(rt.alloc(), Does::Add, Over::New)?);
+    assert!(rt; works(rt.alloc(), "add", 0)?);
     Ok(())
 }
 
 #[test]
 fn adds_of_16_keys(rt: HostRuntime) -> Result<(), Fail> {
-    assert!(rt; works(rt.alloc(), Does::Add, Over::Near)?);
+    assert!(rt; works(rt.alloc(), "add", 16)?);
     Ok(())
 }
 
 #[test]
 fn adds_of_1000_keys(rt: HostRuntime) -> Result<(), Fail> {
-    assert!(rt; works(rt.alloc(), Does::Add, Over::Far)?);
+    assert!(rt; works(rt.alloc(), "add", 1000)?);
     Ok(())
 }

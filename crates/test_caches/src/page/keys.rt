@@ -1,33 +1,31 @@
 //! The end keys of a page, one after another.
-use super::steps::{Order, Step, With, play_steps};
+use super::steps::play;
 use std::test::Fail;
 
 /// Pages of no leaf, of one, of several, and of so many that branches hold them. It is asked at the
 /// places before and after all numbers up to one behind the last key.
-static ASKED: [Step; 20] = [
-    Step::Filled(Order::Rising, 0, With::Fourths, 0),
-    Step::Keys(0, 6),
-    Step::Filled(Order::Rising, 1, With::Fourths, 0),
-    Step::Keys(1, 10),
-    Step::Filled(Order::Rising, 64, With::Fourths, 0),
-    Step::Keys(64, 260),
-    Step::Filled(Order::Falling, 65, With::Fourths, 0),
-    Step::Keys(65, 264),
-    Step::Filled(Order::Rising, 130, With::Fourths, 0),
-    Step::Keys(130, 524),
-    Step::Filled(Order::Falling, 130, With::Fourths, 0),
-    Step::Keys(130, 524),
-    Step::Filled(Order::Mixed, 130, With::Fourths, 0),
-    Step::Keys(130, 524),
-    Step::Filled(Order::Rising, 2200, With::Fourths, 0),
-    Step::Keys(2200, 8804),
-    Step::Filled(Order::Falling, 2200, With::Fourths, 0),
-    Step::Keys(2200, 8804),
-    Step::Filled(Order::Mixed, 2200, With::Fourths, 0),
-    Step::Keys(2200, 8804),
-];
+static ASKED: &str = "filled rising 0 0 fourths
+keys 0 6
+filled rising 1 0 fourths
+keys 1 10
+filled rising 64 0 fourths
+keys 64 260
+filled falling 65 0 fourths
+keys 65 264
+filled rising 130 0 fourths
+keys 130 524
+filled falling 130 0 fourths
+keys 130 524
+filled mixed 130 0 fourths
+keys 130 524
+filled rising 2200 0 fourths
+keys 2200 8804
+filled falling 2200 0 fourths
+keys 2200 8804
+filled mixed 2200 0 fourths
+keys 2200 8804";
 
 #[test]
 fn keys_of_pages_in_order(rt: HostRuntime) -> Result<(), Fail> {
-    play_steps(&rt, rt.alloc(), &ASKED)
+    play(&rt, rt.alloc(), ASKED)
 }

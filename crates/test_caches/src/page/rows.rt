@@ -1,214 +1,209 @@
 //! A table of steps, after each of which both pages show the same.
-use super::pages::{
-    A, B, C, D, E, EMPTY, F, FIRST, G, LAST, LONG, LONGER, M, NEXT, NOBODY, Over, SECOND, Z,
-};
-use super::steps::{Step, play_steps};
+use super::steps::play;
 use std::test::Fail;
 
-static STEPS: [Step; 183] = [
-    Step::Between(&[EMPTY, A, NEXT, B, C, D, E, F, G, LONG]),
-    Step::Strict(true),
-    // an empty page
-    Step::New(132, 7),
-    Step::Shows(0, 0, 7, 0),
-    Step::Look(Over::At(A), 0, 0, NOBODY),
-    Step::Look(Over::From(A), 0, 0, NOBODY),
-    Step::Room(Over::Through(A, C), true),
-    // a range reaches up to its excluded end
-    Step::New(132, 5),
-    Step::Add(Over::UpTo(A, C), 20, 0, FIRST),
-    Step::Copy(false),
-    Step::Look(Over::At(A), 20, 0, FIRST),
-    Step::Look(Over::At(B), 20, 0, FIRST),
-    Step::Look(Over::At(C), 0, 0, NOBODY),
-    // the logical count decides at one wall time
-    Step::New(132, 5),
-    Step::Add(Over::At(A), 5, 1, FIRST),
-    Step::Copy(false),
-    Step::Look(Over::At(A), 5, 1, FIRST),
-    Step::Shows(1, 33, 5, 1),
-    Step::Add(Over::At(A), 5, 0, SECOND),
-    Step::Copy(false),
-    Step::Look(Over::At(A), 5, 1, FIRST),
-    Step::Shows(1, 33, 5, 1),
-    // a range takes a node for each end
-    Step::New(132, 7),
-    Step::Add(Over::UpTo(A, C), 20, 0, FIRST),
-    Step::Copy(false),
-    Step::Shows(2, 66, 20, 0),
-    Step::Add(Over::At(B), 10, 0, SECOND),
-    Step::Copy(false),
-    Step::Shows(3, 99, 20, 0),
-    Step::Look(Over::At(B), 20, 0, FIRST),
-    Step::Room(Over::UpTo(D, E), false),
-    Step::Room(Over::UpTo(C, D), true),
-    // a copy goes its own way
-    Step::Copy(true),
-    Step::Swap,
-    Step::Add(Over::UpTo(C, D), 30, 0, SECOND),
-    Step::Look(Over::At(C), 30, 0, SECOND),
-    Step::Look(Over::UpTo(C, D), 30, 0, SECOND),
-    Step::Shows(4, 132, 30, 0),
-    Step::Swap,
-    Step::Look(Over::At(C), 0, 0, NOBODY),
-    Step::Shows(3, 99, 20, 0),
-    // a new node takes the value of its gap
-    Step::New(264, 0),
-    Step::Add(Over::UpTo(A, E), 20, 0, FIRST),
-    Step::Copy(false),
-    Step::Look(Over::At(C), 20, 0, FIRST),
-    Step::Shows(2, 66, 20, 0),
-    Step::Add(Over::At(C), 10, 0, SECOND),
-    Step::Copy(false),
-    Step::Look(Over::At(C), 20, 0, FIRST),
-    Step::Shows(3, 99, 20, 0),
-    Step::Add(Over::Gap(C, E), 20, 0, SECOND),
-    Step::Copy(false),
-    Step::Shows(3, 99, 20, 0),
-    Step::Look(Over::At(C), 20, 0, FIRST),
-    Step::Look(Over::Gap(A, C), 20, 0, FIRST),
-    Step::Look(Over::At(D), 20, 0, NOBODY),
-    Step::Look(Over::Gap(C, E), 20, 0, NOBODY),
-    Step::Look(Over::At(E), 0, 0, NOBODY),
-    // known keys need no room
-    Step::New(66, 0),
-    Step::Add(Over::UpTo(A, C), 20, 0, FIRST),
-    Step::Copy(false),
-    Step::Room(Over::From(C), true),
-    Step::Room(Over::Gap(A, A), true),
-    Step::Room(Over::At(B), false),
-    // owners that differ are lost
-    Step::New(132, 0),
-    Step::Add(Over::UpTo(A, C), 20, 0, FIRST),
-    Step::Copy(false),
-    Step::Add(Over::UpTo(B, D), 20, 0, SECOND),
-    Step::Copy(false),
-    Step::Look(Over::At(A), 20, 0, FIRST),
-    Step::Look(Over::At(B), 20, 0, NOBODY),
-    Step::Look(Over::At(C), 20, 0, SECOND),
-    Step::Look(Over::UpTo(A, D), 20, 0, NOBODY),
-    // at one time only a common owner stays
-    Step::New(132, 0),
-    Step::Add(Over::At(A), 20, 0, FIRST),
-    Step::Copy(false),
-    Step::Add(Over::At(A), 20, 0, SECOND),
-    Step::Copy(false),
-    Step::Look(Over::At(A), 20, 0, NOBODY),
-    Step::Add(Over::At(B), 20, 0, FIRST),
-    Step::Copy(false),
-    Step::Add(Over::At(B), 20, 0, FIRST),
-    Step::Copy(false),
-    Step::Look(Over::At(B), 20, 0, FIRST),
-    Step::Add(Over::At(C), 20, 0, NOBODY),
-    Step::Copy(false),
-    Step::Add(Over::At(C), 20, 0, FIRST),
-    Step::Copy(false),
-    Step::Look(Over::At(C), 20, 0, NOBODY),
-    Step::Add(Over::At(D), 20, 0, FIRST),
-    Step::Copy(false),
-    Step::Add(Over::At(D), 20, 0, NOBODY),
-    Step::Copy(false),
-    Step::Look(Over::At(D), 20, 0, NOBODY),
-    // equal ends are the single key
-    Step::New(132, 0),
-    Step::Add(Over::UpTo(A, A), 20, 0, FIRST),
-    Step::Copy(false),
-    Step::Shows(1, 33, 20, 0),
-    Step::Look(Over::At(A), 20, 0, FIRST),
-    Step::Look(Over::Gap(A, A), 0, 0, NOBODY),
-    Step::Look(Over::Gap(A, B), 0, 0, NOBODY),
-    // excluded ends stay as they are
-    Step::New(132, 0),
-    Step::Add(Over::Gap(A, C), 20, 0, FIRST),
-    Step::Copy(false),
-    Step::Look(Over::At(A), 0, 0, NOBODY),
-    Step::Look(Over::At(B), 20, 0, FIRST),
-    Step::Look(Over::At(C), 0, 0, NOBODY),
-    Step::Look(Over::Gap(A, A), 0, 0, NOBODY),
-    // a gap without keys has a value
-    Step::New(132, 0),
-    Step::Add(Over::Gap(A, NEXT), 20, 0, FIRST),
-    Step::Copy(false),
-    Step::Look(Over::Gap(A, NEXT), 20, 0, FIRST),
-    Step::Look(Over::Through(A, NEXT), 20, 0, FIRST),
-    Step::Look(Over::At(NEXT), 0, 0, NOBODY),
-    Step::Look(Over::At(A), 0, 0, NOBODY),
-    // a span without end
-    Step::New(132, 0),
-    Step::Add(Over::From(M), 20, 0, FIRST),
-    Step::Copy(false),
-    Step::Shows(1, 33, 20, 0),
-    Step::Look(Over::At(LAST), 20, 0, FIRST),
-    Step::Look(Over::At(M), 20, 0, FIRST),
-    Step::Look(Over::At(LONG), 0, 0, NOBODY),
-    Step::Look(Over::From(Z), 20, 0, FIRST),
-    Step::Look(Over::After(A, M), 20, 0, FIRST),
-    Step::Look(Over::UpTo(A, M), 0, 0, NOBODY),
-    // the empty key, and two of the longest ones, which differ in their last byte
-    Step::New(8288, 0),
-    Step::Add(Over::At(EMPTY), 10, 0, FIRST),
-    Step::Copy(false),
-    Step::Look(Over::At(EMPTY), 10, 0, FIRST),
-    Step::Look(Over::Behind(EMPTY), 0, 0, NOBODY),
-    Step::Add(Over::UpTo(LONG, LONGER), 20, 0, SECOND),
-    Step::Copy(false),
-    Step::Shows(3, 8288, 20, 0),
-    Step::Look(Over::At(LONG), 20, 0, SECOND),
-    Step::Look(Over::At(LONGER), 0, 0, NOBODY),
-    Step::Look(Over::Behind(LONGER), 0, 0, NOBODY),
-    Step::Add(Over::UpTo(EMPTY, LONG), 15, 0, SECOND),
-    Step::Copy(false),
-    Step::Look(Over::At(A), 15, 0, SECOND),
-    Step::Look(Over::Through(EMPTY, LONGER), 20, 0, SECOND),
-    Step::Room(Over::Through(EMPTY, LONGER), true),
-    Step::Room(Over::UpTo(EMPTY, M), false),
-    // all kinds of spans on a page that they fill
-    Step::New(165, 7),
-    Step::Add(Over::UpTo(B, D), 20, 0, FIRST),
-    Step::Copy(false),
-    Step::Add(Over::At(C), 30, 0, SECOND),
-    Step::Copy(false),
-    Step::Add(Over::After(B, F), 20, 0, SECOND),
-    Step::Copy(false),
-    Step::Add(Over::At(A), 10, 0, FIRST),
-    Step::Copy(false),
-    Step::Add(Over::Behind(C), 30, 0, FIRST),
-    Step::Copy(false),
-    Step::Add(Over::Through(A, F), 25, 0, NOBODY),
-    Step::Copy(false),
-    Step::Room(Over::At(G), false),
-    Step::Add(Over::Through(C, C), 30, 0, SECOND),
-    Step::Copy(false),
-    Step::Shows(5, 165, 30, 0),
-    // the same by pages that are made beside
-    Step::New(165, 7),
-    Step::Added(Over::UpTo(B, D), 20, 0, FIRST),
-    Step::Shows(2, 66, 20, 0),
-    Step::Look(Over::At(C), 20, 0, FIRST),
-    Step::Look(Over::At(D), 0, 0, NOBODY),
-    Step::Added(Over::At(C), 30, 0, SECOND),
-    Step::Shows(3, 99, 30, 0),
-    Step::Look(Over::Gap(B, C), 20, 0, FIRST),
-    Step::Added(Over::After(B, F), 20, 0, SECOND),
-    Step::Look(Over::Gap(B, C), 20, 0, NOBODY),
-    Step::Look(Over::At(C), 30, 0, SECOND),
-    Step::Added(Over::At(A), 6, 0, FIRST),
-    Step::Shows(5, 165, 30, 0),
-    Step::Room(Over::At(G), false),
-    Step::Room(Over::UpTo(F, G), false),
-    Step::Added(Over::Behind(C), 30, 0, FIRST),
-    Step::Added(Over::Through(A, F), 25, 0, NOBODY),
-    Step::Look(Over::At(A), 25, 0, NOBODY),
-    Step::Added(Over::Through(C, C), 40, 1, SECOND),
-    Step::Look(Over::Through(A, F), 40, 1, SECOND),
-    Step::Shows(5, 165, 40, 1),
-    Step::Add(Over::From(A), 50, 0, FIRST),
-    Step::Copy(false),
-    Step::Shows(5, 165, 50, 0),
-];
+static STEPS: &str = "between ε|a|a%00|b|c|d|e|f|g|l×4096
+strict yes
+# an empty page
+new 132 7
+shows 0 0 7
+look a 0
+look [a, 0
+room [a,c] yes
+# a range reaches up to its excluded end
+new 132 5
+add [a,c) 20¹
+copy
+look a 20¹
+look b 20¹
+look c 0
+# the logical count decides at one wall time
+new 132 5
+add a 5.1¹
+copy
+look a 5.1¹
+shows 1 33 5.1
+add a 5²
+copy
+look a 5.1¹
+shows 1 33 5.1
+# a range takes a node for each end
+new 132 7
+add [a,c) 20¹
+copy
+shows 2 66 20
+add b 10²
+copy
+shows 3 99 20
+look b 20¹
+room [d,e) no
+room [c,d) yes
+# a copy goes its own way
+keep
+swap
+add [c,d) 30²
+look c 30²
+look [c,d) 30²
+shows 4 132 30
+swap
+look c 0
+shows 3 99 20
+# a new node takes the value of its gap
+new 264 0
+add [a,e) 20¹
+copy
+look c 20¹
+shows 2 66 20
+add c 10²
+copy
+look c 20¹
+shows 3 99 20
+add (c,e) 20²
+copy
+shows 3 99 20
+look c 20¹
+look (a,c) 20¹
+look d 20
+look (c,e) 20
+look e 0
+# known keys need no room
+new 66 0
+add [a,c) 20¹
+copy
+room [c, yes
+room (a,a) yes
+room b no
+# owners that differ are lost
+new 132 0
+add [a,c) 20¹
+copy
+add [b,d) 20²
+copy
+look a 20¹
+look b 20
+look c 20²
+look [a,d) 20
+# at one time only a common owner stays
+new 132 0
+add a 20¹
+copy
+add a 20²
+copy
+look a 20
+add b 20¹
+copy
+add b 20¹
+copy
+look b 20¹
+add c 20
+copy
+add c 20¹
+copy
+look c 20
+add d 20¹
+copy
+add d 20
+copy
+look d 20
+# equal ends are the single key
+new 132 0
+add [a,a) 20¹
+copy
+shows 1 33 20
+look a 20¹
+look (a,a) 0
+look (a,b) 0
+# excluded ends stay as they are
+new 132 0
+add (a,c) 20¹
+copy
+look a 0
+look b 20¹
+look c 0
+look (a,a) 0
+# a gap without keys has a value
+new 132 0
+add (a,a%00) 20¹
+copy
+look (a,a%00) 20¹
+look [a,a%00] 20¹
+look a%00 0
+look a 0
+# a span without end
+new 132 0
+add [m, 20¹
+copy
+shows 1 33 20
+look %ff 20¹
+look m 20¹
+look l×4096 0
+look [z, 20¹
+look (a,m] 20¹
+look [a,m) 0
+# the empty key, and two of the longest ones, which differ in their last byte
+new 8288 0
+add ε 10¹
+copy
+look ε 10¹
+look (ε, 0
+add [l×4096,l×4095¦m) 20²
+copy
+shows 3 8288 20
+look l×4096 20²
+look l×4095¦m 0
+look (l×4095¦m, 0
+add [ε,l×4096) 15²
+copy
+look a 15²
+look [ε,l×4095¦m] 20²
+room [ε,l×4095¦m] yes
+room [ε,m) no
+# all kinds of spans on a page that they fill
+new 165 7
+add [b,d) 20¹
+copy
+add c 30²
+copy
+add (b,f] 20²
+copy
+add a 10¹
+copy
+add (c, 30¹
+copy
+add [a,f] 25
+copy
+room g no
+add [c,c] 30²
+copy
+shows 5 165 30
+# the same by pages that are made beside
+new 165 7
+added [b,d) 20¹
+shows 2 66 20
+look c 20¹
+look d 0
+added c 30²
+shows 3 99 30
+look (b,c) 20¹
+added (b,f] 20²
+look (b,c) 20
+look c 30²
+added a 6¹
+shows 5 165 30
+room g no
+room [f,g) no
+added (c, 30¹
+added [a,f] 25
+look a 25
+added [c,c] 40.1²
+look [a,f] 40.1²
+shows 5 165 40.1
+add [a, 50¹
+copy
+shows 5 165 50";
 
 /// Memory is ample here: no call is made again.
 #[test]
 fn rows_of_calls(rt: HostRuntime) -> Result<(), Fail> {
-    play_steps(&rt, rt.alloc(), &STEPS)
+    play(&rt, rt.alloc(), STEPS)
 }

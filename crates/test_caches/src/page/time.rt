@@ -1,97 +1,72 @@
-use super::pages::{FIRST, NOBODY, Row, SECOND, at, play, value};
-use std::alloc::{AllocError, AllocFailed, Global};
+//! Times and values.
+use crate::words::{FIRST, all_hold, at, parts, value};
+use std::alloc::{AllocError, AllocFailed};
 use std::test::Fail;
 use tsc_time::{NoMemory, Timestamp, Value, ratchet};
 use uuid::Uuid;
 
-/// A time: its wall time and its logical count.
-type Time = (u64, u32);
+/// Whether a time is too large, whether one comes before another, and what is left of one from
+/// which nanoseconds are taken.
+static TIMES: &str = "too_large 9223372036854775808
+too_large 9223372036854775808.2147483647
+too_large 0.2147483648
+too_large 9223372036854775807.2147483648
+rising 0.1 1
+rising 1 1.9
+rising 1.9 2
+rising 2 2.1
+minus 20 21 none
+minus 20.3 20 0.3
+minus 20.3 0 20.3";
 
-/// A value: its wall time, its logical count and its owner.
-type Parts = (u64, u32, u128);
-
-/// What is told of times and values.
-#[derive(Clone, Copy)]
-enum Told {
-    /// One of the parts is too large.
-    TooLarge(u64, u32),
-    /// The first time comes before the second.
-    Rising(Time, Time),
-    /// A time, how many nanoseconds are taken from it, and what is left.
-    Minus(Time, u64, Time),
-    /// There are too few to take so many.
-    TooFew(Time, u64),
-    /// An old value and a new one, what the ratchet makes of them, and whether it says that this
-    /// differs from the old one.
-    Ratchet(Parts, Parts, Parts, bool),
-}
-
-static TIMES: [Told; 11] = [
-    Told::TooLarge(9_223_372_036_854_775_808, 0),
-    Told::TooLarge(9_223_372_036_854_775_808, 2_147_483_647),
-    Told::TooLarge(0, 2_147_483_648),
-    Told::TooLarge(9_223_372_036_854_775_807, 2_147_483_648),
-    Told::Rising((0, 1), (1, 0)),
-    Told::Rising((1, 0), (1, 9)),
-    Told::Rising((1, 9), (2, 0)),
-    Told::Rising((2, 0), (2, 1)),
-    Told::TooFew((20, 0), 21),
-    Told::Minus((20, 3), 20, (0, 3)),
-    Told::Minus((20, 3), 0, (20, 3)),
-];
-
-static RATCHETS: [Told; 9] = [
-    // the later time wins, with its owner
-    Told::Ratchet((10, 0, FIRST), (10, 1, SECOND), (10, 1, SECOND), true),
-    Told::Ratchet((10, 0, FIRST), (10, 1, NOBODY), (10, 1, NOBODY), true),
-    Told::Ratchet((10, 1, FIRST), (10, 0, FIRST), (10, 1, FIRST), false),
-    Told::Ratchet((10, 1, NOBODY), (10, 0, FIRST), (10, 1, NOBODY), false),
-    // at one time a common owner stays, and otherwise nobody owns it
-    Told::Ratchet((10, 1, FIRST), (10, 1, FIRST), (10, 1, FIRST), false),
-    Told::Ratchet((10, 1, FIRST), (10, 1, SECOND), (10, 1, NOBODY), true),
-    Told::Ratchet((10, 1, FIRST), (10, 1, NOBODY), (10, 1, NOBODY), true),
-    Told::Ratchet((10, 1, NOBODY), (10, 1, FIRST), (10, 1, NOBODY), false),
-    Told::Ratchet((10, 1, NOBODY), (10, 1, NOBODY), (10, 1, NOBODY), false),
-];
+/// An old value and a new one, what the ratchet makes of them, and whether it says that this
+/// differs from the old one.
+static RATCHETS: &str = "# the later time wins, with its owner
+ratchet 10¹ 10.1² 10.1² differs
+ratchet 10¹ 10.1 10.1 differs
+ratchet 10.1¹ 10¹ 10.1¹ same
+ratchet 10.1 10¹ 10.1 same
+# at one time a common owner stays, and otherwise nobody owns it
+ratchet 10.1¹ 10.1¹ 10.1¹ same
+ratchet 10.1¹ 10.1² 10.1 differs
+ratchet 10.1¹ 10.1 10.1 differs
+ratchet 10.1 10.1¹ 10.1 same
+ratchet 10.1 10.1 10.1 same";
 
 /// Whether a time is of these parts, and in range.
-fn is_made(time: Timestamp, (wall, logical): Time) -> bool {
+fn is_made(time: Timestamp, (wall, logical): (u64, u32)) -> bool {
     Timestamp::new(wall, logical) == Some(time) && (time.wall(), time.logical()) == (wall, logical)
 }
 
-/// Whether the time of some parts is made of just these.
-fn is_time((wall, logical): Time) -> bool {
-    is_made(at(wall, logical), (wall, logical))
-}
-
-fn value_of((wall, logical, owner): Parts) -> Value {
-    value(wall, logical, owner)
-}
-
 /// Whether a time comes before another one, and both are made of just their parts.
-fn is_before(earlier: Time, later: Time) -> bool {
+fn is_before(earlier: (u64, u32), later: (u64, u32)) -> bool {
     let (first, second) = (at(earlier.0, earlier.1), at(later.0, later.1));
     let rising = first < second && second > first && first != second;
-    rising && is_time(earlier) && is_time(later)
+    rising && is_made(first, earlier) && is_made(second, later)
 }
 
-impl Row<Global> for Told {
-    fn holds(&self, _alloc: &mut Global) -> Result<bool, Fail> {
-        Ok(match *self {
-            Told::TooLarge(wall, logical) => Timestamp::new(wall, logical).is_none(),
-            Told::Rising(earlier, later) => is_before(earlier, later),
-            Told::Minus((wall, logical), less, left) => {
-                at(wall, logical)
-                    .minus(less)
-                    .is_some_and(|time| is_made(time, left))
-            }
-            Told::TooFew((wall, logical), less) => at(wall, logical).minus(less).is_none(),
-            Told::Ratchet(old, new, wanted, updated) => {
-                let made = is_time((old.0, old.1)) && is_time((new.0, new.1));
-                let told = ratchet(value_of(old), value_of(new)) == (value_of(wanted), updated);
-                made && is_time((wanted.0, wanted.1)) && told
-            }
-        })
+/// Whether this is left of a time.
+fn leaves((wall, logical): (u64, u32), less: u64, left: &str) -> Result<bool, Fail> {
+    match at(wall, logical).minus(less) {
+        Some(time) => Ok(is_made(time, parts(left)?)),
+        None => Ok(left == "none"),
+    }
+}
+
+/// Whether what is told of times and values holds.
+fn holds([told, first, second, third, fourth, _]: [&str; 6]) -> Result<bool, Fail> {
+    match told {
+        "too_large" => {
+            let (wall, logical) = parts(first)?;
+            Ok(Timestamp::new(wall, logical).is_none())
+        }
+        "rising" => Ok(is_before(parts(first)?, parts(second)?)),
+        "minus" => leaves(parts(first)?, second.parse()?, third),
+        "ratchet" => {
+            let (made, differs) = ratchet(value(first)?, value(second)?);
+            Ok(made == value(third)? && differs == (fourth == "differs"))
+        }
+        _ => Ok(false),
     }
 }
 
@@ -100,7 +75,8 @@ fn times(rt: HostRuntime) -> Result<(), Fail> {
     let last = Timestamp::new(9_223_372_036_854_775_807, 2_147_483_647);
     let first = Timestamp::new(0, 0);
     assert!(rt; first == Some(Timestamp::ZERO) && last == Some(Timestamp::MAX));
-    play(&rt, &mut rt.alloc(), &TIMES)
+    all_hold!(rt, TIMES, holds());
+    Ok(())
 }
 
 /// Whether a value without an owner has none, also as a value of the nil owner.
@@ -117,10 +93,9 @@ fn is_of(value: Value, time: Timestamp, owner: u128) -> bool {
 #[test]
 fn values(rt: HostRuntime) -> Result<(), Fail> {
     let time = at(7, 1);
-    assert!(rt;
-        is_made(time, (7, 1)) && is_unowned(time) && is_of(value(7, 1, FIRST), time, FIRST)
-    );
-    play(&rt, &mut rt.alloc(), &RATCHETS)
+    assert!(rt; is_made(time, (7, 1)) && is_unowned(time) && is_of(value("7.1¹")?, time, FIRST));
+    all_hold!(rt, RATCHETS, holds());
+    Ok(())
 }
 
 fn refused() -> Result<(), NoMemory> {
