@@ -23,7 +23,7 @@ use Rattle.tsc_cache.specs.contracts.added.Added.{the_row as added}
 use Rattle.tsc_cache.specs.contracts.config.Config.{the_row as config}
 use Rattle.tsc_cache.specs.contracts.plain_pages.PlainPages.{the_row as plain_pages}
 use Rattle.tsc_cache.specs.contracts.plain.PlainCache.{the_row as plain_cache}
-use Rattle.tsc_cache.specs.contracts.older.Pages.{the_row as pages}
+use Rattle.tsc_cache.specs.contracts.page_stack.Pages.{the_row as pages}
 use Rattle.tsc_cache.specs.contracts.cache.Cache.{the_row as cache}
 
 timestamp_sends : IsSend timestamp

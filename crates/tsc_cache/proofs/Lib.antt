@@ -24,4 +24,3 @@ pub mod BatchExamples
 pub mod KeysTold
 pub mod CountsTold
 pub mod CountExamples
-pub mod FullChunks

@@ -2,7 +2,7 @@
 use Rattle.std.specs.Prelude.{List, ◌∷◌}
 use Rattle.std.specs.Arc.{arc_value}
 use Rattle.tsc_page_nodes.specs.PageView.{PageView}
-use Rattle.tsc_cache.specs.declared.older.Pages.{Pages}
+use Rattle.tsc_cache.specs.declared.page_stack.Pages.{Pages}
 use Rattle.tsc_cache.specs.declared.plain_pages.PlainPages.{PlainPages}
 
 -- what can be seen of the newest page

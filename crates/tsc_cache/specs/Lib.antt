@@ -11,6 +11,5 @@ pub mod Stacks
 pub mod CacheParts
 pub mod Laws
 pub mod Keys
-pub mod Chunks
 pub mod Counts
 pub use Rattle.tsc_span.specs.Span

@@ -27,7 +27,6 @@ mod history;
 pub mod laws;
 mod mark;
 mod named_span;
-mod older;
 mod page_stack;
 mod pages;
 mod plain;

@@ -1,10 +1,12 @@
-ghost use Rattle.std.specs.Prelude.{◌≡◌, ◌∷◌, List, length, OnOk, OnErr};
+ghost use Rattle.std.specs.Prelude.{◌≡◌, ◌<◌, ◌∷◌, ◌^◌, List, length, OnOk, OnErr};
 ghost use Rattle.tsc_page_nodes.specs.PageView.{PageView};
 ghost use Rattle.tsc_cache.specs.Stacks.{IsExpiredTop, Drops};
 
 use crate::Config;
 use std::alloc::Global;
-use tsc_page::IntervalPage;
+use std::sync::Arc;
+use tsc_cache_pages::OlderPages;
+use tsc_page::{IntervalPage, Page};
 use tsc_time::{NoMemory, Timestamp};
 
 /// The pages of a cache, from the newest to the oldest: there is always one.
@@ -41,4 +43,13 @@ pub(crate) trait PageStack<P: IntervalPage> {
         ensures front { newest self.new ≡ newest self.old }
         ensures dropped { Drops config.now floor now (others self.old) (others self.new) result.0
             result.1 };
+}
+
+/// The pages of a cache. A page that other caches hold too is never changed.
+#[derive(Debug, Drop)]
+pub(crate) struct Pages {
+    pub(crate) front: Arc<Page>,
+    pub(crate) older: OlderPages,
+    /// There are fewer than a machine has addresses for.
+    ghost few: { length older < 2 ^ 63 },
 }

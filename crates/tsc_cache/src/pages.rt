@@ -11,11 +11,11 @@ ghost use Rattle.tsc_cache.specs.CacheParts.{front_of, older_of, pages_of};
 ghost use Rattle.tsc_cache.specs.Keys.{keys_seen, lesser};
 ghost use Rattle.tsc_cache.specs.Counts.{figures_with};
 
-use crate::older::{OlderPages, Pages};
-use crate::page_stack::PageStack;
+use crate::page_stack::{PageStack, Pages};
 use crate::{Config, Figures};
 use std::alloc::Global;
 use std::sync::Arc;
+use tsc_cache_pages::OlderPages;
 use tsc_page::{IntervalPage, Page};
 use tsc_span::{AddSpan, Cut, Key, KeyRef, Span, SpanRef};
 use tsc_time::{NoMemory, Timestamp, Value, ratchet};
