@@ -48,6 +48,25 @@ IsTold old new a room (Ok (Some more)) = AddsWithin old new a room more
 IsTold old new a room (Ok None) = new ≡ old
 IsTold old new a room (Err e) = new ≡ old
 
+-- What an Add makes of two lists of nodes, each of which gets a node more at the most.
+pub record AddsToBoth (low new_low high new_high : List Node) (a b : InsertionView) (room : ℕ)
+    (more : Growth) : Type 0 where
+  pub more_low : Growth
+  pub more_high : Growth
+  pub adds_low : AddsWithin low new_low a (record { nodes = 1; bytes = room }) more_low
+  pub adds_high : AddsWithin high new_high b (record { nodes = 1; bytes = room }) more_high
+  pub nodes : more.nodes ≡ more_low.nodes + more_high.nodes
+  pub bytes : more.bytes ≡ more_low.bytes + more_high.bytes
+  pub within : more.bytes ≤ room
+
+-- what a call tells that adds to both, or leaves both as they are
+abbrev pub IsBothTold : {E : Type 0} → (low new_low high new_high : List Node) →
+    InsertionView → InsertionView → ℕ → Result (Option Growth) E → Type 0
+IsBothTold low new_low high new_high a b room (Ok (Some more)) =
+    AddsToBoth low new_low high new_high a b room more
+IsBothTold low new_low high new_high a b room (Ok None) = (new_low ≡ low) × (new_high ≡ high)
+IsBothTold low new_low high new_high a b room (Err e) = (new_low ≡ low) × (new_high ≡ high)
+
 -- Two new keys that fit in nodes, of which the second comes in first.
 pub record AreReady (nodes : List Node) (lower upper : Option (ℕ × KeyBytes)) : Type 0 where
   pub second : FitsIn nodes upper

@@ -9,7 +9,7 @@ ghost use Rattle.tsc_span.specs.Cuts.{cut_of};
 ghost use Rattle.tsc_page_nodes.specs.Prefixes.{IsCutPrefix};
 ghost use Rattle.tsc_page_nodes.specs.PageView.{is_new_among};
 ghost use Rattle.tsc_page_nodes.specs.KeyAdds.{IsKeyTold};
-ghost use Rattle.tsc_page_nodes.specs.Insertions.{IsTold, AreReady, HaveRoom};
+ghost use Rattle.tsc_page_nodes.specs.Insertions.{IsTold, IsBothTold, AreReady, HaveRoom};
 ghost use Rattle.tsc_page_nodes.specs.KeysAbove.{first_above};
 ghost use Rattle.tsc_page_nodes.specs.Nodes.{paired, IsSorted, FitsAt, FallsAt, IsFoundAt, IsPlaceOf, IsPlaceTold, BothStandWhereTold, HasKeysBelow, StandsAt, LiesFrom, index_of, key_above, first_gap, IsNewKey, FitsIn, with_new, IsInOrder, HasNodes, MakesNodes, new_count, found_cost, new_cost, HoldsKeysOn, HoldsGapsOn, node_keys, answer_of, raise_nodes, node_in_gap, gap_value, next_cut, node_stretches};
 
@@ -309,6 +309,43 @@ impl Nodes {
         reserve(keys, values, &new)?;
         insert_between(keys, values, new, add);
         Ok(Some(made))
+    }
+
+    /// The same over two lists of nodes, of which one stands behind the other, with a part of what
+    /// is added for each. Each gets a node more at the most. It asks for all memory before the
+    /// first change; where others hold the upper list of keys too, nothing changes either.
+    pub fn insert_across(
+        low: &mut Nodes,
+        high: &mut Nodes,
+        starts: &PrefixedInsertion<'_>,
+        stops: &PrefixedInsertion<'_>,
+        room: u32,
+    ) -> Result<Option<Growth>, NoMemory>
+        ensures told { IsBothTold low.old low.new high.old high.new starts.now stops.now room
+            result }
+    {
+        let new = high.new_keys(stops.first, stops.second)?;
+        let made = new.grown();
+        if made.nodes > 1 || made.bytes > room {
+            return Ok(None);
+        }
+        let Some(keys) = Arc::get_mut(&mut high.keys) else {
+            return Ok(None)
+        };
+        let values = &mut high.values;
+        reserve(keys, values, &new)?;
+        let rest = Growth {
+            nodes: 1,
+            bytes: room - made.bytes,
+        };
+        let Some(more) = low.insert_in_place(starts, rest)? else {
+            return Ok(None)
+        };
+        insert_between(keys, values, new, stops);
+        Ok(Some(Growth {
+            nodes: more.nodes + made.nodes,
+            bytes: more.bytes + made.bytes,
+        }))
     }
 
     /// Adds a value at a key, and tells what came in. Where the key lies below the first node, or

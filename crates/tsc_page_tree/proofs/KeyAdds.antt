@@ -63,7 +63,7 @@ falls_behind k ns zero low fits = absurd
 falls_behind k ns (suc i) low fits = omega arith
 
 -- such a key is as new below the lazy value, and its node has that too
-new_lazy : (p : Option OwnedTime) (ns : List Node) (k : KeyBytes) (g : Option (ℕ × KeyBytes)) →
+pub new_lazy : (p : Option OwnedTime) (ns : List Node) (k : KeyBytes) (g : Option (ℕ × KeyBytes)) →
     IsSorted ns → Le (start_of ns) (before k) → IsNewKey ns (Some k) g
     → IsNewKey (with_lazy p ns) (Some k) g ×
     (with_lazy p (with_new ns g) ≡ with_new (with_lazy p ns) g)
@@ -90,7 +90,7 @@ new_lazy (Some v) ns k (Some f) sorted low new =
     )
 
 -- the lazy value changes no costs
-lazy_cost : (p : Option OwnedTime) (ns : List Node) →
+pub lazy_cost : (p : Option OwnedTime) (ns : List Node) →
     nodes_cost (with_lazy p ns) ≡ nodes_cost ns
 lazy_cost None ns = refl
 lazy_cost (Some v) ns = cost-raised everything v ns

@@ -1,5 +1,6 @@
 -- A value ratcheted into all nodes, at once or as a lazy value.
 use Rattle.std.proofs.Common.{◌≡◌, inl, ◌∙◌, refl, sym, ap, subst, Bool, true, false, cond, ℕ, suc, ◌<◌, List, [], ◌∷◌, ◌++◌, length, map, get_or, arith}
+use mathlib.Core.Bool.{true≢false}
 use Rattle.std.specs.Prelude.{Option, Some, None}
 use Rattle.std.proofs.lemmas.List.{map-append}
 use Rattle.tsc_time.specs.Time.{zero_time}
@@ -169,6 +170,14 @@ raise_each f v (n ∷ ns) sorted low =
 pub raise_all : (v : OwnedTime) (ns : List Node) → IsSorted ns →
     raise_nodes everything v ns ≡ map (raised_node v) ns
 raise_all v ns sorted = raise_each (before []) v ns sorted (lowest (start_of ns))
+
+-- a span that leaves nothing out is raised as all
+pub raise_of_all : (f t : Cut) (v : OwnedTime) (ns : List Node) → IsSorted ns → Le f (start_of ns) →
+    Le last t → raise_nodes everything v ns ≡ raise_nodes (between f t) v ns
+raise_of_all f (before k) v ns sorted low high = absurd (true≢false high)
+raise_of_all f (after k) v ns sorted low high = absurd (true≢false high)
+raise_of_all f last v ns sorted low high =
+    raise_all v ns sorted ∙ sym (raise_each f v ns sorted low)
 
 -- of two lists each is raised
 pub raise_append : (v : OwnedTime) (xs ys : List Node) → IsSorted (xs ++ ys) →

@@ -47,7 +47,7 @@ same_key k m one two = by (key_cmp m k) (key_cmp k m) refl (key_cmp_back m k) on
     by Greater forth e r h g = absurd (true≢false (sym (ap is_lt r) ∙ g))
 
 -- an end key that doesn't lie below the nodes behind is the first of them
-known_low : (ys : List Node) (f : Cut) (o : Option KeyBytes) → Lt f (start_of ys) → LiesAt o f →
+pub known_low : (ys : List Node) (f : Cut) (o : Option KeyBytes) → Lt f (start_of ys) → LiesAt o f →
     (k : KeyBytes) → o ≡ Some k → Lt (after k) (start_of ys)
 known_low ys f None start lies k e = absurd (none e)
   where
@@ -194,7 +194,7 @@ start_with ys (Some k) (Some f) low some new = by ys f.0 some (low k refl) new.1
     by (n ∷ ns) (suc i) much high fits = refl
 
 -- a key at a cut that is not below where nodes begin, and is not below them itself
-low_end : (c : Cut) (o : Option KeyBytes) (ys : List Node) → Le (start_of ys) c → LiesAt o c →
+pub low_end : (c : Cut) (o : Option KeyBytes) (ys : List Node) → Le (start_of ys) c → LiesAt o c →
     (k : KeyBytes) → o ≡ Some k → Le (start_of ys) (before k)
 low_end c None ys low lies k e = absurd (none e)
   where

@@ -14,8 +14,11 @@ pub mod SubtreeSizes
 pub mod SubtreeAdds
 pub mod SubtreeLists
 pub mod SubtreeAcross
+pub mod EndNodes
+pub mod EndAdds
 pub mod TreeAcross
 pub mod OverSubtrees
 pub mod Wholes
+pub mod EndLeaves
 pub mod KeyAdds
 pub mod KeysAbove

@@ -2,20 +2,22 @@
 use Rattle.std.proofs.Common.{◌≡◌, ◌⊎◌, inl, inr, ◌∙◌, refl, sym, ap, subst, Bool, true, false, cond, ℕ, zero, suc, ◌+◌, ◌-◌, ◌<◌, ◌≤◌, List, [], ◌∷◌, ◌++◌, length, map, take, drop, get_or, set, arith}
 use Rattle.std.specs.Prelude.{None, not}
 use Rattle.std.specs.List.{All}
-use Rattle.std.proofs.lemmas.List.{append_assoc, length-append, length-set, map-append}
+use Rattle.std.proofs.lemmas.List.{append_assoc, length-append, length-map, length-set, map-append}
 use Rattle.tsc_span.specs.Span.{Cut, last, is_below}
 use Rattle.tsc_page_nodes.specs.Nodes.{Node, IsSorted, raise_nodes}
 use Rattle.tsc_page_nodes.specs.Insertions.{InsertionView, before_second}
 use Rattle.tsc_page_tree.specs.Leaves.{nodes_of, start_of, AreSome, AreSubtrees, IsLeafAt}
-use Rattle.tsc_page_tree.specs.Lazy.{everything, AddsSome, nothing_grown}
-use Rattle.tsc_page_tree.specs.Across.{AreRaisedAcross, IsAcrossTold, IsLastReached}
+use Rattle.tsc_page_nodes.specs.declared.nodes.Growth.{Growth}
+use Rattle.tsc_page_tree.specs.Lazy.{everything, AddsSome}
+use Rattle.tsc_page_tree.specs.Across.{AreRaisedAcross, IsLastReached}
 use Rattle.tsc_page_tree.specs.Copies.{KeepsSizes, AllKeepSizes}
-use Rattle.tsc_page_nodes.proofs.CutOrder.{Lt, Le}
+use Rattle.tsc_page_nodes.proofs.CutOrder.{Lt, Le, Lt-not_Le, none_above_last}
 use Rattle.tsc_page_tree.proofs.Joins.{up_to_last, sorted_left, sorted_right}
-use Rattle.tsc_page_tree.proofs.LeafLists.{starts_low, ends_high, all_set}
+use Rattle.tsc_page_tree.proofs.LeafLists.{starts_low, ends_high, all_set, some_nodes}
 use Rattle.tsc_page_nodes.specs.Insertions.{IsInsertionView}
 use Rattle.tsc_page_tree.proofs.SubtreeAdds.{not_true, not_false}
-use Rattle.tsc_page_tree.proofs.SubtreeAcross.{told_over, told_two, reached_before}
+use Rattle.tsc_page_tree.proofs.SubtreeAcross.{reached_before}
+use Rattle.tsc_page_tree.proofs.EndAdds.{told_over, told_two}
 use Rattle.tsc_page_tree.proofs.SubtreeLists.{nodes_of_both}
 use Rattle.tsc_page_tree.proofs.SubtreeLoops.{same_by}
 
@@ -93,6 +95,19 @@ starts_in {X = X} f xs ys p d c some long up at = record {
         by (z ∷ []) zero h = refl
         by (z ∷ y ∷ zs) zero h = absurd (omega (arith, h))
         by (z ∷ zs) (suc q) h = by zs q (omega (arith, h))
+
+-- there are nodes where one can be reached
+some_reached : (ns : List Node) (t : Cut) → Lt (start_of ns) t → 1 ≤ length ns
+some_reached [] t h = absurd (Lt-not_Le last t h (none_above_last t))
+some_reached (n ∷ ns) t h = omega arith
+
+-- and in each subtree
+some_of : {X : Type 0} (f : X → List Node) (xs ys : List X) (p : ℕ) (d : X) →
+    AreSome (map f (xs ++ ys)) → length xs ≡ suc p → 1 ≤ length (f (get_or xs p d))
+some_of f xs ys p d some long =
+    subst (λ (ns : List Node). 1 ≤ length ns) (read_low f xs ys p d (omega (arith, long)))
+    (some_nodes (map f (xs ++ ys)) some p []
+    (omega (arith, long, length-map (xs ++ ys) f, length-append xs ys)))
 
 -- another in its place
 pub set_low : {X : Type 0} (f : X → List Node) (xs ys : List X) (p : ℕ) (x : X) →
@@ -237,22 +252,28 @@ module _ {X : Type 0} (f : X → List Node) (bl md ab : List X) (p : ℕ) (d x e
         ap (λ (n : ℕ). nodes_of (drop (suc n) (map f ((bl ++ md) ++ ab)))) (sym many) ∙
         stops_over.behind
 
-    pub raises_over : (mn : List X) (stop : Bool) → IsSorted (nodes_of (map f all)) →
+    pub raises_over : (mn : List X) (stop : Bool) (room : ℕ) (more : Growth) → IsSorted (nodes_of (map f all)) →
         stop ≡ not (is_below a.to (start_of
         (nodes_of (drop (suc (length bl + length md)) (map f all)))))
-        → IsAcrossTold (f (get_or bl p d)) (f x) (f (get_or ab 0 e)) (f y)
-        (cond stop (before_second a) a) true →
+        → AreRaisedAcross (f (get_or bl p d)) (f x) (f (get_or ab 0 e)) (f y)
+        (cond stop (before_second a) a) more → more.bytes ≤ room →
         nodes_of (map f mn) ≡ raise_nodes everything a.value (nodes_of (map f md))
-        → AddsSome (nodes_of (map f all)) (nodes_of (map f (set bl p x ++ (mn ++ set ab 0 y)))) a 0
-        nothing_grown
-    raises_over mn stop sorted is told wholly =
+        → AddsSome (nodes_of (map f all)) (nodes_of (map f (set bl p x ++ (mn ++ set ab 0 y)))) a room
+        more
+    raises_over mn stop room more sorted is told within wholly =
         subst (λ (ns : List Node). AddsSome ns (nodes_of (map f (set bl p x ++ (mn ++ set ab 0 y))))
-        a 0 nothing_grown) (sym whole)
+        a room more) (sym whole)
         (subst (λ (ns : List Node). AddsSome
         (nodes_of (map f (take p bl)) ++
-        (f (get_or bl p d) ++ (nodes_of (map f md) ++ (f (get_or ab 0 e) ++ behind)))) ns a 0
-        nothing_grown) (sym (changed mn)) (by stop here told))
+        (f (get_or bl p d) ++ (nodes_of (map f md) ++ (f (get_or ab 0 e) ++ behind)))) ns a room
+        more) (sym (changed mn)) (by stop here told))
       where
+        low_some : 1 ≤ length (f (get_or bl p d))
+        low_some = some_of f bl (md ++ ab) p d some long
+
+        high_some : 1 ≤ length (f (get_or ab 0 e))
+        high_some = some_reached (f (get_or ab 0 e)) a.to stops_over.subtree
+
         here : stop ≡ not (is_below a.to (start_of behind))
         here = is ∙ ap (λ (ns : List Node). not (is_below a.to (start_of ns))) behind_over
 
@@ -272,24 +293,24 @@ module _ {X : Type 0} (f : X → List Node) (bl md ab : List X) (p : ℕ) (d x e
         below = subst (λ (ns : List Node). Lt a.from (start_of ns)) inner starts.below
 
         by : (b : Bool) → b ≡ not (is_below a.to (start_of behind)) →
-            IsAcrossTold (f (get_or bl p d)) (f x) (f (get_or ab 0 e)) (f y)
-            (cond b (before_second a) a) true
+            AreRaisedAcross (f (get_or bl p d)) (f x) (f (get_or ab 0 e)) (f y)
+            (cond b (before_second a) a) more
             → AddsSome (nodes_of (map f (take p bl)) ++
             (f (get_or bl p d) ++ (nodes_of (map f md) ++ (f (get_or ab 0 e) ++ behind))))
             (nodes_of (map f (take p bl)) ++ (f x ++ (nodes_of (map f mn) ++ (f y ++ behind))))
-            a 0 nothing_grown
+            a room more
         by true h g = told_over (nodes_of (map f (take p bl))) (f (get_or bl p d))
             (nodes_of (map f md)) (f (get_or ab 0 e)) behind (f x) (nodes_of (map f mn)) (f y) a
-            None 0 (subst IsSorted whole sorted) start below stops_over.reaches
-            stops_over.stops fits.2
+            None room more low_some high_some (subst IsSorted whole sorted) start below stops_over.reaches
+            stops_over.stops fits.1 fits.2
             (ap (λ (c : Bool). cond c a.second None)
-            (sym (not_true (is_below a.to (start_of behind)) (sym h)))) g wholly
+            (sym (not_true (is_below a.to (start_of behind)) (sym h)))) g within wholly
         by false h g = told_over (nodes_of (map f (take p bl))) (f (get_or bl p d))
             (nodes_of (map f md)) (f (get_or ab 0 e)) behind (f x) (nodes_of (map f mn)) (f y) a
-            a.second 0 (subst IsSorted whole sorted) start below stops_over.reaches
-            stops_over.stops fits.2
+            a.second room more low_some high_some (subst IsSorted whole sorted) start below stops_over.reaches
+            stops_over.stops fits.1 fits.2
             (ap (λ (c : Bool). cond c a.second None)
-            (sym (not_false (is_below a.to (start_of behind)) (sym h)))) g wholly
+            (sym (not_false (is_below a.to (start_of behind)) (sym h)))) g within wholly
 
 -- The same over two lists: the first subtrees of one, and those behind them; the last subtrees of
 -- the other, and those before them.
@@ -318,27 +339,33 @@ module _ {X : Type 0} (f : X → List Node) (bl md ot ab : List X) (p : ℕ) (d 
     pub stops_two : StopsIn f ot ab e a.to
     stops_two = stops_in f ot ab e a.to some_high one (λ none. reaches) reached
 
-    pub raises_two : (mn on : List X) (stop : Bool) → IsSorted (nodes_of (map f (bl ++ md))) →
+    pub raises_two : (mn on : List X) (stop : Bool) (more : Growth) → IsSorted (nodes_of (map f (bl ++ md))) →
         IsSorted (nodes_of (map f (ot ++ ab))) →
         stop ≡ not (is_below a.to (start_of (nodes_of (drop (suc (length ot)) (map f (ot ++ ab))))))
-        → IsAcrossTold (f (get_or bl p d)) (f x) (f (get_or ab 0 e)) (f y)
-        (cond stop (before_second a) a) true →
+        → AreRaisedAcross (f (get_or bl p d)) (f x) (f (get_or ab 0 e)) (f y)
+        (cond stop (before_second a) a) more →
         nodes_of (map f mn) ≡ raise_nodes everything a.value (nodes_of (map f md)) →
         nodes_of (map f on) ≡ raise_nodes everything a.value (nodes_of (map f ot))
         → AreRaisedAcross (nodes_of (map f (bl ++ md))) (nodes_of (map f (set bl p x ++ mn)))
-        (nodes_of (map f (ot ++ ab))) (nodes_of (map f (on ++ set ab 0 y))) a
-    raises_two mn on stop low_sorted high_sorted is told wholly others =
+        (nodes_of (map f (ot ++ ab))) (nodes_of (map f (on ++ set ab 0 y))) a more
+    raises_two mn on stop more low_sorted high_sorted is told wholly others =
         subst (λ (ns : List Node). AreRaisedAcross ns (nodes_of (map f (set bl p x ++ mn)))
-        (nodes_of (map f (ot ++ ab))) (nodes_of (map f (on ++ set ab 0 y))) a) (sym low_is)
+        (nodes_of (map f (ot ++ ab))) (nodes_of (map f (on ++ set ab 0 y))) a more) (sym low_is)
         (subst (λ (ns : List Node). AreRaisedAcross old_low ns (nodes_of (map f (ot ++ ab)))
-        (nodes_of (map f (on ++ set ab 0 y))) a) (sym (set_low f bl mn p x long))
+        (nodes_of (map f (on ++ set ab 0 y))) a more) (sym (set_low f bl mn p x long))
         (subst (λ (ns : List Node). AreRaisedAcross old_low
         (nodes_of (map f (take p bl)) ++ (f x ++ nodes_of (map f mn))) ns
-        (nodes_of (map f (on ++ set ab 0 y))) a) (sym high_is)
+        (nodes_of (map f (on ++ set ab 0 y))) a more) (sym high_is)
         (subst (λ (ns : List Node). AreRaisedAcross old_low
-        (nodes_of (map f (take p bl)) ++ (f x ++ nodes_of (map f mn))) old_high ns a)
+        (nodes_of (map f (take p bl)) ++ (f x ++ nodes_of (map f mn))) old_high ns a more)
         (sym (set_high f on ab y one)) (by stop here told))))
       where
+        low_some : 1 ≤ length (f (get_or bl p d))
+        low_some = some_of f bl md p d some_low long
+
+        high_some : 1 ≤ length (f (get_or ab 0 e))
+        high_some = some_reached (f (get_or ab 0 e)) a.to stops_two.subtree
+
         old_low : List Node
         old_low = nodes_of (map f (take p bl)) ++ (f (get_or bl p d) ++ nodes_of (map f md))
 
@@ -357,46 +384,47 @@ module _ {X : Type 0} (f : X → List Node) (bl md ot ab : List X) (p : ℕ) (d 
         here = is ∙ ap (λ (ns : List Node). not (is_below a.to (start_of ns))) stops_two.behind
 
         by : (b : Bool) → b ≡ not (is_below a.to (start_of (nodes_of (map f (drop 1 ab))))) →
-            IsAcrossTold (f (get_or bl p d)) (f x) (f (get_or ab 0 e)) (f y)
-            (cond b (before_second a) a) true
+            AreRaisedAcross (f (get_or bl p d)) (f x) (f (get_or ab 0 e)) (f y)
+            (cond b (before_second a) a) more
             → AreRaisedAcross (nodes_of (map f (take p bl)) ++
             (f (get_or bl p d) ++ nodes_of (map f md)))
             (nodes_of (map f (take p bl)) ++ (f x ++ nodes_of (map f mn)))
             (nodes_of (map f ot) ++ (f (get_or ab 0 e) ++ nodes_of (map f (drop 1 ab))))
-            (nodes_of (map f on) ++ (f y ++ nodes_of (map f (drop 1 ab)))) a
+            (nodes_of (map f on) ++ (f y ++ nodes_of (map f (drop 1 ab)))) a more
         by true h g = told_two (nodes_of (map f (take p bl))) (f (get_or bl p d))
             (nodes_of (map f md)) (nodes_of (map f ot)) (f (get_or ab 0 e))
             (nodes_of (map f (drop 1 ab))) (f x) (nodes_of (map f mn)) (nodes_of (map f on))
-            (f y) a None
+            (f y) a None more low_some high_some
             (subst IsSorted low_is low_sorted) (subst IsSorted high_is high_sorted) starts_two.start
-            starts_two.below stops_two.reaches stops_two.stops fits.2
+            starts_two.below stops_two.reaches stops_two.stops fits.1 fits.2
             (ap (λ (c : Bool). cond c a.second None)
             (sym (not_true (is_below a.to (start_of (nodes_of (map f (drop 1 ab))))) (sym h))))
             g wholly others
         by false h g = told_two (nodes_of (map f (take p bl))) (f (get_or bl p d))
             (nodes_of (map f md)) (nodes_of (map f ot)) (f (get_or ab 0 e))
             (nodes_of (map f (drop 1 ab))) (f x) (nodes_of (map f mn)) (nodes_of (map f on)) (f y) a
-            a.second
+            a.second more low_some high_some
             (subst IsSorted low_is low_sorted) (subst IsSorted high_is high_sorted) starts_two.start
-            starts_two.below stops_two.reaches stops_two.stops fits.2
+            starts_two.below stops_two.reaches stops_two.stops fits.1 fits.2
             (ap (λ (c : Bool). cond c a.second None)
             (sym (not_false (is_below a.to (start_of (nodes_of (map f (drop 1 ab))))) (sym h))))
             g wholly others
 
 -- subtrees that stay keep all
-pub keep_same : {X : Type 0} (s : X → List ℕ) (Q : X → Type 0) (xs : List X) → All Q xs →
-    AllKeepSizes s Q xs xs
-keep_same s Q xs all = record { sizes = refl; whole = all; len = refl }
+pub keep_same : {X : Type 0} (s : X → List ℕ) (Q : X → Type 0) (xs : List X)
+    (done : Bool) → All Q xs → AllKeepSizes s Q xs xs done
+keep_same s Q xs done all = record { sizes = λ h. refl; whole = all; len = refl }
 
 -- the first subtrees, with another in the place of one of them, and those behind them
 pub keeps_low : {X : Type 0} (s : X → List ℕ) (Q : X → Type 0) (bl md mn : List X) (p : ℕ)
-    (d x : X) → length bl ≡ suc p → All Q bl → KeepsSizes s Q (get_or bl p d) x →
-    AllKeepSizes s Q md mn → AllKeepSizes s Q (bl ++ md) (set bl p x ++ mn)
-keeps_low s Q bl md mn p d x long all low mid = record {
-  sizes = map-append s (set bl p x) mn ∙
+    (d x : X) (done : Bool) → length bl ≡ suc p → All Q bl →
+    KeepsSizes s Q (get_or bl p d) x done → AllKeepSizes s Q md mn done →
+    AllKeepSizes s Q (bl ++ md) (set bl p x ++ mn) done
+keeps_low s Q bl md mn p d x done long all low mid = record {
+  sizes = λ h. map-append s (set bl p x) mn ∙
       ap (λ (ls : List (List ℕ)). ls ++ map s mn)
-      (sizes_same s bl p d x (omega (arith, long)) low.sizes) ∙
-      ap (λ (ls : List (List ℕ)). map s bl ++ ls) mid.sizes ∙ sym (map-append s bl md);
+      (sizes_same s bl p d x (omega (arith, long)) (low.sizes h)) ∙
+      ap (λ (ls : List (List ℕ)). map s bl ++ ls) (mid.sizes h) ∙ sym (map-append s bl md);
   whole = all_two Q (set bl p x) mn (all_set Q bl p x all low.whole) mid.whole;
   len = omega (
     arith,
@@ -408,13 +436,13 @@ keeps_low s Q bl md mn p d x long all low mid = record {
 }
 
 -- the last subtrees, with another in the place of the first, and those before them
-pub keeps_high : {X : Type 0} (s : X → List ℕ) (Q : X → Type 0) (ot on ab : List X) (e y : X) →
-    1 ≤ length ab → All Q ab → KeepsSizes s Q (get_or ab 0 e) y → AllKeepSizes s Q ot on →
-    AllKeepSizes s Q (ot ++ ab) (on ++ set ab 0 y)
-keeps_high s Q ot on ab e y one all high others = record {
-  sizes = map-append s on (set ab 0 y) ∙
-      ap (λ (ls : List (List ℕ)). ls ++ map s (set ab 0 y)) others.sizes ∙
-      ap (λ (ls : List (List ℕ)). map s ot ++ ls) (sizes_same s ab 0 e y one high.sizes) ∙
+pub keeps_high : {X : Type 0} (s : X → List ℕ) (Q : X → Type 0) (ot on ab : List X) (e y : X)
+    (done : Bool) → 1 ≤ length ab → All Q ab → KeepsSizes s Q (get_or ab 0 e) y done →
+    AllKeepSizes s Q ot on done → AllKeepSizes s Q (ot ++ ab) (on ++ set ab 0 y) done
+keeps_high s Q ot on ab e y done one all high others = record {
+  sizes = λ h. map-append s on (set ab 0 y) ∙
+      ap (λ (ls : List (List ℕ)). ls ++ map s (set ab 0 y)) (others.sizes h) ∙
+      ap (λ (ls : List (List ℕ)). map s ot ++ ls) (sizes_same s ab 0 e y one (high.sizes h)) ∙
       sym (map-append s ot ab);
   whole = all_two Q on (set ab 0 y) others.whole (all_set Q ab 0 y all high.whole);
   len = omega (

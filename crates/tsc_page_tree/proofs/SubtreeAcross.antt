@@ -1,5 +1,5 @@
 -- A value raised over several subtrees, of which the first and the last are looked into.
-use Rattle.std.proofs.Common.{◌≡◌, ◌⊎◌, inl, inr, ◌∙◌, refl, sym, ap, subst, Bool, true, false, cond, ℕ, zero, suc, ◌<◌, ◌≤◌, List, [], ◌∷◌, ◌++◌, length, map, take, drop, get_or, append-nil, arith}
+use Rattle.std.proofs.Common.{◌≡◌, ◌⊎◌, inl, inr, ◌∙◌, refl, sym, ap, subst, true, false, ℕ, zero, suc, ◌<◌, ◌≤◌, List, [], ◌∷◌, ◌++◌, length, map, take, drop, get_or, append-nil, arith}
 use Rattle.std.proofs.Math.Bool.{or-true}
 use Rattle.std.proofs.lemmas.List.{append_assoc}
 use Rattle.std.specs.Prelude.{Option, Some, None}
@@ -7,14 +7,13 @@ use Rattle.tsc_time.specs.OwnedTime.{OwnedTime}
 use Rattle.tsc_time.specs.Joint.{joint}
 use Rattle.tsc_span.specs.Span.{KeyBytes, Cut, before, after, last, between, is_below}
 use Rattle.tsc_page_nodes.specs.PageView.{is_in}
-use Rattle.tsc_page_nodes.specs.Nodes.{Node, node_keys, nodes_cost, IsSorted, IsNewKey, raise_nodes}
+use Rattle.tsc_page_nodes.specs.Nodes.{Node, node_keys, IsSorted, IsNewKey, raise_nodes}
 use Rattle.tsc_page_nodes.specs.Prefixes.{IsCutPrefix}
 use Rattle.tsc_page_nodes.specs.Insertions.{InsertionView, LiesAt}
 use Rattle.tsc_page_tree.specs.Leaves.{nodes_of, AreSome, start_of, IsLeafAt}
-use Rattle.tsc_page_tree.specs.Lazy.{everything, with_lazy, all_joint, IsToldOf, AddsSome, nothing_grown}
-use Rattle.tsc_page_tree.specs.Across.{HasKey, AreRaisedAcross, IsLastReached}
+use Rattle.tsc_page_tree.specs.Lazy.{everything, with_lazy, all_joint, IsToldOf}
+use Rattle.tsc_page_tree.specs.Across.{HasKey, IsLastReached}
 use Rattle.tsc_page_nodes.proofs.CutOrder.{Lt, Le, Lt-not_Le, Le-from_Lt, Le-itself, Lt-chain, Le-chain, Le_Lt-chain, Lt_Le-chain, before-after, none_above_last}
-use Rattle.tsc_page_nodes.proofs.Costs.{cost-raised}
 use Rattle.tsc_page_nodes.proofs.Cuts.{lowest}
 use Rattle.tsc_page_nodes.proofs.Places.{before_or_past}
 use Rattle.tsc_page_nodes.proofs.Edits.{raise_nodes-start, raise_nodes-length}
@@ -141,33 +140,9 @@ has_at_start (Some k) t ys (inl at) high stops =
 has_at_start (Some k) t ys (inr at) high stops =
     known_high ys t k high (inr at) (subst (λ (c : Cut). Le (start_of ys) c) at stops)
 
-not_new : (o : Option KeyBytes) (ns : List Node) → HasKey o ns → IsNewKey ns o None
+pub not_new : (o : Option KeyBytes) (ns : List Node) → HasKey o ns → IsNewKey ns o None
 not_new None ns has = tt
 not_new (Some k) ns has = has
-
--- An Add whose keys have nodes only raises.
-pub adds_known : (old new : List Node) (a : InsertionView) (room : ℕ) → HasKey a.first old →
-    HasKey a.second old → new ≡ raise_nodes (between a.from a.to) a.value old →
-    AddsSome old new a room nothing_grown
-adds_known old new a room first second raised = record {
-  adds = record {
-    mid = old;
-    made =
-        record {
-          lower = None;
-          upper = None;
-          has_upper = not_new a.second old second;
-          has_lower = not_new a.first old first;
-          nodes = refl;
-        };
-    raised = raised;
-  };
-  grown = record {
-    count = omega (arith, ap length raised, raise_nodes-length (between a.from a.to) a.value old);
-    cost = omega (arith, ap nodes_cost raised, cost-raised (between a.from a.to) a.value old);
-  };
-  within = omega arith;
-}
 
 -- What is told of nodes that are raised below the lazy value, where the span reaches the first of
 -- them.
@@ -190,60 +165,6 @@ has_right (Some k) xs ys has = is_in-append k xs ys ∙ rw has (or-true (is_in k
 -- the second key of a span, where it is handed on
 abbrev pub handed_on : InsertionView → Option KeyBytes → InsertionView
 handed_on a q = record { first = a.first; second = q; from = a.from; to = a.to; value = a.value }
-
-second_has : (a : InsertionView) (q : Option KeyBytes) (high behind : List Node) (b : Bool) →
-    is_below a.to (start_of behind) ≡ b → q ≡ cond b a.second None → LiesAt a.second a.to →
-    Le a.to (start_of behind) → HasKey q high → HasKey a.second (high ++ behind)
-second_has a q high behind true h is lies stops has =
-    has_within a.second [] high behind (subst (λ (o : Option KeyBytes). HasKey o high) is has)
-second_has a q high behind false h is lies stops has =
-    has_right a.second high behind (has_at_start a.second a.to behind lies stops h)
-
--- An Add over several subtrees of one list, whose end keys have nodes in the first and in the last
--- of them.
-pub told_over : (front low mid high behind new_low new_mid new_high : List Node) (a : InsertionView)
-    (q : Option KeyBytes) (room : ℕ) → IsSorted (front ++ (low ++ (mid ++ (high ++ behind)))) →
-    (front ≡ []) ⊎ Le (start_of (low ++ (mid ++ (high ++ behind)))) a.from
-    → Lt a.from (start_of (mid ++ (high ++ behind))) → Lt (start_of (high ++ behind)) a.to →
-    Le a.to (start_of behind) → LiesAt a.second a.to →
-    q ≡ cond (is_below a.to (start_of behind)) a.second None
-    → AreRaisedAcross low new_low high new_high (handed_on a q) →
-    new_mid ≡ raise_nodes everything a.value mid →
-    AddsSome (front ++ (low ++ (mid ++ (high ++ behind))))
-    (front ++ (new_low ++ (new_mid ++ (new_high ++ behind)))) a room nothing_grown
-told_over front low mid high behind new_low new_mid new_high a q room sorted start below reaches
-    stops lies is told wholly = adds_known (front ++ (low ++ (mid ++ (high ++ behind))))
-    (front ++ (new_low ++ (new_mid ++ (new_high ++ behind)))) a room
-    (has_within a.first front low (mid ++ (high ++ behind)) told.first)
-    (has_right a.second front (low ++ (mid ++ (high ++ behind)))
-    (has_right a.second low (mid ++ (high ++ behind))
-    (has_right a.second mid (high ++ behind)
-    (second_has a q high behind (is_below a.to (start_of behind)) refl is lies stops
-    told.second))))
-    (raised_over front low mid high behind new_low new_mid new_high a.from a.to a.value sorted start
-    below reaches stops told.raised_low wholly told.raised_high)
-
--- The same where the first stands in one list, and the last in another one behind it.
-pub told_two : (front low mid others high behind new_low new_mid new_others new_high : List Node)
-    (a : InsertionView) (q : Option KeyBytes) → IsSorted (front ++ (low ++ mid)) →
-    IsSorted (others ++ (high ++ behind)) → (front ≡ []) ⊎ Le (start_of (low ++ mid)) a.from
-    → Lt a.from (start_of mid) → Lt (start_of (high ++ behind)) a.to → Le a.to (start_of behind) →
-    LiesAt a.second a.to → q ≡ cond (is_below a.to (start_of behind)) a.second None
-    → AreRaisedAcross low new_low high new_high (handed_on a q) →
-    new_mid ≡ raise_nodes everything a.value mid →
-    new_others ≡ raise_nodes everything a.value others
-    → AreRaisedAcross (front ++ (low ++ mid)) (front ++ (new_low ++ new_mid))
-    (others ++ (high ++ behind)) (new_others ++ (new_high ++ behind)) a
-told_two front low mid others high behind new_low new_mid new_others new_high a q low_sorted
-    high_sorted start below reaches stops lies is told wholly all = record {
-      first = has_within a.first front low mid told.first;
-      second = has_right a.second others (high ++ behind)
-          (second_has a q high behind (is_below a.to (start_of behind)) refl is lies stops told.second);
-      raised_low = raised_from front low mid new_low new_mid a.from a.value low_sorted start below
-          told.raised_low wholly;
-      raised_high = raised_up_to others high behind new_others new_high a.to a.value high_sorted reaches
-          stops all told.raised_high;
-    }
 
 -- the nodes of subtrees in two lists, with one of each by itself
 pub parted_over : {X : Type 0} (f : X → List Node) (xs ys : List X) (p : ℕ) (d e : X) →

@@ -1,7 +1,7 @@
 -- Subtrees of two lists, of which a span starts in one and stops in the other.
 use Rattle.std.proofs.Common.{◌≡◌, inl, inr, ◌∙◌, sym, ap, subst, Bool, true, false, cond, ℕ, suc, ◌<◌, List, [], ◌∷◌, length, drop, get_or, arith}
 use mathlib.Core.Bool.{true≢false}
-use Rattle.std.specs.Prelude.{Option, Some, None}
+use Rattle.std.specs.Prelude.{Option, Some, None, is_some}
 use Rattle.tsc_time.specs.OwnedTime.{OwnedTime}
 use Rattle.tsc_time.specs.Joint.{joint}
 use Rattle.tsc_span.specs.Span.{KeyBytes, Cut, before, last, between, is_below}
@@ -10,7 +10,8 @@ use Rattle.tsc_page_nodes.specs.Prefixes.{IsCutPrefix}
 use Rattle.tsc_page_nodes.specs.Insertions.{InsertionView}
 use Rattle.tsc_page_tree.specs.Leaves.{nodes_of, start_of, AreSome}
 use Rattle.tsc_page_tree.specs.Lazy.{with_lazy, all_joint, IsToldOf}
-use Rattle.tsc_page_tree.specs.Across.{HasKey, IsAcrossTold}
+use Rattle.tsc_page_tree.specs.Across.{HasKey, IsAcrossTold, MakesOne}
+use Rattle.tsc_page_nodes.specs.declared.nodes.Growth.{Growth}
 use Rattle.tsc_page_nodes.proofs.CutOrder.{Lt, Le, Lt-not_Le, Le_Lt-chain, none_above_last}
 use Rattle.tsc_page_nodes.proofs.Cuts.{lowest}
 use Rattle.tsc_page_nodes.proofs.Edits.{raise_nodes-start, raise_nodes-length}
@@ -18,10 +19,11 @@ use Rattle.std.proofs.lemmas.Bool.{cases_Bool}
 use Rattle.tsc_page_tree.proofs.Joins.{up_to_last}
 use Rattle.tsc_page_tree.proofs.LeafLists.{starts_rise, start_at, start_past}
 use Rattle.tsc_page_nodes.proofs.Places.{before_or_past}
-use Rattle.tsc_page_tree.proofs.Lazy.{raise_lazy, lazy-start, lazy-is_in}
+use Rattle.tsc_page_tree.proofs.Lazy.{raise_lazy, lazy-start, lazy-is_in, sorted_without}
 use Rattle.tsc_page_tree.proofs.AllJoint.{all_joint_kept, starts_below_last}
 use Rattle.tsc_page_tree.proofs.Told.{told_some}
 use Rattle.tsc_page_tree.proofs.SubtreeAcross.{told_reached}
+use Rattle.tsc_page_tree.proofs.EndNodes.{start_one, sorted_one, one_lazy, told_one}
 
 -- what is told of nodes that are raised below the lazy value
 pub told_raised_below : (n : ℕ) (all v : OwnedTime) (p : Option OwnedTime) (f t : Cut)
@@ -55,55 +57,79 @@ has_lazy None p ns has = tt
 has_lazy (Some k) p ns has = lazy-is_in p k ns ∙ has
 
 -- what is raised across stays so below the lazy value
-pub across_lazy : (b : Bool) (low new_low high new_high : List Node) (a : InsertionView)
-    (p q : Option OwnedTime) → IsAcrossTold low new_low high new_high a b →
+pub across_lazy : (r : Option Growth) (low new_low high new_high : List Node) (a : InsertionView)
+    (room : ℕ) (p q : Option OwnedTime) → IsSorted (with_lazy p low) → IsSorted (with_lazy q high) →
+    IsAcrossTold low new_low high new_high a room r →
     IsAcrossTold (with_lazy p low) (with_lazy p new_low) (with_lazy q high)
-    (with_lazy q new_high) a b
-across_lazy true low new_low high new_high a p q told = record {
-  first = has_lazy a.first p low told.first;
-  second = has_lazy a.second q high told.second;
-  raised_low = ap (with_lazy p) told.raised_low ∙
-      raise_lazy p (between a.from last) a.value low;
-  raised_high = ap (with_lazy q) told.raised_high ∙
-      raise_lazy q (between (before []) a.to) a.value high;
-}
-across_lazy false low new_low high new_high a p q told =
+    (with_lazy q new_high) a room r
+across_lazy (Some more) low new_low high new_high a room p q low_sorted high_sorted told =
+    let is = told.0 in (
+      record {
+        mid_low = with_lazy p is.mid_low;
+        mid_high = with_lazy q is.mid_high;
+        lower = is.lower;
+        upper = is.upper;
+        more_low = is.more_low;
+        more_high = is.more_high;
+        first = one_lazy p low is.mid_low a.first is.lower is.more_low
+            (sorted_without p low low_sorted) is.first;
+        second = one_lazy q high is.mid_high a.second is.upper is.more_high
+            (sorted_without q high high_sorted) is.second;
+        raised_low = ap (with_lazy p) is.raised_low ∙
+            raise_lazy p (between a.from last) a.value is.mid_low;
+        raised_high = ap (with_lazy q) is.raised_high ∙
+            raise_lazy q (between (before []) a.to) a.value is.mid_high;
+        grown = is.grown;
+      },
+      told.1,
+    )
+across_lazy None low new_low high new_high a room p q low_sorted high_sorted told =
     (ap (with_lazy p) told.0, ap (with_lazy q) told.1)
 
+-- what is told of nodes with one more, that are raised where the span reaches the first
+pub told_raised_one : (n : ℕ) (all v : OwnedTime) (p : Option OwnedTime) (f t : Cut)
+    (old mid : List Node) (o : Option KeyBytes) (g : Option (ℕ × KeyBytes)) (more : Growth) →
+    IsSorted (with_lazy p old) → Lt f t → Lt (start_of (with_lazy p old)) t →
+    MakesOne old mid o g more → IsToldOf n all p old →
+    IsToldOf n (joint all (v ∷ [])) p (raise_nodes (between f t) v mid)
+told_raised_one n all v p f t old mid o g more sorted up reaches made told =
+    let start = lazy-start p mid ∙ start_one old mid o g more told.some made ∙
+    sym (lazy-start p old) in
+    told_reached n all v p f t mid (sorted_one (with_lazy p old) (with_lazy p mid) o g more sorted
+    (one_lazy p old mid o g more (sorted_without p old sorted) made)) up
+    (subst (λ (c : Cut). Lt c t) (sym start) reaches)
+    (told_one n all p old mid o g more sorted made told)
+
 -- and what is told of the lower one
-pub told_across_low : (b : Bool) (n : ℕ) (all : OwnedTime) (low new_low high new_high : List Node)
-    (a : InsertionView) (p : Option OwnedTime) → IsSorted (with_lazy p low) → Lt a.from a.to →
-    IsAcrossTold low new_low high new_high a b → IsToldOf n all p low
-    → IsToldOf n (cond b (joint all (a.value ∷ [])) all) p new_low
-told_across_low true n all low new_low high new_high a p sorted up across told =
-    subst (λ (ns : List Node). IsToldOf n (joint all (a.value ∷ [])) p ns) (sym across.raised_low)
-    (told_reached n all a.value p a.from last low sorted (up_to_last a.from a.to up)
-    (starts_below_last (with_lazy p low) (told_some n all p low told)) told)
-told_across_low false n all low new_low high new_high a p sorted up across told =
+pub told_across_low : (r : Option Growth) (n : ℕ) (all : OwnedTime)
+    (low new_low high new_high : List Node) (a : InsertionView) (room : ℕ) (p : Option OwnedTime) →
+    IsSorted (with_lazy p low) → Lt a.from a.to →
+    IsAcrossTold low new_low high new_high a room r → IsToldOf n all p low
+    → IsToldOf n (cond (is_some r) (joint all (a.value ∷ [])) all) p new_low
+told_across_low (Some more) n all low new_low high new_high a room p sorted up across told =
+    subst (λ (ns : List Node). IsToldOf n (joint all (a.value ∷ [])) p ns)
+    (sym across.0.raised_low)
+    (told_raised_one n all a.value p a.from last low across.0.mid_low a.first across.0.lower
+    across.0.more_low sorted (up_to_last a.from a.to up)
+    (starts_below_last (with_lazy p low) (told_some n all p low told)) across.0.first told)
+told_across_low None n all low new_low high new_high a room p sorted up across told =
     subst (λ (ns : List Node). IsToldOf n all p ns) (sym across.0) told
 
 -- and of the upper one
-pub told_across_high : (b : Bool) (n : ℕ) (all : OwnedTime) (low new_low high new_high : List Node)
-    (a : InsertionView) (p : Option OwnedTime) → IsSorted (with_lazy p high) → Lt a.from a.to →
-    Lt (start_of (with_lazy p high)) a.to → IsAcrossTold low new_low high new_high a b →
+pub told_across_high : (r : Option Growth) (n : ℕ) (all : OwnedTime)
+    (low new_low high new_high : List Node) (a : InsertionView) (room : ℕ) (p : Option OwnedTime) →
+    IsSorted (with_lazy p high) → Lt a.from a.to →
+    Lt (start_of (with_lazy p high)) a.to → IsAcrossTold low new_low high new_high a room r →
     IsToldOf n all p high
-    → IsToldOf n (cond b (joint all (a.value ∷ [])) all) p new_high
-told_across_high true n all low new_low high new_high a p sorted up reaches across told =
-    subst (λ (ns : List Node). IsToldOf n (joint all (a.value ∷ [])) p ns) (sym across.raised_high)
-    (told_reached n all a.value p (before []) a.to high sorted
-    (Le_Lt-chain (before []) a.from a.to (lowest a.from) up) reaches told)
-told_across_high false n all low new_low high new_high a p sorted up reaches across told =
+    → IsToldOf n (cond (is_some r) (joint all (a.value ∷ [])) all) p new_high
+told_across_high (Some more) n all low new_low high new_high a room p sorted up reaches across told =
+    subst (λ (ns : List Node). IsToldOf n (joint all (a.value ∷ [])) p ns)
+    (sym across.0.raised_high)
+    (told_raised_one n all a.value p (before []) a.to high across.0.mid_high a.second
+    across.0.upper across.0.more_high sorted
+    (Le_Lt-chain (before []) a.from a.to (lowest a.from) up) reaches across.0.second told)
+told_across_high None n all low new_low high new_high a room p sorted up reaches across told =
     subst (λ (ns : List Node). IsToldOf n all p ns) (sym across.1) told
-
--- what both become holds as many nodes
-pub long_across : (b : Bool) (low new_low high new_high : List Node) (a : InsertionView) →
-    IsAcrossTold low new_low high new_high a b → (length new_low ≡ length low) ×
-    (length new_high ≡ length high)
-long_across true low new_low high new_high a across = (
-  ap length across.raised_low ∙ raise_nodes-length (between a.from last) a.value low,
-  ap length across.raised_high ∙ raise_nodes-length (between (before []) a.to) a.value high,
-)
-long_across false low new_low high new_high a across = (ap length across.0, ap length across.1)
 
 -- the last subtree that is reached comes behind one that the span goes on beyond
 pub later_reached : (ls : List (List Node)) (t : Cut) (p q : ℕ) → AreSome ls →

@@ -63,10 +63,6 @@ pub record AddsSome (old new : List Node) (a : InsertionView) (room : ℕ) (more
   pub grown : GrowsBy old new more
   pub within : more.bytes ≤ room
 
--- nothing comes in
-abbrev pub nothing_grown : Growth
-nothing_grown = record { nodes = 0; bytes = 0 }
-
 -- what a call tells that adds, or leaves all as it is
 abbrev pub IsAddTold : {E : Type 0} → (old new : List Node) (was now : List ℕ) → InsertionView → ℕ →
     Result (Option Growth) E → Type 0

@@ -1,12 +1,12 @@
-ghost use Rattle.std.specs.Prelude.{◌≡◌, ◌≤◌, map, length, true, if◌then◌else◌};
+ghost use Rattle.std.specs.Prelude.{◌≡◌, ◌≤◌, map, length, true, is_some, if◌then◌else◌};
 ghost use Rattle.tsc_span.specs.Span.{is_below};
 ghost use Rattle.tsc_page_nodes.specs.Insertions.{before_second};
 ghost use Rattle.tsc_page_tree.specs.Leaves.{AreSubtrees, AreSomeSubtrees, GoesBeyond, IsSubtree, nodes_of, start_of};
 ghost use Rattle.tsc_page_tree.specs.Copies.{KeepsSizes, AllKeepSizes};
-ghost use Rattle.tsc_page_tree.specs.Across.{IsAcrossTold, IsLastReached, RaisesOver};
+ghost use Rattle.tsc_page_tree.specs.Across.{IsAcrossTold, IsLastReached, IsOverTold};
 
 use crate::subtrees::{Subtree, raise_all, stops_at_next, subtree_at};
-use tsc_page_nodes::{PrefixedCut, PrefixedInsertion};
+use tsc_page_nodes::{Growth, PrefixedCut, PrefixedInsertion};
 
 /// The last subtree that a span reaches which stops at a cut, or the first one.
 fn last_reached<P: Subtree>(subtrees: &[P], to: &PrefixedCut<'_>) -> usize
@@ -22,79 +22,80 @@ fn last_reached<P: Subtree>(subtrees: &[P], to: &PrefixedCut<'_>) -> usize
     }
 }
 
-/// Raises over two subtrees, where what stops right behind the second one keeps its end key from
-/// it.
+/// Adds over two subtrees, where what stops right behind the second one keeps its end key from it.
 fn raise_ends<P: Subtree>(
     low: &mut P,
     high: &mut P,
     add: &PrefixedInsertion<'_>,
     stops: bool,
-) -> bool
+    room: u32,
+) -> Option<Growth>
     requires low { IsSubtree P.nodes P.IsWhole low.old }
     requires high { IsSubtree P.nodes P.IsWhole high.old }
     requires reaches { is_below (start_of (P.nodes high.old)) add.now.to ≡ true }
     ensures told { IsAcrossTold (P.nodes low.old) (P.nodes low.new) (P.nodes high.old)
-        (P.nodes high.new) (if stops then before_second add.now else add.now) result }
-    ensures low { KeepsSizes P.sizes P.IsWhole low.old low.new }
-    ensures high { KeepsSizes P.sizes P.IsWhole high.old high.new }
+        (P.nodes high.new) (if stops then before_second add.now else add.now) room result }
+    ensures low { KeepsSizes P.sizes P.IsWhole low.old low.new (is_some result) }
+    ensures high { KeepsSizes P.sizes P.IsWhole high.old high.new (is_some result) }
 {
     if stops {
-        P::raise_across(low, high, &add.before_second())
+        P::raise_across(low, high, &add.before_second(), room)
     } else {
-        P::raise_across(low, high, add)
+        P::raise_across(low, high, add, room)
     }
 }
 
-/// Ratchets a value in place over two lists of subtrees: from the subtree of the first one in which
-/// the span starts up to that of the second one in which it stops. Says whether it did, as
+/// Adds in place over two lists of subtrees: from the subtree of the first one in which the span
+/// starts up to that of the second one in which it stops. Tells what came in, as
 /// [`Subtree::raise_across`]; else nothing changes.
 pub(crate) fn raise_two<P: Subtree>(
     low: &mut [P],
     high: &mut [P],
     add: &PrefixedInsertion<'_>,
-) -> bool
+    room: u32,
+) -> Option<Growth>
     requires low { AreSomeSubtrees P.nodes P.IsWhole low.old }
     requires high { AreSomeSubtrees P.nodes P.IsWhole high.old }
     requires reaches { is_below (start_of (nodes_of (map P.nodes high.old))) add.now.to ≡ true }
     ensures told { IsAcrossTold (nodes_of (map P.nodes low.old)) (nodes_of (map P.nodes low.new))
-        (nodes_of (map P.nodes high.old)) (nodes_of (map P.nodes high.new)) add.now result }
-    ensures low { AllKeepSizes P.sizes P.IsWhole low.old low.new }
-    ensures high { AllKeepSizes P.sizes P.IsWhole high.old high.new }
+        (nodes_of (map P.nodes high.old)) (nodes_of (map P.nodes high.new)) add.now room result }
+    ensures low { AllKeepSizes P.sizes P.IsWhole low.old low.new (is_some result) }
+    ensures high { AllKeepSizes P.sizes P.IsWhole high.old high.new (is_some result) }
 {
     let first = subtree_at(low, add.from);
     let last = last_reached(high, add.to);
     let stops = stops_at_next(high, last, add.to);
     let (below, mid) = low.split_at_mut(first + 1);
     let (others, above) = high.split_at_mut(last);
-    if !raise_ends(&mut below[first], &mut above[0], add, stops) {
-        return false;
-    }
+    let Some(more) = raise_ends(&mut below[first], &mut above[0], add, stops, room) else {
+        return None
+    };
     raise_all(mid, add.value);
     raise_all(others, add.value);
-    true
+    Some(more)
 }
 
-/// Ratchets a value in place over several subtrees of one list, from the one in which the span
-/// starts. Says whether it did, as [`Subtree::raise_across`]; else nothing changes.
+/// Adds in place over several subtrees of one list, from the one in which the span starts. Tells
+/// what came in, as [`Subtree::raise_across`]; else nothing changes.
 pub(crate) fn raise_over<P: Subtree>(
     subtrees: &mut [P],
     first: usize,
     add: &PrefixedInsertion<'_>,
-) -> bool
+    room: u32,
+) -> Option<Growth>
     requires subtrees { AreSubtrees P.nodes P.IsWhole subtrees.old }
     requires goes { GoesBeyond P.nodes subtrees.old add.now.from add.now.to first }
-    ensures told { RaisesOver (nodes_of (map P.nodes subtrees.old))
-        (nodes_of (map P.nodes subtrees.new))
-        add.now result }
-    ensures kept { AllKeepSizes P.sizes P.IsWhole subtrees.old subtrees.new }
+    ensures told { IsOverTold (nodes_of (map P.nodes subtrees.old))
+        (nodes_of (map P.nodes subtrees.new)) add.now room result }
+    ensures kept { AllKeepSizes P.sizes P.IsWhole subtrees.old subtrees.new (is_some result) }
 {
     let last = last_reached(subtrees, add.to);
     let stops = stops_at_next(subtrees, last, add.to);
     let (below, rest) = subtrees.split_at_mut(first + 1);
     let (mid, above) = rest.split_at_mut(last - first - 1);
-    if !raise_ends(&mut below[first], &mut above[0], add, stops) {
-        return false;
-    }
+    let Some(more) = raise_ends(&mut below[first], &mut above[0], add, stops, room) else {
+        return None
+    };
     raise_all(mid, add.value);
-    true
+    Some(more)
 }

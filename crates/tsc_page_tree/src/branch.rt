@@ -201,17 +201,19 @@ impl<P: Subtree> Subtree for Branch<P> {
         low: &mut Branch<P>,
         high: &mut Branch<P>,
         add: &PrefixedInsertion<'_>,
-    ) -> bool {
+        room: u32,
+    ) -> Option<Growth> {
         let Some(below) = Arc::get_mut(&mut low.subtrees) else {
-            return false
+            return None
         };
         let Some(above) = Arc::get_mut(&mut high.subtrees) else {
-            return false
+            return None
         };
-        let raised = across::raise_two(below, above, add);
-        low.aggregate.reach(raised, add.value);
-        high.aggregate.reach(raised, add.value);
-        raised
+        let made = across::raise_two(below, above, add, room);
+        let reached = made.is_some();
+        low.aggregate.reach(reached, add.value);
+        high.aggregate.reach(reached, add.value);
+        made
     }
 
     ghost some = { λ f is. is.some };

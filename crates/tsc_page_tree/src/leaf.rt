@@ -1,9 +1,10 @@
-ghost use Rattle.std.specs.Prelude.{◌≡◌, ◌≤◌, ◌++◌, length, true, false, option_map, None, IfOk, OnOk, IfSome};
+ghost use Rattle.std.specs.Prelude.{◌≡◌, ◌≤◌, ◌++◌, length, true, false, is_some, option_map, None, IfOk, OnOk, IfSome};
 ghost use Rattle.tsc_span.specs.Span.{last, is_below, between};
 ghost use Rattle.tsc_page_nodes.specs.Nodes.{IsSorted, raise_nodes};
-ghost use Rattle.tsc_page_tree.specs.Leaves.{IsLeaf, HasNode};
+ghost use Rattle.tsc_page_tree.specs.Leaves.{IsLeaf, IsSubtree, HasNode, start_of};
 ghost use Rattle.tsc_page_tree.specs.Lazy.{with_lazy, all_joint};
-ghost use Rattle.tsc_page_tree.specs.Across.{HasKey};
+ghost use Rattle.tsc_page_tree.specs.Across.{HasKey, IsKnownTold, IsAcrossTold};
+ghost use Rattle.tsc_page_tree.specs.Copies.{KeepsSizes};
 ghost use Rattle.tsc_page_tree.specs.Trees.{nodes_in, leaf_nodes, leaf_sizes, leaf_copied, IsWholeLeaf, IsLeafCopy, IsTold};
 
 use crate::aggregate::Aggregate;
@@ -164,28 +165,17 @@ impl Subtree for Leaf {
         made
     }
 
-    fn raise_across(low: &mut Leaf, high: &mut Leaf, add: &PrefixedInsertion<'_>) -> bool {
-        let Some(below) = Arc::get_mut(&mut low.nodes) else {
-            return false
-        };
-        let Some(above) = Arc::get_mut(&mut high.nodes) else {
-            return false
-        };
-        let Some(start) = known_place(below, add.first) else {
-            return false
-        };
-        let Some(stop) = known_place(above, add.second) else {
-            return false
-        };
-        raise_above(below, &mut low.aggregate, add.from, start, add.value);
-        above.raise_hinted(
-            &PrefixedCut::new(Cut::Before(&[])),
-            add.to,
-            (None, stop),
-            add.value,
-        );
-        high.aggregate.reach(true, add.value);
-        true
+    fn raise_across(
+        low: &mut Leaf,
+        high: &mut Leaf,
+        add: &PrefixedInsertion<'_>,
+        room: u32,
+    ) -> Option<Growth> {
+        if raise_known(low, high, add) {
+            Some(Growth { nodes: 0, bytes: 0 })
+        } else {
+            insert_ends(low, high, add, room)
+        }
     }
 
     ghost some = { λ l is. is.some };
@@ -263,6 +253,90 @@ fn raise_above(
     } else {
         aggregate.raise(value);
     }
+}
+
+/// Ratchets a value in place over two leaves, where both end keys have nodes and nobody else holds
+/// the nodes, and says whether it did; else nothing changes.
+fn raise_known(low: &mut Leaf, high: &mut Leaf, add: &PrefixedInsertion<'_>) -> bool
+    requires low { IsSubtree leaf_nodes IsWholeLeaf low.old }
+    requires high { IsSubtree leaf_nodes IsWholeLeaf high.old }
+    requires reaches { is_below (start_of (leaf_nodes high.old)) add.now.to ≡ true }
+    ensures told { IsKnownTold (leaf_nodes low.old) (leaf_nodes low.new) (leaf_nodes high.old)
+        (leaf_nodes high.new) add.now result }
+    ensures low { KeepsSizes leaf_sizes IsWholeLeaf low.old low.new false }
+    ensures high { KeepsSizes leaf_sizes IsWholeLeaf high.old high.new false }
+{
+    let Some(below) = Arc::get_mut(&mut low.nodes) else {
+        return false
+    };
+    let Some(above) = Arc::get_mut(&mut high.nodes) else {
+        return false
+    };
+    let Some(start) = known_place(below, add.first) else {
+        return false
+    };
+    let Some(stop) = known_place(above, add.second) else {
+        return false
+    };
+    raise_above(below, &mut low.aggregate, add.from, start, add.value);
+    above.raise_hinted(
+        &PrefixedCut::new(Cut::Before(&[])),
+        add.to,
+        (None, stop),
+        add.value,
+    );
+    high.aggregate.reach(true, add.value);
+    true
+}
+
+/// Makes nodes of the end keys in place in two leaves, and ratchets a value into what lies between:
+/// where neither leaf has to be cut nor lies wholly above the lower cut, and nobody else holds the
+/// nodes. Else nothing changes, nor where memory is refused.
+fn insert_ends(
+    low: &mut Leaf,
+    high: &mut Leaf,
+    add: &PrefixedInsertion<'_>,
+    room: u32,
+) -> Option<Growth>
+    requires low { IsSubtree leaf_nodes IsWholeLeaf low.old }
+    requires high { IsSubtree leaf_nodes IsWholeLeaf high.old }
+    requires reaches { is_below (start_of (leaf_nodes high.old)) add.now.to ≡ true }
+    ensures told { IsAcrossTold (leaf_nodes low.old) (leaf_nodes low.new) (leaf_nodes high.old)
+        (leaf_nodes high.new) add.now room result }
+    ensures low { KeepsSizes leaf_sizes IsWholeLeaf low.old low.new (is_some result) }
+    ensures high { KeepsSizes leaf_sizes IsWholeLeaf high.old high.new (is_some result) }
+{
+    let Some(below) = Arc::get_mut(&mut low.nodes) else {
+        return None
+    };
+    let Some(above) = Arc::get_mut(&mut high.nodes) else {
+        return None
+    };
+    if below.len() >= LEAF_NODES || above.len() >= LEAF_NODES || below.starts_above(add.from) {
+        return None;
+    }
+    let least = PrefixedCut::new(Cut::Before(&[]));
+    let last = PrefixedCut::new(Cut::Last);
+    let starts = PrefixedInsertion {
+        first: add.first,
+        second: None,
+        from: add.from,
+        to: &last,
+        value: add.value,
+    };
+    let stops = PrefixedInsertion {
+        first: None,
+        second: add.second,
+        from: &least,
+        to: add.to,
+        value: add.value,
+    };
+    let Ok(Some(more)) = Nodes::insert_across(below, above, &starts, &stops, room) else {
+        return None
+    };
+    low.aggregate.reach(true, add.value);
+    high.aggregate.reach(true, add.value);
+    Some(more)
 }
 
 /// Makes a node of a key, where it has none. Where there are then more than a leaf has, those

@@ -1,4 +1,4 @@
-ghost use Rattle.std.specs.Prelude.{◌≡◌, ℕ, List, ◌≤◌, ◌<◌, ◌+◌, ◌++◌, ◌∷◌, [], ◌||◌, suc, map, length, drop, slice_index_or, option_map, option_to_list, OnOk, IfOk, IfSome, not, true, false};
+ghost use Rattle.std.specs.Prelude.{◌≡◌, ℕ, List, ◌≤◌, ◌<◌, ◌+◌, ◌++◌, ◌∷◌, [], ◌||◌, suc, map, length, drop, slice_index_or, option_map, option_to_list, is_some, OnOk, IfOk, IfSome, not, true, false};
 ghost use Rattle.std.specs.List.{All};
 ghost use Rattle.tsc_time.specs.Joint.{joint};
 ghost use Rattle.tsc_span.specs.Span.{before, last, is_below, between, point};
@@ -105,10 +105,10 @@ pub trait Subtree: Clone + Drop {
         ensures upper { IfOk result (λ upper. IfSome upper IsWhole) };
 
     /// Adds in place, and tells what came in: where the span lies in one leaf, which need not be
-    /// cut, and what comes in costs no more than `room`; or where both end keys have nodes, and
-    /// nobody else holds a way to the leaves in which the span starts and stops. Else nothing
-    /// changes, nor where memory is refused. What others hold on the way down is copied first, as
-    /// far as one subtree has all of the span, and stays as it is for them.
+    /// cut, and what comes in costs no more than `room`; or in two leaves, as
+    /// [`raise_across`](Subtree::raise_across) tells of these. Else nothing changes, nor where
+    /// memory is refused. What others hold on the way down is copied first, as far as one subtree
+    /// has all of the span, and stays as it is for them.
     fn add_within(
         &mut self,
         add: &PrefixedInsertion<'_>,
@@ -129,18 +129,26 @@ pub trait Subtree: Clone + Drop {
             (sizes self.new) add.now room result }
         ensures whole { IsWhole self.new };
 
-    /// Ratchets a value in place into what lies above the lower cut in one subtree, and below the
-    /// upper one in a subtree behind it, and says whether it did: where each end key has a node
-    /// there, and nobody else holds a way to the leaves in which the span starts and stops. Else
-    /// nothing changes. It takes no memory.
-    fn raise_across(low: &mut Self, high: &mut Self, add: &PrefixedInsertion<'_>) -> bool
+    /// Adds in place where the span starts in one subtree and stops in another behind it, to the
+    /// leaves in which it does, and tells what came in: where what lies above the lower cut in the
+    /// one, and below the upper cut in the other, was raised and the end keys have nodes. It does
+    /// so where nobody else holds a way to these leaves; and where a key is new, neither leaf need
+    /// be cut, both have lists of keys of their own, and what comes in costs no more than `room`.
+    /// Else nothing changes. It takes memory for new keys alone, before the first change, and where
+    /// this is refused nothing changes either.
+    fn raise_across(
+        low: &mut Self,
+        high: &mut Self,
+        add: &PrefixedInsertion<'_>,
+        room: u32,
+    ) -> Option<Growth>
         requires low { IsSubtree nodes IsWhole low.old }
         requires high { IsSubtree nodes IsWhole high.old }
         requires reaches { is_below (start_of (nodes high.old)) add.now.to ≡ true }
         ensures told { IsAcrossTold (nodes low.old) (nodes low.new) (nodes high.old)
-            (nodes high.new) add.now result }
-        ensures low { KeepsSizes sizes IsWhole low.old low.new }
-        ensures high { KeepsSizes sizes IsWhole high.old high.new };
+            (nodes high.new) add.now room result }
+        ensures low { KeepsSizes sizes IsWhole low.old low.new (is_some result) }
+        ensures high { KeepsSizes sizes IsWhole high.old high.new (is_some result) };
 
     ghost some: { (p : Self) → IsWhole p → 1 ≤ length (nodes p) };
 
@@ -418,13 +426,36 @@ fn raise_beyond<P: Subtree>(
     ensures whole { OnOk result (All P.IsWhole subtrees.new) }
     ensures len { length subtrees.new ≡ length subtrees.old }
 {
-    subtrees[first].raise_between(from, Cut::Last, value)?;
+    let least = PrefixedCut::new(Cut::Before(&[]));
+    let last = PrefixedCut::new(Cut::Last);
+    raise_part(&mut subtrees[first], &PrefixedCut::new(from), &last, value)?;
     for place in first + 1..subtrees.len() {
         if !goes_on(subtrees, place, to) {
-            return subtrees[place].raise_between(Cut::Before(&[]), to.cut(), value);
+            return raise_part(&mut subtrees[place], &least, to, value);
         }
         subtrees[place].raise_whole(value);
     }
+    Ok(())
+}
+
+/// Ratchets a value into the keys and gaps of a subtree between two cuts. Where these leave nothing
+/// out the subtree isn't looked into.
+fn raise_part<P: Subtree>(
+    subtree: &mut P,
+    from: &PrefixedCut<'_>,
+    to: &PrefixedCut<'_>,
+    value: Value,
+) -> Result<(), NoMemory>
+    requires subtree { IsSubtree P.nodes P.IsWhole subtree.old }
+    requires order { is_below from.now to.now ≡ true }
+    ensures raised { OnOk result
+        (P.nodes subtree.new ≡ raise_nodes (between from.now to.now) value (P.nodes subtree.old)) }
+    ensures whole { OnOk result (P.IsWhole subtree.new) }
+{
+    if leaves_out(subtree, from, to) {
+        return subtree.raise_between(from.cut(), to.cut(), value);
+    }
+    subtree.raise_whole(value);
     Ok(())
 }
 
@@ -502,8 +533,8 @@ pub fn leaf_len<P: Subtree>(subtrees: &[P], place: usize) -> Result<usize, usize
     Err(place)
 }
 
-/// Adds in place to the subtree in which the span lies, or over several subtrees where the end keys
-/// have nodes.
+/// Adds in place to the subtree in which the span lies, or over several subtrees, as
+/// [`Subtree::raise_across`] tells.
 pub fn add_within<P: Subtree>(
     subtrees: &mut [P],
     add: &PrefixedInsertion<'_>,
@@ -522,8 +553,7 @@ pub fn add_within<P: Subtree>(
         return Ok(None);
     }
     if goes_on(subtrees, place, add.to) {
-        let nothing = Growth { nodes: 0, bytes: 0 };
-        return Ok(across::raise_over(subtrees, place, add).then_some(nothing));
+        return Ok(across::raise_over(subtrees, place, add, room));
     }
     if stops_at_next(subtrees, place, add.to) {
         subtrees[place].add_within(&add.before_second(), room)

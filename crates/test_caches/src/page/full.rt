@@ -97,6 +97,16 @@ fn new_keys_in_place_of_many(rt: HostRuntime) -> Result<(), Fail> {
     play(&rt, rt.alloc(), NEW)
 }
 
+/// New ends of a range over many leaves of such a page, which come in in place in two of them.
+static NEW_ENDS: &str = "filled rising 5000 40 own 4
+in_place [#1001,#15003) 70000¹";
+
+/// As the test before, for `scripts/refuse-each-growth`.
+#[test]
+fn new_ends_in_place_of_many(rt: HostRuntime) -> Result<(), Fail> {
+    play(&rt, rt.alloc(), NEW_ENDS)
+}
+
 /// More leaves than one list has: each key's own time, then one value, and then another one beside
 /// a copy that doesn't tell it.
 static SEVERAL: &str = "filled mixed 4096 0 own 1

@@ -59,3 +59,24 @@ leaves 36|32|32|35";
 fn refused_calls_leave_a_page_of_leaves(rt: HostRuntime) -> Result<(), Fail> {
     play(&rt, rt.alloc(), STEPS)
 }
+
+/// The ends of ranges come in in place in two leaves of that page, of which neither is cut.
+static WIDE: &str = "filled rising 128 60 own 2
+seconds 256
+leaves 32|32|64
+add [#5,#67) 300²
+look [#5,#67) 300²
+leaves 33|33|64
+add [#8,#69] 301²
+look [#8,#69] 301²
+leaves 33|34|64
+add [#7,#70) 302²
+look [#7,#70) 302²
+leaves 34|34|64";
+
+/// For `scripts/refuse-each-growth`, also with a second growth refused, so that neither the Add in
+/// place nor that on a copy has its memory.
+#[test]
+fn refused_wide_adds_leave_a_page_of_leaves(rt: HostRuntime) -> Result<(), Fail> {
+    play(&rt, rt.alloc(), WIDE)
+}

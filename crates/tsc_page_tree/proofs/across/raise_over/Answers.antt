@@ -1,6 +1,6 @@
 -- The first subtree reached and the last one are raised by themselves, and those between as a
 -- whole.
-use Rattle.std.proofs.Common.{◌≡◌, ◌∙◌, ◌+◌, ◌<◌, ◌≤◌, sym, ap, subst, Bool, ℕ, suc, List, ◌++◌, map, drop, set, length, arith}
+use Rattle.std.proofs.Common.{◌≡◌, ◌∙◌, ◌+◌, ◌<◌, ◌≤◌, sym, ap, subst, Bool, ℕ, suc, List, ◌++◌, true, false, map, drop, set, length, arith}
 use mathlib.Core.Bool.{true≢false}
 use Rattle.std.specs.Prelude.{not}
 use Rattle.std.proofs.lemmas.List.{length-map, length-append}
@@ -8,7 +8,7 @@ use Rattle.tsc_span.specs.Span.{Cut, is_below}
 use Rattle.tsc_page_nodes.specs.Nodes.{Node, raise_nodes}
 use Rattle.tsc_page_nodes.specs.Insertions.{InsertionView}
 use Rattle.tsc_page_tree.specs.Leaves.{nodes_of, start_of, AreSome, AreSubtrees, IsLeafAt}
-use Rattle.tsc_page_tree.specs.Lazy.{everything, AddsSome, nothing_grown}
+use Rattle.tsc_page_tree.specs.Lazy.{everything, AddsSome}
 use Rattle.tsc_page_tree.specs.Across.{IsLastReached}
 use Rattle.tsc_page_tree.specs.Copies.{AllKeepSizes}
 use Rattle.tsc_page_tree.proofs.LeafLists.{all_some, is_subtree}
@@ -191,9 +191,9 @@ raise_ends-requires-clause-reaches g c =
     (stops_over f bl md ab p d d e e (long g k) (one g k) a (some g k) (fits g k) (at g k)
     (here g k)).subtree
 
-pub returns-then-not-raise_ends-clause-told : goal.returns-then-not-raise_ends-clause-told
-returns-then-not-raise_ends-clause-told g c =
-    let k = (goal.at.returns-then-not-raise_ends-clause-told g c).After-split_at_mut-mid in
+pub returns-in_default-clause-told : goal.returns-in_default-clause-told
+returns-in_default-clause-told g c =
+    let k = (goal.at.returns-in_default-clause-told g c).After-split_at_mut-mid in
     let f = g.P.Subtree.nodes in
     let p : ℕ = c.args.first in
     let bl = c.split_at_mut-below.result.0.now in
@@ -203,16 +203,13 @@ returns-then-not-raise_ends-clause-told g c =
     let e = c.index-above-0.result in
     let x = c.raise_ends.new.low in
     let y = c.raise_ends.new.high in
-    let told = c.if-not-raise_ends.ensures.told in
-    record {
-      raised = λ h. absurd (true≢false (sym h));
-      left = λ h. stays_over f bl md ab p d x e y (long g k) (one g k) told.0 told.1 ∙
-          ap (λ (xs : List g.row.P.Denot). nodes_of (map f xs)) (sym (shape g k));
-    }
+    let told = c.in_default.ensures.told in
+    stays_over f bl md ab p d x e y (long g k) (one g k) told.0 told.1 ∙
+    ap (λ (xs : List g.row.P.Denot). nodes_of (map f xs)) (sym (shape g k))
 
-pub returns-then-not-raise_ends-clause-kept : goal.returns-then-not-raise_ends-clause-kept
-returns-then-not-raise_ends-clause-kept g c =
-    let k = (goal.at.returns-then-not-raise_ends-clause-kept g c).After-split_at_mut-mid in
+pub returns-in_default-clause-kept : goal.returns-in_default-clause-kept
+returns-in_default-clause-kept g c =
+    let k = (goal.at.returns-in_default-clause-kept g c).After-split_at_mut-mid in
     let f = g.P.Subtree.nodes in
     let s = g.P.Subtree.sizes in
     let Q = g.P.Subtree.IsWhole in
@@ -224,12 +221,12 @@ returns-then-not-raise_ends-clause-kept g c =
     let y = c.raise_ends.new.high in
     let rest = subtrees_second f Q bl (md ++ ab) (subtrees g k) in
     subst (λ (xs : List g.row.P.Denot). AllKeepSizes s Q xs
-    (set bl p x ++ (md ++ set ab 0 y))) (sym (shape g k))
-    (keeps_low s Q bl (md ++ ab) (md ++ set ab 0 y) p c.index-below-first.result x
-    (long g k) (subtrees_first f Q bl (md ++ ab) (subtrees g k)).whole c.raise_ends.ensures.low
-    (keeps_high s Q md md ab c.index-above-0.result y (one g k)
-    (subtrees_second f Q md ab rest).whole c.raise_ends.ensures.high
-    (keep_same s Q md (subtrees_first f Q md ab rest).whole)))
+    (set bl p x ++ (md ++ set ab 0 y)) false) (sym (shape g k))
+    (keeps_low s Q bl (md ++ ab) (md ++ set ab 0 y) p c.index-below-first.result x false
+    (long g k) (subtrees_first f Q bl (md ++ ab) (subtrees g k)).whole c.in_default.ensures.low
+    (keeps_high s Q md md ab c.index-above-0.result y false (one g k)
+    (subtrees_second f Q md ab rest).whole c.in_default.ensures.high
+    (keep_same s Q md false (subtrees_first f Q md ab rest).whole)))
 
 pub raise_all-requires : goal.raise_all-requires
 raise_all-requires g c =
@@ -274,13 +271,12 @@ returns-clause-told g c =
     c.raise_all.ensures.raised ∙
     ap (λ (v : InsertionView). raise_nodes everything v.value (nodes_of (map f md)))
     c.add.view_is in
-    record {
-      raised = λ h. subst (λ (xs : List g.row.P.Denot). AddsSome (nodes_of (map f xs))
-          (nodes_of (map f (set bl p x ++ (mn ++ set ab 0 y)))) a 0 nothing_grown) (sym (shape g k))
-          (raises_over f bl md ab p d x e y (long g k) (one g k) a (some g k) (fits g k) (at g k)
-          (here g k) mn stop (subtrees g k).sorted is c.if-not-raise_ends.ensures.told wholly);
-      left = λ h. absurd (true≢false h);
-    }
+    subst (λ (xs : List g.row.P.Denot). AddsSome (nodes_of (map f xs))
+    (nodes_of (map f (set bl p x ++ (mn ++ set ab 0 y)))) a c.args.room c.in-Some.more)
+    (sym (shape g k))
+    (raises_over f bl md ab p d x e y (long g k) (one g k) a (some g k) (fits g k) (at g k)
+    (here g k) mn stop c.args.room c.in-Some.more (subtrees g k).sorted is
+    c.in-Some.ensures.told.0 c.in-Some.ensures.told.1 wholly)
 
 pub returns-clause-kept : goal.returns-clause-kept
 returns-clause-kept g c =
@@ -296,14 +292,14 @@ returns-clause-kept g c =
     let y = c.raise_ends.new.high in
     let rest = subtrees_second f Q bl (md ++ ab) (subtrees g k) in
     subst (λ (xs : List g.row.P.Denot). AllKeepSizes s Q xs
-    (set bl p x ++ (c.raise_all.new.subtrees ++ set ab 0 y))) (sym (shape g k))
+    (set bl p x ++ (c.raise_all.new.subtrees ++ set ab 0 y)) true) (sym (shape g k))
     (keeps_low s Q bl (md ++ ab) (c.raise_all.new.subtrees ++ set ab 0 y) p
-    c.index-below-first.result x
-    (long g k) (subtrees_first f Q bl (md ++ ab) (subtrees g k)).whole c.raise_ends.ensures.low
-    (keeps_high s Q md c.raise_all.new.subtrees ab c.index-above-0.result y (one g k)
-    (subtrees_second f Q md ab rest).whole c.raise_ends.ensures.high
+    c.index-below-first.result x true
+    (long g k) (subtrees_first f Q bl (md ++ ab) (subtrees g k)).whole c.in-Some.ensures.low
+    (keeps_high s Q md c.raise_all.new.subtrees ab c.index-above-0.result y true (one g k)
+    (subtrees_second f Q md ab rest).whole c.in-Some.ensures.high
     (record {
-      sizes = c.raise_all.ensures.sizes;
+      sizes = λ h. absurd (true≢false h);
       whole = c.raise_all.ensures.whole;
       len = c.raise_all.ensures.len;
     })))

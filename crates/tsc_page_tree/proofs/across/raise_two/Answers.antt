@@ -1,14 +1,15 @@
 -- The first list is raised from the subtree of the lower cut on, and the second up to that of the
 -- upper one.
-use Rattle.std.proofs.Common.{◌≡◌, ◌∙◌, ◌≤◌, sym, ap, subst, Bool, true, ℕ, suc, List, ◌++◌, map, drop, set, length, arith}
-use Rattle.std.specs.Prelude.{not}
+use Rattle.std.proofs.Common.{◌≡◌, ◌∙◌, ◌≤◌, sym, ap, subst, Bool, true, false, ℕ, suc, List, ◌++◌, map, drop, set, length, arith}
+use Rattle.std.specs.Prelude.{Some, not}
+use mathlib.Core.Bool.{true≢false}
 use Rattle.std.proofs.lemmas.List.{length-map, length-append}
 use Rattle.tsc_span.specs.Span.{Cut, is_below}
 use Rattle.tsc_page_nodes.specs.Nodes.{Node, raise_nodes}
 use Rattle.tsc_page_nodes.specs.Insertions.{InsertionView}
 use Rattle.tsc_page_tree.specs.Leaves.{nodes_of, start_of, AreSome, AreSubtrees, IsLeafAt}
 use Rattle.tsc_page_tree.specs.Lazy.{everything}
-use Rattle.tsc_page_tree.specs.Across.{AreRaisedAcross, IsLastReached}
+use Rattle.tsc_page_tree.specs.Across.{IsAcrossTold, IsLastReached}
 use Rattle.tsc_page_tree.proofs.LeafLists.{all_some, is_subtree}
 use Rattle.tsc_page_nodes.specs.Insertions.{IsInsertionView}
 use Rattle.tsc_page_tree.specs.Copies.{AllKeepSizes}
@@ -138,9 +139,9 @@ raise_ends-requires-clause-reaches g c =
     (stops_two f bl md ot ab p d d e e (long g k) (one g k) a (some_low g k) (some_high g k)
     (fits g k) (at g k) (reaches g k) (here g k)).subtree
 
-pub returns-then-not-raise_ends-clause-told : goal.returns-then-not-raise_ends-clause-told
-returns-then-not-raise_ends-clause-told g c =
-    let k = (goal.at.returns-then-not-raise_ends-clause-told g c).After-split_at_mut-others in
+pub returns-in_default-clause-told : goal.returns-in_default-clause-told
+returns-in_default-clause-told g c =
+    let k = (goal.at.returns-in_default-clause-told g c).After-split_at_mut-others in
     let f = g.P.Subtree.nodes in
     let p : ℕ = c.subtree_at-first.result in
     let bl = c.split_at_mut-below.result.0.now in
@@ -151,16 +152,16 @@ returns-then-not-raise_ends-clause-told g c =
     let e = c.index-above-0.result in
     let x = c.raise_ends.new.low in
     let y = c.raise_ends.new.high in
-    let told = c.if-not-raise_ends.ensures.told in (
+    let told = c.in_default.ensures.told in (
       stays_low f bl md ot ab p d x e y (long g k) (one g k) told.0 ∙
           ap (λ (xs : List g.row.P.Denot). nodes_of (map f xs)) (sym (shape_low g k)),
       stays_high f bl md ot ab p d x e y (long g k) (one g k) told.1 ∙
           ap (λ (xs : List g.row.P.Denot). nodes_of (map f xs)) (sym (shape_high g k)),
     )
 
-pub returns-then-not-raise_ends-clause-low : goal.returns-then-not-raise_ends-clause-low
-returns-then-not-raise_ends-clause-low g c =
-    let k = (goal.at.returns-then-not-raise_ends-clause-low g c).After-split_at_mut-others in
+pub returns-in_default-clause-low : goal.returns-in_default-clause-low
+returns-in_default-clause-low g c =
+    let k = (goal.at.returns-in_default-clause-low g c).After-split_at_mut-others in
     let f = g.P.Subtree.nodes in
     let s = g.P.Subtree.sizes in
     let Q = g.P.Subtree.IsWhole in
@@ -168,26 +169,26 @@ returns-then-not-raise_ends-clause-low g c =
     let bl = c.split_at_mut-below.result.0.now in
     let md = c.split_at_mut-below.result.1.now in
     let x = c.raise_ends.new.low in
-    subst (λ (xs : List g.row.P.Denot). AllKeepSizes s Q xs (set bl p x ++ md))
+    subst (λ (xs : List g.row.P.Denot). AllKeepSizes s Q xs (set bl p x ++ md) false)
     (sym (shape_low g k))
-    (keeps_low s Q bl md md p c.index-below-first.result x (long g k)
-    (subtrees_first f Q bl md (subtrees_low g k)).whole c.raise_ends.ensures.low
-    (keep_same s Q md (subtrees_second f Q bl md (subtrees_low g k)).whole))
+    (keeps_low s Q bl md md p c.index-below-first.result x false (long g k)
+    (subtrees_first f Q bl md (subtrees_low g k)).whole c.in_default.ensures.low
+    (keep_same s Q md false (subtrees_second f Q bl md (subtrees_low g k)).whole))
 
-pub returns-then-not-raise_ends-clause-high : goal.returns-then-not-raise_ends-clause-high
-returns-then-not-raise_ends-clause-high g c =
-    let k = (goal.at.returns-then-not-raise_ends-clause-high g c).After-split_at_mut-others in
+pub returns-in_default-clause-high : goal.returns-in_default-clause-high
+returns-in_default-clause-high g c =
+    let k = (goal.at.returns-in_default-clause-high g c).After-split_at_mut-others in
     let f = g.P.Subtree.nodes in
     let s = g.P.Subtree.sizes in
     let Q = g.P.Subtree.IsWhole in
     let ot = c.split_at_mut-others.result.0.now in
     let ab = c.split_at_mut-others.result.1.now in
     let y = c.raise_ends.new.high in
-    subst (λ (xs : List g.row.P.Denot). AllKeepSizes s Q xs (ot ++ set ab 0 y))
+    subst (λ (xs : List g.row.P.Denot). AllKeepSizes s Q xs (ot ++ set ab 0 y) false)
     (sym (shape_high g k))
-    (keeps_high s Q ot ot ab c.index-above-0.result y (one g k)
-    (subtrees_second f Q ot ab (subtrees_high g k)).whole c.raise_ends.ensures.high
-    (keep_same s Q ot (subtrees_first f Q ot ab (subtrees_high g k)).whole))
+    (keeps_high s Q ot ot ab c.index-above-0.result y false (one g k)
+    (subtrees_second f Q ot ab (subtrees_high g k)).whole c.in_default.ensures.high
+    (keep_same s Q ot false (subtrees_first f Q ot ab (subtrees_high g k)).whole))
 
 pub raise_all-requires : goal.raise_all-requires
 raise_all-requires g c =
@@ -243,15 +244,17 @@ returns-clause-told g c =
     c.raise_all-2.ensures.raised ∙
     ap (λ (v : InsertionView). raise_nodes everything v.value (nodes_of (map f ot)))
     c.add.view_is in
-    subst (λ (xs : List g.row.P.Denot). AreRaisedAcross (nodes_of (map f xs))
+    subst (λ (xs : List g.row.P.Denot). IsAcrossTold (nodes_of (map f xs))
     (nodes_of (map f (set bl p x ++ mn))) (nodes_of (map f highs))
-    (nodes_of (map f (on ++ set ab 0 y))) a) (sym (shape_low g k))
-    (subst (λ (xs : List g.row.P.Denot). AreRaisedAcross (nodes_of (map f (bl ++ md)))
+    (nodes_of (map f (on ++ set ab 0 y))) a c.args.room (Some c.in-Some.more)) (sym (shape_low g k))
+    (subst (λ (xs : List g.row.P.Denot). IsAcrossTold (nodes_of (map f (bl ++ md)))
     (nodes_of (map f (set bl p x ++ mn))) (nodes_of (map f xs))
-    (nodes_of (map f (on ++ set ab 0 y))) a) (sym (shape_high g k))
-    (raises_two f bl md ot ab p d x e y (long g k) (one g k) a (some_low g k) (some_high g k)
-    (fits g k) (at g k) (reaches g k) (here g k) mn on stop (subtrees_low g k).sorted
-    (subtrees_high g k).sorted is c.if-not-raise_ends.ensures.told wholly others))
+    (nodes_of (map f (on ++ set ab 0 y))) a c.args.room (Some c.in-Some.more)) (sym (shape_high g k)) (
+      raises_two f bl md ot ab p d x e y (long g k) (one g k) a (some_low g k) (some_high g k)
+          (fits g k) (at g k) (reaches g k) (here g k) mn on stop c.in-Some.more (subtrees_low g k).sorted
+          (subtrees_high g k).sorted is c.in-Some.ensures.told.0 wholly others,
+      c.in-Some.ensures.told.1,
+    ))
 
 pub returns-clause-low : goal.returns-clause-low
 returns-clause-low g c =
@@ -264,12 +267,12 @@ returns-clause-low g c =
     let md = c.split_at_mut-below.result.1.now in
     let x = c.raise_ends.new.low in
     subst (λ (xs : List g.row.P.Denot). AllKeepSizes s Q xs
-    (set bl p x ++ c.raise_all.new.subtrees))
+    (set bl p x ++ c.raise_all.new.subtrees) true)
     (sym (shape_low g k))
-    (keeps_low s Q bl md c.raise_all.new.subtrees p c.index-below-first.result x (long g k)
-    (subtrees_first f Q bl md (subtrees_low g k)).whole c.raise_ends.ensures.low
+    (keeps_low s Q bl md c.raise_all.new.subtrees p c.index-below-first.result x true (long g k)
+    (subtrees_first f Q bl md (subtrees_low g k)).whole c.in-Some.ensures.low
     (record {
-      sizes = c.raise_all.ensures.sizes;
+      sizes = λ h. absurd (true≢false h);
       whole = c.raise_all.ensures.whole;
       len = c.raise_all.ensures.len;
     }))
@@ -284,12 +287,12 @@ returns-clause-high g c =
     let ab = c.split_at_mut-others.result.1.now in
     let y = c.raise_ends.new.high in
     subst (λ (xs : List g.row.P.Denot). AllKeepSizes s Q xs
-    (c.raise_all-2.new.subtrees ++ set ab 0 y))
+    (c.raise_all-2.new.subtrees ++ set ab 0 y) true)
     (sym (shape_high g k))
-    (keeps_high s Q ot c.raise_all-2.new.subtrees ab c.index-above-0.result y (one g k)
-    (subtrees_second f Q ot ab (subtrees_high g k)).whole c.raise_ends.ensures.high
+    (keeps_high s Q ot c.raise_all-2.new.subtrees ab c.index-above-0.result y true (one g k)
+    (subtrees_second f Q ot ab (subtrees_high g k)).whole c.in-Some.ensures.high
     (record {
-      sizes = c.raise_all-2.ensures.sizes;
+      sizes = λ h. absurd (true≢false h);
       whole = c.raise_all-2.ensures.whole;
       len = c.raise_all-2.ensures.len;
     }))

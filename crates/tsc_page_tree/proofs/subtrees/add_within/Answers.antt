@@ -4,7 +4,9 @@ use Rattle.tsc_span.specs.Span.{Cut, is_below}
 use Rattle.tsc_page_nodes.specs.Nodes.{Node}
 use Rattle.tsc_page_nodes.specs.Insertions.{InsertionView}
 use Rattle.tsc_page_tree.specs.Leaves.{nodes_of, start_of, IsLeafAt}
-use Rattle.tsc_page_tree.specs.Lazy.{IsAddTold}
+use Rattle.tsc_page_tree.specs.Lazy.{IsAddTold, sizes_of}
+use Rattle.tsc_time.specs.declared.memory.NoMemory.{NoMemory}
+use Rattle.tsc_page_tree.proofs.EndLeaves.{over_told}
 use Rattle.tsc_page_nodes.proofs.CutOrder.{Le}
 use Rattle.tsc_page_tree.proofs.LeafLists.{all_some, is_subtree}
 use Rattle.tsc_page_nodes.specs.Insertions.{IsInsertionView}
@@ -44,6 +46,15 @@ raise_over-requires-clause-goes g c =
       beyond = subst (λ (x : Cut). is_below next x ≡ true) to
           (sym c.goes_on.ensures ∙ c.if-goes_on.true);
     }
+
+pub returns-then-goes_on-clause-told : goal.returns-then-goes_on-clause-told
+returns-then-goes_on-clause-told g c =
+    let read = g.P.Subtree.nodes in
+    let sizes = g.P.Subtree.sizes in
+    over_told NoMemory c.raise_over.result (nodes_of (map read c.args.subtrees.now))
+    (nodes_of (map read c.raise_over.new.subtrees)) (sizes_of (map sizes c.args.subtrees.now))
+    (sizes_of (map sizes c.raise_over.new.subtrees)) c.args.add.now c.args.room
+    c.raise_over.ensures.told (λ h. ap sizes_of (c.raise_over.ensures.kept.sizes h))
 
 pub returns-then-stops_at_next-clause-told : goal.returns-then-stops_at_next-clause-told
 returns-then-stops_at_next-clause-told g c =

@@ -12,8 +12,8 @@ use Rattle.tsc_page_tree.proofs.LeafLists.{subtree_read, all_some, all_set, is_s
 use Rattle.tsc_page_tree.proofs.LeafRaises.{RaisesSoFar, raises_start, left_sorted, raises_last, raises_go_on, raises_end, raised_subtree}
 use Rattle.tsc_page_tree.proofs.subtrees.raise_beyond.Goals as goal
 
-pub raise_between-requires-clause-subtree : goal.raise_between-requires-clause-subtree
-raise_between-requires-clause-subtree g c =
+pub raise_part-requires-clause-subtree : goal.raise_part-requires-clause-subtree
+raise_part-requires-clause-subtree g c =
     is_subtree g.P.Subtree.nodes g.P.Subtree.IsWhole c.args.subtrees.now c.args.first
     c.index-subtrees-first.result
     c.requires.goes.bound c.requires.subtrees
@@ -26,7 +26,7 @@ loop-place-init g c =
     let from : Cut = cut_of c.args.from in
     let to : Cut = c.args.to.now in
     let p : ℕ = c.args.first in
-    let y = c.raise_between.new.self in
+    let y = c.raise_part.new.subtree in
     let here : p < length items = c.requires.goes.bound in
     let inside : p < length ls = omega (arith, here, length-map items read) in
     let some = all_some read g.P.Subtree.IsWhole items g.met.P.Subtree.some
@@ -36,20 +36,24 @@ loop-place-init g c =
     c.requires.order at in
     let more = raises_go_on ls ls from to from c.args.value p some c.requires.subtrees.sorted inside
     start c.requires.goes.beyond in
+    let ns = read (get_or items p c.index-subtrees-first.result) in
+    let part = c.in_ok-raise_part.ensures.raised
+    ∙ ap (λ (x : Cut). raise_nodes (between x c.new-last.result) c.args.value ns) c.new.ensures
+    ∙ ap (λ (x : Cut). raise_nodes (between from x) c.args.value ns) c.new-last.ensures in
     let raised = raised_subtree read items p c.index-subtrees-first.result y (between from last)
-    c.args.value here c.in_ok-raise_between.ensures.raised in
+    c.args.value here part in
     let next : suc p ≡ p + 1 = omega arith in (
       subst (λ (j : ℕ). RaisesSoFar ls (map read (set items p y)) from to (before []) c.args.value
           j) next
           (subst (λ (ks : List (List Node)). RaisesSoFar ls ks from to (before []) c.args.value
           (suc p)) (sym raised) more),
       all_set g.P.Subtree.IsWhole items p y c.requires.subtrees.whole
-          c.in_ok-raise_between.ensures.whole,
+          c.in_ok-raise_part.ensures.whole,
     )
 
-pub raise_between-requires-then-not-goes_on-clause-subtree :
-    goal.raise_between-requires-then-not-goes_on-clause-subtree
-raise_between-requires-then-not-goes_on-clause-subtree g c =
+pub raise_part-requires-then-not-goes_on-clause-subtree :
+    goal.raise_part-requires-then-not-goes_on-clause-subtree
+raise_part-requires-then-not-goes_on-clause-subtree g c =
     let read = g.P.Subtree.nodes in
     let old : List (List Node) = map read c.args.subtrees.now in
     let items = c.loop-place.subtrees in
@@ -82,7 +86,7 @@ returns-then-not-goes_on-clause-raised g c =
     let to : Cut = c.args.to.now in
     let p : ℕ = c.loop-place.place in
     let d = c.index-subtrees-place.result in
-    let y = c.raise_between-then-not-goes_on.new.self in
+    let y = c.raise_part-then-not-goes_on.new.subtree in
     let here : p < length items = omega (
       arith,
       c.loop-place-test.true,
@@ -93,12 +97,12 @@ returns-then-not-goes_on-clause-raised g c =
     c.requires.subtrees.whole in
     let high : Le to (start_of (nodes_of (drop (suc p) now))) = sym c.goes_on.ensures ∙
     c.if-not-goes_on.true in
-    IfOk-weaker c.raise_between-then-not-goes_on.result _ _ (λ u h.
+    IfOk-weaker c.raise_part-then-not-goes_on.result _ _ (λ u h.
     ap nodes_of (raised_subtree read items p d y (between (before []) to) c.args.value here
-    (h ∙ ap (λ (x : Cut). raise_nodes (between (before []) x) c.args.value
-    (read (get_or items p d))) c.cut.ensures))
+    (h ∙ ap (λ (x : Cut). raise_nodes (between x to) c.args.value
+    (read (get_or items p d))) c.new-least.ensures))
     ∙ raises_last old now from to (before []) c.args.value p some c.requires.subtrees.sorted inside
-    c.loop-place.invariant.0 high) c.raise_between-then-not-goes_on.ensures.raised
+    c.loop-place.invariant.0 high) c.raise_part-then-not-goes_on.ensures.raised
 
 pub raise_whole-requires :
     goal.raise_whole-requires

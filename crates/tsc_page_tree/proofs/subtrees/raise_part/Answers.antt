@@ -1,0 +1,17 @@
+-- A span that leaves nothing out is raised as all.
+use Rattle.std.proofs.Common.{◌∙◌, sym}
+use Rattle.std.proofs.lemmas.Bool.{or_parts}
+use Rattle.tsc_span.specs.Span.{Cut, last, is_below}
+use Rattle.tsc_page_tree.specs.Leaves.{start_of}
+use Rattle.tsc_page_tree.proofs.Lazy.{raise_of_all}
+use Rattle.tsc_page_tree.proofs.subtrees.raise_part.Goals as goal
+
+pub returns-clause-raised : goal.returns-clause-raised
+returns-clause-raised g c =
+    let ns = g.P.Subtree.nodes c.args.subtree.now in
+    let from : Cut = c.args.from.now in
+    let to : Cut = c.args.to.now in
+    let outside = or_parts (is_below to last) (is_below (start_of ns) from)
+    (sym c.leaves_out.ensures ∙ c.if-leaves_out.false) in
+    c.raise_whole.ensures.raised ∙
+    raise_of_all from to c.args.value ns c.requires.subtree.sorted outside.1 outside.0
