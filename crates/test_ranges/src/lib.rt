@@ -13,11 +13,11 @@ mod histories;
 #[cfg(test)]
 mod plain;
 #[cfg(test)]
-mod ranges;
-#[cfg(test)]
 mod refused;
 #[cfg(test)]
 mod scenarios;
+#[cfg(test)]
+mod scene;
 #[cfg(test)]
 mod shared;
 #[cfg(test)]

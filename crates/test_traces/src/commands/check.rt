@@ -1,47 +1,43 @@
 //! Checks over memory: of logs whose verdicts are known, and with readers and writers whose calls
 //! go wrong.
-use crate::commands::memory::{CALMLY, call, calls};
-use crate::commands::traces::{READS, READS_LOG};
+use crate::commands::memory::{call, calls};
 use crate::support::*;
-use tsc_shared::NoGate;
 
 /// Checks, as [`calls`] has them.
-static CHECKS: &str = r#"0|right¶||check|reads|reads log|
-0|right¶||check|[[]]||
-3|wrong call 1¶||check|[[]]|0 0 low 0 5.0¶|
-0|right¶||check|two threads|two threads log|
+static CHECKS: &str = "0|right¶||check|reads|reads log
+0|right¶||check|[[]]
+3|wrong call 1¶||check|[[]]|0 0 low 0 5.0¶
+0|right¶||check|two threads|two threads log
 # The last line says that it saw one Add, which is of another key.
-3|wrong answer 5¶||check|two threads|0 0 add 1 1 0 0¶0 1 get 2 30.0 ²¶1 0 add 0 1 0 0¶1 1 get 1 30.0 ²¶1 2 get 1 20.0 ¹¶|
+3|wrong answer 5¶||check|two threads|0 0 add 1 1 0 0¶0 1 get 2 30.0 ²¶1 0 add 0 1 0 0¶1 1 get 1 30.0 ²¶1 2 get 1 20.0 ¹¶
 # A list knows of its own Add.
-3|wrong place 2¶||check|one list|0 0 add 0 1 0 0¶0 1 get 0 5.0 none¶|
-1||log refused: fault 1 at line 1¶|check|one list|0 0 low 0 5.0|
-1||log refused: fault 1 at line 1¶|check|one list|0 0 low 00 5.0¶|
-1||log refused: fault 1 at line 2¶|check|one list|0 0 add 0 1 0 0¶0 1 get 1 20.0 nobody¶|
-1||trace refused: fault 7¶|check|{"page_first":132,"page_max":132,"min_pages":2,"retention":10,"low_water":[5,0],"threads":[]}||
+3|wrong place 2¶||check|one list|0 0 add 0 1 0 0¶0 1 get 0 5.0 none¶
+1||log refused: fault 1 at line 1¶|check|one list|0 0 low 0 5.0
+1||log refused: fault 1 at line 1¶|check|one list|0 0 low 00 5.0¶
+1||log refused: fault 1 at line 2¶|check|one list|0 0 add 0 1 0 0¶0 1 get 1 20.0 nobody¶
+1||trace refused: fault 7¶|check|~~[]
 # Where both are refused, the trace is told.
-1||trace refused: fault 1¶|check||0 0 low 00 5.0¶|
-1||trace refused: fault 7¶|check|{"page_first":132,"page_max":132,"min_pages":2,"retention":10,"low_water":[5,0],"threads":[]}|x|
-1||trace refused: fault 2 at call 0¶|check|{}||"#;
-
-/// Logs that are held against `race`.
-static RACE_LOGS: &str = "0|right¶||check|race|0 0 add 0 1 0 0¶1 0 add 1 1 0 0¶2 0 get 1 20.0 ¹¶|
+1||trace refused: fault 1¶|check||0 0 low 00 5.0¶
+1||trace refused: fault 7¶|check|~~[]|x
+1||trace refused: fault 2 at call 0¶|check|{}
+# Logs that are held against `race`.
+0|right¶||check|race|0 0 add 0 1 0 0¶1 0 add 1 1 0 0¶2 0 get 1 20.0 ¹¶
 # The places change places.
-3|wrong answer 3¶||check|race|0 0 add 1 1 0 0¶1 0 add 0 1 0 0¶2 0 get 1 20.0 ¹¶|
-3|wrong place 2¶||check|race|0 0 add 0 1 0 0¶1 0 add 0 1 0 0¶2 0 get 1 20.0 ¹¶|
-3|wrong call 3¶||check|race|0 0 add 0 1 0 0¶1 0 add 1 1 0 0¶|
-3|wrong place 3¶||check|race|0 0 add 0 1 0 0¶1 0 add 1 1 0 0¶2 0 get 3 20.0 ¹¶|
+3|wrong answer 3¶||check|race|0 0 add 1 1 0 0¶1 0 add 0 1 0 0¶2 0 get 1 20.0 ¹¶
+3|wrong place 2¶||check|race|0 0 add 0 1 0 0¶1 0 add 0 1 0 0¶2 0 get 1 20.0 ¹¶
+3|wrong call 3¶||check|race|0 0 add 0 1 0 0¶1 0 add 1 1 0 0¶
+3|wrong place 3¶||check|race|0 0 add 0 1 0 0¶1 0 add 1 1 0 0¶2 0 get 3 20.0 ¹¶
 # The Add of the first list was kept.
-3|wrong answer 1¶||check|race|0 0 add 0 0 0 0¶1 0 add 1 1 0 0¶2 0 get 1 20.0 ¹¶|
-3|wrong place 2¶||check|race|0 0 add 0 1 0 0¶1 0 add 2 1 0 0¶2 0 get 1 20.0 ¹¶|
-3|wrong answer 3¶||check|race|0 0 add 0 1 0 0¶1 0 add 1 1 0 0¶2 0 get 2 20.0 ¹¶|
-3|wrong answer 3¶||check|race|0 0 add 0 1 0 0¶1 0 add 1 1 0 0¶2 0 get 1 20.0 none¶|
-0|right¶||check|race|0 0 add 0 1 0 0¶1 0 add 1 1 0 0¶2 0 get 0 5.0 none¶|
-3|wrong call 3¶||check|race|0 0 add 0 1 0 0¶1 0 add 1 1 0 0¶2 0 low 1 5.0¶|
-3|wrong call 4¶||check|race|0 0 add 0 1 0 0¶1 0 add 1 1 0 0¶2 0 get 1 20.0 ¹¶2 1 low 2 5.0¶|
-3|wrong call 1¶||check|race|1 0 add 1 1 0 0¶0 0 add 0 1 0 0¶2 0 get 1 20.0 ¹¶|";
-
-/// Readers and writers that go wrong.
-static FAULTS: &str = "0|right¶||check|race|race log|all 1 never
+3|wrong answer 1¶||check|race|0 0 add 0 0 0 0¶1 0 add 1 1 0 0¶2 0 get 1 20.0 ¹¶
+3|wrong place 2¶||check|race|0 0 add 0 1 0 0¶1 0 add 2 1 0 0¶2 0 get 1 20.0 ¹¶
+3|wrong answer 3¶||check|race|0 0 add 0 1 0 0¶1 0 add 1 1 0 0¶2 0 get 2 20.0 ¹¶
+3|wrong answer 3¶||check|race|0 0 add 0 1 0 0¶1 0 add 1 1 0 0¶2 0 get 1 20.0 none¶
+0|right¶||check|race|0 0 add 0 1 0 0¶1 0 add 1 1 0 0¶2 0 get 0 5.0 none¶
+3|wrong call 3¶||check|race|0 0 add 0 1 0 0¶1 0 add 1 1 0 0¶2 0 low 1 5.0¶
+3|wrong call 4¶||check|race|0 0 add 0 1 0 0¶1 0 add 1 1 0 0¶2 0 get 1 20.0 ¹¶2 1 low 2 5.0¶
+3|wrong call 1¶||check|race|1 0 add 1 1 0 0¶0 0 add 0 1 0 0¶2 0 get 1 20.0 ¹¶
+# Readers and writers that go wrong.
+0|right¶||check|race|race log|all 1 never
 3|wrong call 1¶||check|race||all 1 never
 4||read failed¶|check|race|race log|trace 65536 0
 4||read failed¶|check|race|race log|log 65536 0
@@ -66,39 +62,35 @@ wrong call 4¶|log refused: fault 1 at line 4¶
 wrong call 5¶|log refused: fault 1 at line 5¶
 wrong call 6¶|log refused: fault 1 at line 6¶";
 
-/// The first byte of the log of `reads` at which it is cut off, and its check ends otherwise.
-fn first_wrong_cut<R: Threads + Wait + Sync>(
-    rt: &R,
-    alloc: Global,
-) -> Result<Option<usize>, AllocError> {
-    let log = READS_LOG.as_bytes();
-    let mut line: usize = 0;
-    let mut is_begun = false;
+/// Checks the log of `reads`, cut off at each byte.
+fn checks_cut_logs<R: Threads + Wait + Sync>(rt: &R, alloc: Global) -> Holds {
+    let (log, mut line, mut is_begun) = (READS_LOG.as_bytes(), 0usize, false);
     for cut in 0..log.len() {
-        let row = Row::of(CUT.lines().nth(line).unwrap_or(""));
-        let (verdict, fault) = (bytes_of(alloc, row.want)?, bytes_of(alloc, row.of)?);
-        let check = ("check", READS.as_bytes(), &log[..cut]);
-        let end = if is_begun {
-            (1, &b""[..], &fault[..])
+        let [verdict, fault, ..] = cells(CUT.lines().nth(line).unwrap_or(""));
+        let came = call(
+            rt,
+            &NoGate,
+            alloc,
+            "check",
+            (READS.as_bytes(), &log[..cut]),
+            "",
+        );
+        let is_as_told = if is_begun {
+            came.is(1, b"", &bytes_of(alloc, fault)?)
         } else {
-            (3, &verdict[..], &b""[..])
+            came.is(3, &bytes_of(alloc, verdict)?, b"")
         };
-        if !call(rt, &NoGate, alloc, check, CALMLY).is(end) {
-            return Ok(Some(cut));
+        if !is_as_told {
+            return Ok(false);
         }
         is_begun = log[cut] != b'\n';
-        if !is_begun {
-            line = line.saturating_add(1);
-        }
+        line = line.saturating_add(usize::from(!is_begun));
     }
-    Ok(None)
+    Ok(true)
 }
 
 #[test]
 fn checks_end_as_their_rows_say(rt: HostRuntime) -> Result<(), Fail> {
-    for table in [CHECKS, RACE_LOGS, FAULTS] {
-        all_hold!(rt, table, calls(&rt, &NoGate));
-    }
-    assert_eq!(rt; first_wrong_cut(&rt, rt.alloc())?, None);
-    Ok(())
+    assert!(rt; checks_cut_logs(&rt, rt.alloc())?);
+    all_hold!(rt; CHECKS => calls(&rt, &NoGate))
 }

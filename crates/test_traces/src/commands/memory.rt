@@ -1,22 +1,9 @@
 //! Commands over memory, whose readers and writers may go wrong, and what comes of them.
-use crate::commands::traces::named;
-use crate::support::streams::{CALM, Calls, calls_of, new_writer, reader_of, written};
 use crate::support::*;
 use tsc_commands::{check_command, replay_command, run_command};
 use tsc_shared::Gate;
 
-/// How the trace and the log are read, the output written and a fault told.
-pub(crate) type Ways = (Calls, Calls, Calls, Calls);
-
-pub(crate) const CALMLY: Ways = (CALM, CALM, CALM, CALM);
-
-/// A command, the trace that it reads, and the log that a check reads beside it.
-pub(crate) type Call<'a> = (&'a str, &'a [u8], &'a [u8]);
-
-/// The status, what is written, and what is told of a fault.
-pub(crate) type End<'a> = (u8, &'a [u8], &'a [u8]);
-
-/// What came of a command.
+/// What comes of a command: the status, what is written, and what is told of a fault.
 #[derive(Drop)]
 pub(crate) struct Came {
     pub(crate) status: u8,
@@ -25,75 +12,59 @@ pub(crate) struct Came {
 }
 
 impl Came {
-    pub(crate) fn is(&self, end: End) -> bool {
-        let (written, told) = (self.written.as_slice(), self.told.as_slice());
-        self.status == end.0 && written == end.1 && told == end.2
+    pub(crate) fn is(&self, status: u8, written: &[u8], told: &[u8]) -> bool {
+        let is_written = self.written.as_slice() == written;
+        self.status == status && is_written && self.told.as_slice() == told
     }
 }
 
-/// Ways of which a stream has another.
-pub(crate) fn with(ways: Ways, stream: &str, calls: Calls) -> Ways {
-    match stream {
-        "trace" => (calls, ways.1, ways.2, ways.3),
-        "log" => (ways.0, calls, ways.2, ways.3),
-        "output" => (ways.0, ways.1, calls, ways.3),
-        "errors" => (ways.0, ways.1, ways.2, calls),
-        _ => (calls, calls, calls, calls),
-    }
+/// How the calls of a stream go.
+fn calls_in(ways: &str, stream: &str) -> Calls {
+    calls_of(given(ways, stream).unwrap_or(""))
 }
 
-/// The ways that words name: streams, and how their calls go, with semicolons between them.
-fn ways_of(words: &str) -> Ways {
-    let mut ways = CALMLY;
-    for word in words.split(';') {
-        if let Some((stream, calls)) = word.split_once(' ') {
-            ways = with(ways, stream, calls_of(calls));
-        }
-    }
-    ways
-}
-
-/// What comes of a command that is called in these ways, with a gate for the threads of a run.
+/// What comes of a command that reads a trace, and of a check that reads a log beside it, with a
+/// gate for the threads of a run. The ways name those streams, `trace`, `log`, `output` and
+/// `errors`, whose calls do not move all bytes at once.
 pub(crate) fn call<R: Threads + Wait + Sync, G: Gate + Sync>(
     rt: &R,
     gate: &G,
     alloc: Global,
-    call: Call,
-    ways: Ways,
+    command: &str,
+    (trace, log): (&[u8], &[u8]),
+    ways: &str,
 ) -> Came {
-    let mut trace = reader_of(call.1, ways.0);
-    let mut log = reader_of(call.2, ways.1);
-    let mut writer = new_writer(alloc, ways.2);
-    let mut errors = new_writer(alloc, ways.3);
-    let status = match call.0 {
+    let mut trace = reader_of(trace, calls_in(ways, "trace"));
+    let mut log = reader_of(log, calls_in(ways, "log"));
+    let mut writer = new_writer(alloc, calls_in(ways, "output"));
+    let mut errors = new_writer(alloc, calls_in(ways, "errors"));
+    let status = match command {
         "replay" => replay_command(alloc, &mut trace, &mut writer, &mut errors),
         "check" => check_command(alloc, &mut trace, &mut log, &mut writer, &mut errors),
         _ => run_command(rt, alloc, &mut trace, &mut writer, &mut errors, gate),
     };
+    let (written, told) = (written(writer), written(errors));
     Came {
         status,
-        written: written(writer),
-        told: written(errors),
+        written,
+        told,
     }
 }
 
 /// Calls a command. A row has the status, what is written, and what is told of a fault; the
-/// command, its trace and its log; and those streams whose calls do not move all bytes at once.
+/// command, its trace, its log, and its ways.
 pub(crate) fn calls<R: Threads + Wait + Sync, G: Gate + Sync>(
     rt: &R,
     gate: &G,
     alloc: Global,
-    row: Row,
+    row: Cells,
 ) -> Holds {
-    let (output, told) = (named(alloc, row.field(0))?, named(alloc, row.field(1))?);
-    let (trace, log) = (named(alloc, row.field(3))?, named(alloc, row.field(4))?);
-    let status = row.want.parse().unwrap_or(u8::MAX);
-    let came = call(
-        rt,
-        gate,
-        alloc,
-        (row.field(2), &trace, &log),
-        ways_of(row.field(5)),
-    );
-    Ok(came.is((status, &output, &told)))
+    let [status, output, told, command, trace, log, ways] = row;
+    let (trace, log) = (named(alloc, trace)?, named(alloc, log)?);
+    let came = call(rt, gate, alloc, command, (&trace, &log), ways);
+    Ok(came.is(
+        status.parse()?,
+        &named(alloc, output)?,
+        &named(alloc, told)?,
+    ))
 }

@@ -1,8 +1,6 @@
 //! Replays over memory: of each trace, and with readers and writers whose calls go wrong.
-use crate::commands::memory::{CALMLY, call, calls};
-use crate::commands::traces::{named, rows};
+use crate::commands::memory::calls;
 use crate::support::*;
-use tsc_shared::NoGate;
 
 /// Replays as [`calls`] has them, whose readers and writers go wrong.
 static FAULTS: &str = "# A byte at a time.
@@ -22,15 +20,7 @@ static FAULTS: &str = "# A byte at a time.
 
 #[test]
 fn replays_end_as_their_rows_say(rt: HostRuntime) -> Result<(), Fail> {
-    for (trace, status, said) in rows() {
-        let (text, said) = (named(rt.alloc(), trace)?, said.as_bytes());
-        let end = match status {
-            0 => (0, said, &b""[..]),
-            _ => (*status, &b""[..], said),
-        };
-        let came = call(&rt, &NoGate, rt.alloc(), ("replay", &text, b""), CALMLY);
-        assert!(rt; came.is(end), "{trace}");
-    }
-    all_hold!(rt, FAULTS, calls(&rt, &NoGate));
-    Ok(())
+    all_hold!(rt;
+        REPLAYS => calls(&rt, &NoGate), REFUSED => calls(&rt, &NoGate),
+        FAULTS => calls(&rt, &NoGate))
 }

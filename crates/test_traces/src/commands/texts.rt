@@ -1,6 +1,5 @@
 //! Replays and checks from bytes to bytes: what is said of a trace and its log, and of bytes that
 //! are neither.
-use crate::commands::traces::named;
 use crate::support::*;
 use tsc_check::{Outcome, check_bytes, replay_bytes};
 
@@ -23,30 +22,28 @@ refused|input too long|one key|16777217|one key log|0
 refused|input too long|one key|0|one key|16777217"#;
 
 /// A text with its blanks.
-fn padded(alloc: Global, text: &str, length: &str) -> Result<Vec<u8>, AllocError> {
+fn padded(alloc: Global, text: &str, length: &str) -> Result<Vec<u8>, Fail> {
     let mut bytes = named(alloc, text)?;
-    let length: usize = length.parse().unwrap_or(0);
+    let length: usize = length.parse()?;
     bytes.resize(length.max(bytes.len()), b' ')?;
     Ok(bytes)
 }
 
 /// Replays and checks bytes.
-fn says_of_bytes(alloc: Global, row: Row) -> Holds {
-    let trace = padded(alloc, row.field(1), row.field(2))?;
-    let outcome = if row.field(3) == "-" {
+fn says_of_bytes(alloc: Global, [kind, said, trace, blanks, log, log_blanks, _]: Cells) -> Holds {
+    let (trace, said) = (padded(alloc, trace, blanks)?, named(alloc, said)?);
+    let outcome = if log == "-" {
         replay_bytes(alloc, &trace)?
     } else {
-        check_bytes(alloc, &trace, &padded(alloc, row.field(3), row.field(4))?)?
+        check_bytes(alloc, &trace, &padded(alloc, log, log_blanks)?)?
     };
-    let said = named(alloc, row.field(0))?;
     Ok(match outcome {
-        Outcome::Text(text) => row.want == "text" && text.as_slice() == said.as_slice(),
-        Outcome::Refused(text) => row.want == "refused" && text.as_slice() == said.as_slice(),
+        Outcome::Text(text) => kind == "text" && text.as_slice() == said.as_slice(),
+        Outcome::Refused(text) => kind == "refused" && text.as_slice() == said.as_slice(),
     })
 }
 
 #[test]
 fn bytes_are_said_of_as_their_rows_say(rt: HostRuntime) -> Result<(), Fail> {
-    all_hold!(rt, ROWS, says_of_bytes());
-    Ok(())
+    all_hold!(rt; ROWS => says_of_bytes())
 }

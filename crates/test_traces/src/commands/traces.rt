@@ -1,4 +1,4 @@
-//! Traces, each with what comes of its replay, and traces and logs that rows name.
+//! Traces and logs that rows name, and replays.
 use crate::support::*;
 
 /// Two transactions read overlapping spans at one time. It is the trace of the program's stored
@@ -42,47 +42,33 @@ pub(crate) const TWO_READERS_LOG: &str = "0 0 add 0 1 0 0
 0 6 get 2 20.0 none
 ";
 
-pub(crate) const NO_JSON: &str = "trace refused: fault 1\n";
-
-const WRONG_CONFIG: &str = "trace refused: fault 7\n";
-
-/// The trace of the folder `examples` that is meant for a run.
-const TWO_THREADS: &str =
+/// The folder `examples`, and the program's stored run: names, and behind each its text.
+static EXAMPLES: [&str; 28] = [
+    "reads",
+    READS,
+    "reads log",
+    READS_LOG,
+    "two readers",
+    TWO_READERS,
+    "two readers log",
+    TWO_READERS_LOG,
+    "two threads",
     r#"{"page_first":132,"page_max":132,"min_pages":2,"retention":10,"low_water":[5,0],"threads":[[
 {"op":"add","span":{"start":"61","end":"63"},"time":[20,0],"owner":"11111111-1111-4111-8111-111111111111","now":[20,0]},
 {"op":"get","span":{"start":"62"}}],[
 {"op":"add","span":{"start":"62"},"time":[30,0],"owner":"22222222-2222-4222-8222-222222222222","now":[30,0]},
 {"op":"get","span":{"start":"62"}},
 {"op":"get","span":{"start":"61"}}]]}
-"#;
-
-/// A log that a run of it can have, which stands beside it.
-const TWO_THREADS_LOG: &str = "0 0 add 1 1 0 0
+"#,
+    "two threads log",
+    "0 0 add 1 1 0 0
 0 1 get 2 30.0 22222222-2222-4222-8222-222222222222
 1 0 add 0 1 0 0
 1 1 get 1 30.0 22222222-2222-4222-8222-222222222222
 1 2 get 2 20.0 11111111-1111-4111-8111-111111111111
-";
-
-/// A trace, as `named` has it, the status of its replay, and what is written, or told of a fault.
-pub(crate) type Replayed = (&'static str, u8, &'static str);
-
-static ROWS: [Replayed; 21] = [
-    (READS, 0, READS_LOG),
-    // The folder `examples`.
-    (TWO_READERS, 0, TWO_READERS_LOG),
-    (
-        TWO_THREADS,
-        0,
-        "0 0 add 0 1 0 0
-0 1 get 1 20.0 11111111-1111-4111-8111-111111111111
-1 0 add 1 1 0 0
-1 1 get 2 30.0 22222222-2222-4222-8222-222222222222
-1 2 get 2 20.0 11111111-1111-4111-8111-111111111111
 ",
-    ),
-    (
-        r#"{"page_first":264,"page_max":264,"min_pages":1,"retention":10000000000,"low_water":[5,0],"threads":[[
+    "at the floor",
+    r#"{"page_first":264,"page_max":264,"min_pages":1,"retention":10000000000,"low_water":[5,0],"threads":[[
 {"op":"low"},
 {"op":"add","span":{"start":"61"},"time":[5,0],"owner":"11111111-1111-4111-8111-111111111111","now":[20,0]},
 {"op":"get","span":{"start":"61"}},
@@ -92,8 +78,8 @@ static ROWS: [Replayed; 21] = [
 {"op":"get","span":{"start":"61"}},
 {"op":"low"}]]}
 "#,
-        0,
-        "0 0 low 0 5.0
+    "at the floor log",
+    "0 0 low 0 5.0
 0 1 add 0 0 0 0
 0 2 get 1 5.0 none
 0 3 add 1 1 0 0
@@ -102,9 +88,8 @@ static ROWS: [Replayed; 21] = [
 0 6 get 3 5.1 none
 0 7 low 3 5.0
 ",
-    ),
-    (
-        r#"{"page_first":528,"page_max":528,"min_pages":2,"retention":10,"low_water":[0,0],"threads":[[
+    "ends of spans",
+    r#"{"page_first":528,"page_max":528,"min_pages":2,"retention":10,"low_water":[0,0],"threads":[[
 {"op":"add","span":{"start":"","end":"62"},"time":[10,0],"owner":null,"now":[10,0]},
 {"op":"get","span":{"start":""}},
 {"op":"get","span":{"start":"61ff"}},
@@ -115,8 +100,8 @@ static ROWS: [Replayed; 21] = [
 {"op":"get","span":{"start":"61","end":"71"}},
 {"op":"get","span":{"start":"71","end":"61"}}]]}
 "#,
-        0,
-        "0 0 add 0 1 0 0
+    "ends of spans log",
+    "0 0 add 0 1 0 0
 0 1 get 1 10.0 none
 0 2 get 1 10.0 none
 0 3 get 1 0.0 none
@@ -126,10 +111,8 @@ static ROWS: [Replayed; 21] = [
 0 7 get 2 20.7 33333333-3333-4333-8333-333333333333
 0 8 get 2 0.0 none
 ",
-    ),
-    // Three lists, whose Adds fill a page twice: the second time the oldest one is dropped.
-    (
-        r#"{"page_first":99,"page_max":99,"min_pages":2,"retention":10,"low_water":[5,0],"threads":[[
+    "pages rotate",
+    r#"{"page_first":99,"page_max":99,"min_pages":2,"retention":10,"low_water":[5,0],"threads":[[
 {"op":"add","span":{"start":"61"},"time":[20,0],"owner":"11111111-1111-4111-8111-111111111111","now":[20,0]},
 {"op":"add","span":{"start":"62","end":"63"},"time":[20,1],"owner":"11111111-1111-4111-8111-111111111111","now":[20,0]},
 {"op":"get","span":{"start":"61"}}],[
@@ -144,8 +127,8 @@ static ROWS: [Replayed; 21] = [
 {"op":"get","span":{"start":"64"}},
 {"op":"get","span":{"start":"61","end":"69"}}]]}
 "#,
-        0,
-        "0 0 add 0 1 0 0
+    "pages rotate log",
+    "0 0 add 0 1 0 0
 0 1 add 1 1 0 0
 0 2 get 2 20.0 11111111-1111-4111-8111-111111111111
 1 0 add 2 1 1 0
@@ -159,10 +142,8 @@ static ROWS: [Replayed; 21] = [
 2 3 get 5 25.0 22222222-2222-4222-8222-222222222222
 2 4 get 5 42.0 33333333-3333-4333-8333-333333333333
 ",
-    ),
-    // Batches: each counts as one Add, also one without marks.
-    (
-        r#"{"page_first":132,"page_max":132,"min_pages":2,"retention":10,"low_water":[5,0],"threads":[[
+    "several spans",
+    r#"{"page_first":132,"page_max":132,"min_pages":2,"retention":10,"low_water":[5,0],"threads":[[
 {"op":"batch","marks":[
 {"span":{"start":"61","end":"63"},"time":[20,0],"owner":"11111111-1111-4111-8111-111111111111"},
 {"span":{"start":"64"},"time":[20,0],"owner":"11111111-1111-4111-8111-111111111111"},
@@ -179,8 +160,8 @@ static ROWS: [Replayed; 21] = [
 {"op":"get","span":{"start":"61"}},
 {"op":"low"}]]}
 "#,
-        0,
-        "0 0 batch 0 1 0 0
+    "several spans log",
+    "0 0 batch 0 1 0 0
 0 1 get 1 20.0 none
 0 2 get 1 20.0 11111111-1111-4111-8111-111111111111
 0 3 get 1 5.0 none
@@ -191,176 +172,95 @@ static ROWS: [Replayed; 21] = [
 0 8 get 4 20.0 none
 0 9 low 4 5.0
 ",
-    ),
-    // A batch of which one mark is too large.
-    (
-        r#"{"page_first":64,"page_max":65,"min_pages":2,"retention":10,"low_water":[5,0],"threads":[[
-{"op":"batch","marks":[
-{"span":{"start":"61"},"time":[20,0]},
-{"span":{"start":"61","end":"62"},"time":[5,0]}],"now":[20,0]}]]}"#,
-        1,
-        "trace refused: fault 9 at call 1\n",
-    ),
-    // Pages that double: for two keys, four and eight.
-    (
-        r#"{"page_first":66,"page_max":264,"min_pages":2,"retention":10,"low_water":[5,0],"threads":[[
-{"op":"add","span":{"start":"61"},"time":[20,0],"now":[20,0]},
-{"op":"add","span":{"start":"62"},"time":[20,0],"now":[20,0]},
-{"op":"add","span":{"start":"63"},"time":[20,0],"now":[20,0]},
-{"op":"add","span":{"start":"64"},"time":[20,0],"now":[20,0]},
-{"op":"add","span":{"start":"65"},"time":[20,0],"now":[20,0]},
-{"op":"add","span":{"start":"66"},"time":[20,0],"now":[20,0]},
-{"op":"add","span":{"start":"67"},"time":[20,0],"now":[20,0]},
-{"op":"get","span":{"start":"61","onward":"["}}]]}"#,
-        0,
-        "0 0 add 0 1 0 0
-0 1 add 1 1 0 0
-0 2 add 2 1 1 0
-0 3 add 3 1 0 0
-0 4 add 4 1 0 0
-0 5 add 5 1 0 0
-0 6 add 6 1 1 0
-0 7 get 7 20.0 none
-",
-    ),
-    // The last timestamp.
-    (
-        r#"{"page_first":132,"page_max":132,"min_pages":2,"retention":10,"low_water":[5,0],"threads":[[
-{"op":"add","span":{"start":"61"},"time":[9223372036854775807,2147483647],"owner":"11111111-1111-4111-8111-111111111111","now":[20,0]},
-{"op":"get","span":{"start":"61"}}]]}"#,
-        0,
-        "0 0 add 0 1 0 0
-0 1 get 1 9223372036854775807.2147483647 11111111-1111-4111-8111-111111111111
-",
-    ),
-    // No calls.
-    ("[[]]", 0, ""),
-    // No JSON.
-    ("", 1, NO_JSON),
-    (r#"{"page_first":132"#, 1, NO_JSON),
-    // A wrong head.
-    ("[]", 1, "trace refused: fault 2 at call 0\n"),
-    (
-        r#"{"page_first":4294967296,"page_max":132,"min_pages":2,"retention":10,"low_water":[5,0],"threads":[[]]}"#,
-        1,
-        "trace refused: fault 3 at call 0\n",
-    ),
-    // A member of the head that there is none of.
-    (
-        r#"{"page_nodes":4,"min_pages":2,"retention":10,"low_water":[5,0],"threads":[[]]}"#,
-        1,
-        "trace refused: fault 2 at call 0\n",
-    ),
-    // A wrong configuration, or no list.
-    (
-        r#"{"page_first":63,"page_max":132,"min_pages":2,"retention":10,"low_water":[5,0],"threads":[[]]}"#,
-        1,
-        WRONG_CONFIG,
-    ),
-    (
-        r#"{"page_first":132,"page_max":132,"min_pages":2,"retention":10,"low_water":[5,0],"threads":[]}"#,
-        1,
-        WRONG_CONFIG,
-    ),
-    // Wrong calls.
-    (
-        r#"[[{"op":"low","x":1}]]"#,
-        1,
-        "trace refused: fault 2 at call 1\n",
-    ),
-    (
-        r#"[[{"op":"low"},
-{"op":"get","span":{"start":"6g"}}]]"#,
-        1,
-        "trace refused: fault 4 at call 2\n",
-    ),
-    (
-        r#"{"page_first":64,"page_max":64,"min_pages":2,"retention":10,"low_water":[5,0],"threads":[[
-{"op":"get","span":{"start":"61","end":"63"}}],[
-{"op":"add","span":{"start":"61","end":"63"},"time":[20,0],"now":[20,0]}]]}"#,
-        1,
-        "trace refused: fault 9 at call 2\n",
-    ),
 ];
 
-/// The rows of all commands. Whatever names a table has all its texts to prove.
-pub(crate) fn rows() -> &'static [Replayed] {
-    &ROWS
-}
+/// Other traces and logs, by their names.
+static SCENES: &str = r#"usage|usage: tscache replay FILE, run FILE or check FILE LOG¶
+# Two lists add the same key, and a third asks for it.
+race|[[{"op":"add","span":{"start":"61"},"time":[20,0],"owner":"¹","now":[20,0]}],¶[{"op":"add","span":{"start":"61"},"time":[30,0],"owner":"²","now":[20,0]}],¶[{"op":"get","span":{"start":"61"}}]]
+race log|0 0 add 0 1 0 0¶1 0 add 1 1 0 0¶2 0 get 1 20.0 ¹¶
+# Two lists add two keys together, and a third asks for both.
+batch race|[[{"op":"batch","marks":[{"span":{"start":"61"},"time":[20,0],"owner":"¹"},{"span":{"start":"62"},"time":[20,0],"owner":"¹"}],"now":[20,0]}],¶[{"op":"batch","marks":[{"span":{"start":"61"},"time":[30,0],"owner":"²"},{"span":{"start":"62"},"time":[30,0],"owner":"²"}],"now":[20,0]}],¶[{"op":"get","span":{"start":"61","end":"63"}}]]
+one key|[[{"op":"add","span":{"start":"61"},"time":[20,0],"now":[20,0]},{"op":"get","span":{"start":"61"}}]]
+one key log|0 0 add 0 1 0 0¶0 1 get 1 20.0 none¶
+# One list adds a key and asks for it, by an Add and by a batch.
+one list|[[{"op":"add","span":{"start":"61"},"time":[20,0],"owner":"¹","now":[20,0]},¶{"op":"get","span":{"start":"61"}}]]
+one batch|[[{"op":"batch","marks":[{"span":{"start":"61"},"time":[20,0]}],"now":[20,0]},¶{"op":"get","span":{"start":"61"}}]]
+# One list adds two keys together, and the other asks for both.
+batch and get|[[{"op":"batch","marks":[{"span":{"start":"61"},"time":[20,0],"owner":"¹"},{"span":{"start":"62"},"time":[30,0],"owner":"²"}],"now":[20,0]}],¶[{"op":"get","span":{"start":"61","end":"63"}}]]
+# A batch for which the pages rotate three times, and of which two rotations drop a page.
+batch over pages|[[{"op":"batch","marks":[{"span":{"start":"61"},"time":[20,0]},¶{"span":{"start":"62"},"time":[20,0]},¶{"span":{"start":"63"},"time":[20,0]},¶{"span":{"start":"64"},"time":[20,0]},¶{"span":{"start":"65"},"time":[20,0]},¶{"span":{"start":"66"},"time":[20,0]},¶{"span":{"start":"67"},"time":[20,0]},¶{"span":{"start":"68"},"time":[20,0]},¶{"span":{"start":"69"},"time":[41,0]},¶{"span":{"start":"6a"},"time":[41,0]},¶{"span":{"start":"6b"},"time":[41,0]},¶{"span":{"start":"6c"},"time":[41,0]},¶{"span":{"start":"6d"},"time":[41,0]},¶{"span":{"start":"6e"},"time":[41,0]}],"now":[40,0]},¶{"op":"low"}]]"#;
 
-/// The traces and logs that rows name.
-static SCENES: [(&str, &str); 15] = [
-    ("reads", READS),
-    ("reads log", READS_LOG),
-    ("two readers", TWO_READERS),
-    ("two readers log", TWO_READERS_LOG),
-    ("two threads", TWO_THREADS),
-    ("two threads log", TWO_THREADS_LOG),
-    // Two lists add the same key, and a third asks for it.
-    (
-        "race",
-        r#"[[{"op":"add","span":{"start":"61"},"time":[20,0],"owner":"¹","now":[20,0]}],
-[{"op":"add","span":{"start":"61"},"time":[30,0],"owner":"²","now":[20,0]}],
-[{"op":"get","span":{"start":"61"}}]]"#,
-    ),
-    (
-        "race log",
-        "0 0 add 0 1 0 0¶1 0 add 1 1 0 0¶2 0 get 1 20.0 ¹¶",
-    ),
-    // Two lists add two keys together, and a third asks for both.
-    (
-        "batch race",
-        r#"[[{"op":"batch","marks":[{"span":{"start":"61"},"time":[20,0],"owner":"¹"},{"span":{"start":"62"},"time":[20,0],"owner":"¹"}],"now":[20,0]}],
-[{"op":"batch","marks":[{"span":{"start":"61"},"time":[30,0],"owner":"²"},{"span":{"start":"62"},"time":[30,0],"owner":"²"}],"now":[20,0]}],
-[{"op":"get","span":{"start":"61","end":"63"}}]]"#,
-    ),
-    (
-        "one key",
-        r#"[[{"op":"add","span":{"start":"61"},"time":[20,0],"now":[20,0]},{"op":"get","span":{"start":"61"}}]]"#,
-    ),
-    ("one key log", "0 0 add 0 1 0 0¶0 1 get 1 20.0 none¶"),
-    // One list adds a key and asks for it, by an Add and by a batch.
-    (
-        "one list",
-        r#"[[{"op":"add","span":{"start":"61"},"time":[20,0],"owner":"¹","now":[20,0]},
-{"op":"get","span":{"start":"61"}}]]"#,
-    ),
-    (
-        "one batch",
-        r#"[[{"op":"batch","marks":[{"span":{"start":"61"},"time":[20,0]}],"now":[20,0]},
-{"op":"get","span":{"start":"61"}}]]"#,
-    ),
-    // One list adds two keys together, and the other asks for both.
-    (
-        "batch and get",
-        r#"[[{"op":"batch","marks":[{"span":{"start":"61"},"time":[20,0],"owner":"¹"},{"span":{"start":"62"},"time":[30,0],"owner":"²"}],"now":[20,0]}],
-[{"op":"get","span":{"start":"61","end":"63"}}]]"#,
-    ),
-    // A batch for which the pages rotate three times, and of which two rotations drop a page.
-    (
-        "batch over pages",
-        r#"[[{"op":"batch","marks":[{"span":{"start":"61"},"time":[20,0]},
-{"span":{"start":"62"},"time":[20,0]},
-{"span":{"start":"63"},"time":[20,0]},
-{"span":{"start":"64"},"time":[20,0]},
-{"span":{"start":"65"},"time":[20,0]},
-{"span":{"start":"66"},"time":[20,0]},
-{"span":{"start":"67"},"time":[20,0]},
-{"span":{"start":"68"},"time":[20,0]},
-{"span":{"start":"69"},"time":[41,0]},
-{"span":{"start":"6a"},"time":[41,0]},
-{"span":{"start":"6b"},"time":[41,0]},
-{"span":{"start":"6c"},"time":[41,0]},
-{"span":{"start":"6d"},"time":[41,0]},
-{"span":{"start":"6e"},"time":[41,0]}],"now":[40,0]},
-{"op":"low"}]]"#,
-    ),
-];
+/// Traces that are replayed to their ends, with the calls of other commands: the status, what is
+/// written, what is told of a fault, the command, and the trace.
+pub(crate) static REPLAYS: &str = r#"0|reads log||replay|reads
+0|two readers log||replay|two readers
+0|0 0 add 0 1 0 0¶0 1 get 1 20.0 ¹¶1 0 add 1 1 0 0¶1 1 get 2 30.0 ²¶1 2 get 2 20.0 ¹¶||replay|two threads
+0|at the floor log||replay|at the floor
+0|ends of spans log||replay|ends of spans
+# Three lists, whose Adds fill a page twice: the second time the oldest one is dropped.
+0|pages rotate log||replay|pages rotate
+# Batches: each counts as one Add, also one without marks.
+0|several spans log||replay|several spans
+# Pages that double: for two keys, four and eight.
+0|0 0 add 0 1 0 0¶0 1 add 1 1 0 0¶0 2 add 2 1 1 0¶0 3 add 3 1 0 0¶0 4 add 4 1 0 0¶0 5 add 5 1 0 0¶0 6 add 6 1 1 0¶0 7 get 7 20.0 none¶||replay|~page_first 66;page_max 264~[[¶{"op":"add","span":{"start":"61"},"time":[20,0],"now":[20,0]},¶{"op":"add","span":{"start":"62"},"time":[20,0],"now":[20,0]},¶{"op":"add","span":{"start":"63"},"time":[20,0],"now":[20,0]},¶{"op":"add","span":{"start":"64"},"time":[20,0],"now":[20,0]},¶{"op":"add","span":{"start":"65"},"time":[20,0],"now":[20,0]},¶{"op":"add","span":{"start":"66"},"time":[20,0],"now":[20,0]},¶{"op":"add","span":{"start":"67"},"time":[20,0],"now":[20,0]},¶{"op":"get","span":{"start":"61","onward":"["}}]]
+# The last timestamp.
+0|0 0 add 0 1 0 0¶0 1 get 1 9223372036854775807.2147483647 ¹¶||replay|[[¶{"op":"add","span":{"start":"61"},"time":[9223372036854775807,2147483647],"owner":"¹","now":[20,0]},¶{"op":"get","span":{"start":"61"}}]]
+# No calls.
+0|||replay|[[]]
+0|||replay|[[],[]]
+# The lists of a trace come one after another.
+0|0 0 add 0 1 0 0¶1 0 get 1 20.0 ¹¶1 1 low 1 5.0¶||replay|[[{"op":"add","span":{"start":"61"},"time":[20,0],"owner":"¹","now":[20,0]}],¶[{"op":"get","span":{"start":"61"}},{"op":"low"}]]
+0|0 0 add 0 1 0 0¶1 0 add 1 1 0 0¶2 0 get 2 30.0 ²¶||replay|[[{"op":"add","span":{"start":"61"},"time":[20,0],"owner":"¹","now":[20,0]}],¶[{"op":"add","span":{"start":"61"},"time":[30,0],"owner":"²","now":[20,0]}],¶[{"op":"get","span":{"start":"61"}}]]
+# The pages rotate twice, and the second time the oldest one is dropped.
+0|0 0 add 0 1 0 0¶0 1 add 1 1 0 0¶0 2 add 2 1 0 0¶0 3 add 3 1 0 0¶0 4 add 4 1 1 0¶0 5 add 5 1 0 0¶0 6 add 6 1 0 0¶0 7 add 7 1 0 0¶0 8 add 8 1 1 1¶0 9 get 9 20.0 none¶0 10 low 9 20.0¶||replay|[[{"op":"add","span":{"start":"61"},"time":[20,0],"owner":"¹","now":[20,0]},¶{"op":"add","span":{"start":"62"},"time":[20,0],"owner":"¹","now":[20,0]},¶{"op":"add","span":{"start":"63"},"time":[20,0],"owner":"¹","now":[20,0]},¶{"op":"add","span":{"start":"64"},"time":[20,0],"owner":"¹","now":[20,0]},¶{"op":"add","span":{"start":"65"},"time":[20,0],"owner":"¹","now":[20,0]},¶{"op":"add","span":{"start":"66"},"time":[41,0],"owner":"¹","now":[40,0]},¶{"op":"add","span":{"start":"67"},"time":[41,0],"owner":"¹","now":[40,0]},¶{"op":"add","span":{"start":"68"},"time":[41,0],"owner":"¹","now":[40,0]},¶{"op":"add","span":{"start":"69"},"time":[41,0],"owner":"¹","now":[40,0]},¶{"op":"get","span":{"start":"61"}},¶{"op":"low"}]]
+# A range without its ends, and one without an end.
+0|0 0 add 0 1 0 0¶0 1 get 1 5.0 none¶0 2 get 1 20.0 ¹¶0 3 add 1 1 0 0¶0 4 get 2 20.0 ¹¶0 5 get 2 20.0 ¹¶0 6 get 2 5.0 none¶0 7 get 2 20.0 ¹¶||replay|[[{"op":"add","span":{"start":"61","end":"63","ends":"()"},"time":[20,0],"owner":"¹","now":[20,0]},¶{"op":"get","span":{"start":"61"}},¶{"op":"get","span":{"start":"62"}},¶{"op":"add","span":{"start":"6d","onward":"["},"time":[20,0],"owner":"¹","now":[20,0]},¶{"op":"get","span":{"start":"ff"}},¶{"op":"get","span":{"start":"6d"}},¶{"op":"get","span":{"start":"6c"}},¶{"op":"get","span":{"start":"7a","onward":"["}}]]
+# The latest time there is, and a lookup of an inverted range.
+0|0 0 get 0 5.0 none¶0 1 add 0 1 0 0¶0 2 get 1 9223372036854775807.2147483647 none¶||replay|[[{"op":"get","span":{"start":"63","end":"61"}},¶{"op":"add","span":{"start":"61"},"time":[9223372036854775807,2147483647],"now":[0,0]},¶{"op":"get","span":{"start":"61","end":"63"}}]]
+# A batch of three marks at one moment, of which the last two overlap the first or one another.
+0|0 0 batch 0 1 0 0¶0 1 get 1 20.0 none¶0 2 get 1 20.0 ²¶0 3 get 1 5.0 none¶||replay|[[{"op":"batch","marks":[{"span":{"start":"61"},"time":[20,0],"owner":"¹"},¶{"span":{"start":"62"},"time":[20,0],"owner":"²"},¶{"span":{"start":"61","end":"63"},"time":[20,0],"owner":"²"}],"now":[20,0]},¶{"op":"get","span":{"start":"61"}},¶{"op":"get","span":{"start":"62"}},¶{"op":"get","span":{"start":"63"}}]]
+# The pages rotate within a batch; one without marks, and one of which no mark is kept, count as Adds too.
+0|0 0 batch 0 1 1 0¶0 1 batch 1 0 0 0¶0 2 batch 2 0 0 0¶0 3 low 3 5.0¶||replay|[[{"op":"batch","marks":[{"span":{"start":"61"},"time":[20,0],"owner":"¹"},¶{"span":{"start":"62"},"time":[20,0],"owner":"¹"},¶{"span":{"start":"63"},"time":[20,0],"owner":"¹"},¶{"span":{"start":"64"},"time":[20,0],"owner":"¹"},¶{"span":{"start":"65"},"time":[20,0],"owner":"¹"}],"now":[20,0]},¶{"op":"batch","marks":[],"now":[20,0]},¶{"op":"batch","marks":[{"span":{"start":"61"},"time":[5,0],"owner":"¹"},¶{"span":{"start":"61","end":"61","ends":"()"},"time":[20,0],"owner":"¹"}],"now":[20,0]},¶{"op":"low"}]]
+# A batch over three rotations, of which two drop a page, and a mark behind them.
+0|0 0 batch 0 1 1 2¶0 1 get 1 20.0 none¶0 2 get 1 41.0 none¶0 3 low 1 20.0¶||replay|[[{"op":"batch","marks":[{"span":{"start":"61"},"time":[20,0]},¶{"span":{"start":"62"},"time":[20,0]},¶{"span":{"start":"63"},"time":[20,0]},¶{"span":{"start":"64"},"time":[20,0]},¶{"span":{"start":"65"},"time":[20,0]},¶{"span":{"start":"66"},"time":[20,0]},¶{"span":{"start":"67"},"time":[20,0]},¶{"span":{"start":"68"},"time":[20,0]},¶{"span":{"start":"69"},"time":[41,0]},¶{"span":{"start":"6a"},"time":[41,0]},¶{"span":{"start":"6b"},"time":[41,0]},¶{"span":{"start":"6c"},"time":[41,0]},¶{"span":{"start":"6d"},"time":[41,0]},¶{"span":{"start":"6e"},"time":[41,0]}],"now":[40,0]},¶{"op":"get","span":{"start":"61"}},¶{"op":"get","span":{"start":"69"}},¶{"op":"low"}]]
+# A mark of an owner that is null, and batches beside Adds in another list.
+0|0 0 batch 0 1 0 0¶0 1 get 1 20.0 none¶1 0 add 1 1 0 0¶1 1 batch 2 0 0 0¶1 2 low 3 5.0¶||replay|[[{"op":"batch","marks":[{"span":{"start":"61"},"time":[20,0],"owner":null}],"now":[20,0]},¶{"op":"get","span":{"start":"61"}}],¶[{"op":"add","span":{"start":"61"},"time":[30,0],"now":[20,0]},¶{"op":"batch","marks":[],"now":[20,0]},¶{"op":"low"}]]
+# A batch without marks before all else.
+0|0 0 batch 0 0 0 0¶0 1 low 1 5.0¶||replay|[[{"op":"batch","marks":[],"now":[20,0]},{"op":"low"}]]"#;
+
+/// Traces that are refused, in the same form.
+pub(crate) static REFUSED: &str = r#"# A batch of which one mark is too large.
+1||trace refused: fault 9 at call 1¶|replay|~page_first 64;page_max 65~[[¶{"op":"batch","marks":[¶{"span":{"start":"61"},"time":[20,0]},¶{"span":{"start":"61","end":"62"},"time":[5,0]}],"now":[20,0]}]]
+# No JSON.
+1||trace refused: fault 1¶|replay|
+1||trace refused: fault 1¶|replay|{"page_first":132
+# A wrong head.
+1||trace refused: fault 2 at call 0¶|replay|[]
+1||trace refused: fault 3 at call 0¶|replay|~page_first 4294967296~[[]]
+# A member of the head that there is none of.
+1||trace refused: fault 2 at call 0¶|replay|{"page_nodes":4,"min_pages":2,"retention":10,"low_water":[5,0],"threads":[[]]}
+# A wrong configuration, or no list.
+1||trace refused: fault 7¶|replay|~page_first 63~[[]]
+1||trace refused: fault 7¶|replay|~~[]
+# Wrong calls.
+1||trace refused: fault 2 at call 1¶|replay|[[{"op":"low","x":1}]]
+1||trace refused: fault 4 at call 2¶|replay|[[{"op":"low"},¶{"op":"get","span":{"start":"6g"}}]]
+1||trace refused: fault 9 at call 2¶|replay|~page_first 64;page_max 64~[[¶{"op":"get","span":{"start":"61","end":"63"}}],[¶{"op":"add","span":{"start":"61","end":"63"},"time":[20,0],"now":[20,0]}]]"#;
 
 /// The bytes of a trace or a log that a row names, or else writes.
 pub(crate) fn named(alloc: Global, text: &str) -> Result<Vec<u8>, AllocError> {
-    for (name, scene) in &SCENES {
-        if *name == text {
+    let mut is_named = false;
+    for example in &EXAMPLES {
+        if is_named {
+            return Vec::from_slice(alloc, example.as_bytes());
+        }
+        is_named = *example == text;
+    }
+    for scene in SCENES.lines() {
+        if let Some((name, scene)) = scene.split_once('|')
+            && name == text
+        {
             return trace_of(alloc, HEAD, scene);
         }
     }

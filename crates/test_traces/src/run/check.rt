@@ -1,5 +1,4 @@
 //! Checks of logs against their traces.
-use crate::commands::traces::named;
 use crate::support::*;
 use tsc_check::check;
 use tsc_time::NoMemory;
@@ -50,28 +49,25 @@ static LOGS: &str =
 wrong answer 2|reads|0 0 add 0 1 0 0¶0 1 get 1 20.0 none¶0 2 get 1 5.0 none¶0 3 add 1 1 0 0¶0 4 get 2 20.0 none¶0 5 low 2 5.0¶";
 
 /// Checks logs. Where memory is refused, and a check may be made again, that succeeds.
-fn checks_logs(again: bool, alloc: Global, row: Row) -> Holds {
-    let trace = read_trace(alloc, &named(alloc, row.field(0))?)?;
-    let log = read_log(alloc, &bytes_of(alloc, row.field(1))?)?;
+fn checks_logs(again: bool, alloc: Global, [wanted, trace, log, ..]: Cells) -> Holds {
+    let trace = read_trace(alloc, &named(alloc, trace)?)?;
+    let log = read_log(alloc, &bytes_of(alloc, log)?)?;
     let verdict = match check(alloc, &trace, &log) {
-        Err(NoMemory) if again => match check(alloc, &trace, &log) {
-            Ok(verdict) => verdict,
-            Err(NoMemory) => return Err(Fail::from("a check was refused again")),
-        },
+        Err(NoMemory) if again => check(alloc, &trace, &log)
+            .ok()
+            .ok_or("a check was refused again")?,
         verdict => verdict?,
     };
-    Ok(format!(in alloc; "{verdict}")?.as_str() == row.want)
+    Ok(format!(in alloc; "{verdict}")?.as_str() == wanted)
 }
 
 #[test]
 fn checks(rt: HostRuntime) -> Result<(), Fail> {
-    all_hold!(rt, CHECKS, checks_logs(false));
-    Ok(())
+    all_hold!(rt; CHECKS => checks_logs(false))
 }
 
 /// For `scripts/refuse-each-growth`.
 #[test]
 fn a_refused_check_can_be_made_again(rt: HostRuntime) -> Result<(), Fail> {
-    all_hold!(rt, LOGS, checks_logs(true));
-    Ok(())
+    all_hold!(rt; LOGS => checks_logs(true))
 }

@@ -52,9 +52,6 @@ static VERDICTS: [(Verdict, &str); 4] = [
 ];
 
 #[test]
-fn texts_of_runs_and_checks(rt: HostRuntime) {
-    none(&rt, first_other(rt.alloc(), &RUN_FAULTS));
-    none(&rt, first_other(rt.alloc(), &RUN_STOPS));
-    none(&rt, first_other(rt.alloc(), &CHECK_FAULTS));
-    none(&rt, first_other(rt.alloc(), &VERDICTS));
+fn texts_of_runs_and_checks(rt: HostRuntime) -> Result<(), Fail> {
+    all_are_told!(rt; RUN_FAULTS, RUN_STOPS, CHECK_FAULTS, VERDICTS)
 }

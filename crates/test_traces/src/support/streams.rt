@@ -10,7 +10,6 @@ pub(crate) type Calls = (usize, FaultPlan);
 pub(crate) const CALM: Calls = (65_536, FaultPlan::Never);
 
 pub(crate) type Reader<'a> = Limited<FaultyStream<&'a [u8]>>;
-
 /// A writer that keeps what was written.
 pub(crate) type Writer = Limited<FaultyStream<Vec<u8>>>;
 

@@ -4,41 +4,21 @@ use std::sync::atomic::AtomicU64;
 use std::sync::atomic::Ordering::SeqCst;
 use std::thread;
 use tsc_shared::Gate;
-
-/// What a thread waits for.
-#[derive(Clone, Copy)]
-pub(crate) enum Rule {
-    /// Nothing.
-    Free,
-    /// The first call of each list, until those of so many lists are there.
-    Together(u64),
-    /// The first call of each list, until as many calls are done as there are lists before it.
-    InTurn,
-    /// Each Add before it can be seen, until the first call of the second list is done; and that
-    /// one, until an Add is held up.
-    Unseen,
-}
-
-impl Rule {
-    /// The rule of some words.
-    pub(crate) fn of(words: &str) -> Rule {
-        match words {
-            "free" => Rule::Free,
-            "in turn" => Rule::InTurn,
-            "unseen" => Rule::Unseen,
-            lists => Rule::Together(lists.parse().unwrap_or(0)),
-        }
-    }
-}
+use tsc_stream::Progress;
 
 /// How often a thread looks whether what it waits for has come.
 const TURNS: u32 = 10_000_000;
 
 /// Holds threads up, and counts what it is told: of a list a call is started at an even count, and
 /// done at the next one.
+///
+/// By the rule `free` a thread waits for nothing. By a number it waits before the first call of its
+/// list until those of so many lists are there, and by `in turn` until as many calls are done as
+/// there are lists before it. By `unseen` each Add waits, before it can be seen, until the first
+/// call of the second list is done; and that one, until an Add is held up.
 #[derive(Drop)]
 pub(crate) struct Watch {
-    rule: Rule,
+    rule: &'static str,
     met: AtomicU64,
     started: AtomicU64,
     done: AtomicU64,
@@ -50,7 +30,7 @@ pub(crate) struct Watch {
 }
 
 impl Watch {
-    pub(crate) fn new(rule: Rule) -> Watch {
+    pub(crate) fn new(rule: &'static str) -> Watch {
         Watch {
             rule,
             met: AtomicU64::new(0),
@@ -92,10 +72,8 @@ impl Watch {
 
     /// Whether each call that was started is done, and all was told in its order.
     pub(crate) fn is_in_order(&self) -> bool {
-        self.first.load(SeqCst) % 2 == 0
-            && self.second.load(SeqCst) % 2 == 0
-            && self.others.load(SeqCst) % 2 == 0
-            && self.wrong.load(SeqCst) == 0
+        let told = self.first.load(SeqCst) | self.second.load(SeqCst) | self.others.load(SeqCst);
+        told % 2 == 0 && self.wrong.load(SeqCst) == 0
     }
 
     /// How many threads saw what they waited for, what was told of the first list, of the second
@@ -103,8 +81,10 @@ impl Watch {
     pub(crate) fn told(&self, alloc: Global) -> Result<String, AllocError> {
         let (met, published) = (self.met.load(SeqCst), self.published.load(SeqCst));
         let (first, second) = (self.first.load(SeqCst), self.second.load(SeqCst));
-        let others = self.others.load(SeqCst);
-        format!(in alloc; "{met} {first} {second} {others} {published}")
+        format!(in alloc;
+            "{met} {first} {second} {} {published}",
+            self.others.load(SeqCst)
+        )
     }
 }
 
@@ -116,10 +96,10 @@ impl Gate for Watch {
         }
         self.started.fetch_add(1, SeqCst);
         match self.rule {
-            Rule::Together(lists) => self.wait_for(&self.started, lists),
-            Rule::InTurn => self.wait_for(&self.done, u64::from(thread)),
-            Rule::Unseen if thread == 1 => self.wait_for(&self.published, 1),
-            _ => {}
+            "in turn" => self.wait_for(&self.done, u64::from(thread)),
+            "unseen" if thread == 1 => self.wait_for(&self.published, 1),
+            "free" | "unseen" => {}
+            lists => self.wait_for(&self.started, lists.parse().unwrap_or(u64::MAX)),
         }
     }
 
@@ -133,9 +113,16 @@ impl Gate for Watch {
         if seat < 2 && self.of(seat).load(SeqCst) % 2 == 0 {
             self.wrong.fetch_add(1, SeqCst);
         }
-        if let Rule::Unseen = self.rule {
+        if self.rule == "unseen" {
             // The second list was told of its first call's start and end.
             self.wait_for(&self.second, 2);
         }
+    }
+}
+
+/// Calls of no list count with those of others.
+impl Progress for Watch {
+    fn made(&self) {
+        self.others.fetch_add(1, SeqCst);
     }
 }

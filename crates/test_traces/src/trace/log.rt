@@ -109,24 +109,19 @@ long|0 0 low 0 5.0¶×65537
 1|x¶¦0 0 low 0 5.0¶×65536";
 
 /// Reads logs, and writes them again.
-fn reads_logs(alloc: Global, row: Row) -> Holds {
-    let text = bytes_of(alloc, row.of)?;
-    let log = match read_log(alloc, &text) {
-        Ok(log) => log,
-        Err(LogFault::Text(line)) => return Ok(row.want.parse().unwrap_or(0) == line),
-        Err(fault) => return Ok(row.want == "long" && fault == LogFault::Length),
-    };
-    let written = log_text(alloc, &log)?;
-    let lines = log.lines.slice().len();
-    let is_counted = match row.want.strip_prefix("reads ") {
-        Some(count) => count.parse().unwrap_or(usize::MAX) == lines,
-        None => false,
-    };
-    Ok(is_counted && written.as_slice() == text.as_slice())
+fn reads_logs(alloc: Global, [wanted, text, ..]: Cells) -> Holds {
+    let text = bytes_of(alloc, text)?;
+    match read_log(alloc, &text) {
+        Ok(log) => {
+            let told = format!(in alloc; "reads {}", log.lines.slice().len())?;
+            Ok(told.as_str() == wanted && log_text(alloc, &log)?.as_slice() == text.as_slice())
+        }
+        Err(LogFault::Text(line)) => Ok(format!(in alloc; "{line}")?.as_str() == wanted),
+        Err(fault) => Ok(wanted == "long" && fault == LogFault::Length),
+    }
 }
 
 #[test]
 fn reads_texts(rt: HostRuntime) -> Result<(), Fail> {
-    all_hold!(rt, TEXTS, reads_logs());
-    Ok(())
+    all_hold!(rt; TEXTS => reads_logs())
 }

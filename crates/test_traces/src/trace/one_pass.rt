@@ -2,7 +2,6 @@
 //!
 //! No contract says that anything is read in one pass: that always none is given would keep each.
 //! So it is counted here.
-use crate::commands::traces::{named, rows};
 use crate::support::*;
 use crate::trace::readers::read_once;
 
@@ -31,7 +30,7 @@ same|[[¦{"op":"batch","marks":[],"now":[0,0]},×100¦{"op":"low"}], [ ]]
 same|[[{"op":"batch","now":[20,0],"marks":[¦{"span":{"start":""},"time":[1,0]},×1023¦{"span":{"start":""},"time":[1,0]}]}]]
 same|[[¦{"op":"low"},×65535¦{"op":"low"}]]
 none|[[],¦[],×63¦[]]
-none|{"page_first":66,"page_max":264,"min_pages":2,"retention":10,"low_water":[5,0],"threads":[]}
+none|~~[]
 none|[[]]} ¦
 none|[[]],"more":1
 none|[[{"op":"x"}]]
@@ -50,21 +49,17 @@ none|{"low_water":[5,0],"page_first":66,"page_max":264,"min_pages":0,"retention"
 none|{"low_water":[5,0],"page_first":66,"min_pages":2,"retention":10,"threads":[[]]}"#;
 
 /// Reads traces in one pass.
-fn reads_once(alloc: Global, row: Row) -> Holds {
-    let read = read_once(alloc, &trace_of(alloc, NARROW, row.of)?)?;
-    Ok(match row.want {
-        "same" => read == Some(true),
-        "none" => read.is_none(),
-        _ => false,
-    })
+fn reads_once(alloc: Global, [wanted, text, ..]: Cells) -> Holds {
+    let same = read_once(alloc, &trace_of(alloc, NARROW, text)?)?;
+    Ok((wanted == "same" && same == Some(true)) || (wanted == "none" && same.is_none()))
+}
+
+/// Reads traces that are replayed to their ends.
+fn reads_replayed(alloc: Global, [status, _, _, _, trace, ..]: Cells) -> Holds {
+    Ok(status != "0" || read_once(alloc, &named(alloc, trace)?)? == Some(true))
 }
 
 #[test]
 fn reads_what_has_no_fault_in_one_pass(rt: HostRuntime) -> Result<(), Fail> {
-    all_hold!(rt, TRACES, reads_once());
-    for (trace, status, _) in rows() {
-        let read = read_once(rt.alloc(), &named(rt.alloc(), trace)?)?;
-        assert!(rt; read == Some(true) || *status != 0, "{trace}");
-    }
-    Ok(())
+    all_hold!(rt; TRACES => reads_once(), REPLAYS => reads_replayed())
 }

@@ -14,13 +14,9 @@ static OBJECTS: &str =
 6|[[{"op":"get","span":◊}]]|"start":"61";"end":"63";"ends":"(]"
 2|[[{"op":"add","time":[20,1],"now":[21,2],"span":◊}]]|"start":"61";"onward":"[""#;
 
-/// The members in the order that a number stands for: each is put at a place among those before it,
-/// which is a digit of the number.
-fn in_order(
-    alloc: Global,
-    members: &'static str,
-    number: usize,
-) -> Result<Vec<&'static str>, AllocError> {
+/// An object with its members in the order that a number stands for: each is put at a place among
+/// those before it, which is a digit of the number.
+fn in_order(alloc: Global, members: &'static str, number: usize) -> Result<String, AllocError> {
     let mut order = Vec::new(alloc);
     let mut left = number;
     for (i, member) in members.split(';').enumerate() {
@@ -29,31 +25,23 @@ fn in_order(
         order.insert(place, member)?;
         left /= places;
     }
-    Ok(order)
-}
-
-/// The text of an object with its members in such an order, in its place.
-fn text_of(alloc: Global, row: Row, number: usize) -> Result<String, AllocError> {
-    let (before, behind) = row.field(0).split_once('◊').unwrap_or(("", ""));
-    let mut text = String::from_str(alloc, before)?;
-    let mut front = "{";
-    for member in &in_order(alloc, row.field(1), number)? {
-        text.push_str(front)?;
-        text.push_str(member)?;
-        front = ",";
+    let mut object = String::new(alloc);
+    for member in &order {
+        let front = if object.is_empty() { "{" } else { "," };
+        object.push_str(front)?;
+        object.push_str(member)?;
     }
-    text.push_str("}")?;
-    text.push_str(behind)?;
-    Ok(text)
+    object.push_str("}")?;
+    Ok(object)
 }
 
 /// Reads an object in one pass with its members in each order.
-fn reads_in_each_order(alloc: Global, row: Row) -> Holds {
-    let orders = row.want.parse().unwrap_or(0);
+fn reads_in_each_order(alloc: Global, [orders, place, members, ..]: Cells) -> Holds {
+    let orders = orders.parse()?;
     for number in 0..orders {
-        let text = text_of(alloc, row, number)?;
-        let bytes = trace_of(alloc, NARROW, text.as_str())?;
-        if read_once(alloc, &bytes)? != Some(true) {
+        let object = in_order(alloc, members, number)?;
+        let text = put(alloc, place, object.as_str())?;
+        if read_once(alloc, &trace_of(alloc, NARROW, text.as_str())?)? != Some(true) {
             return Ok(false);
         }
     }
@@ -62,6 +50,5 @@ fn reads_in_each_order(alloc: Global, row: Row) -> Holds {
 
 #[test]
 fn reads_members_in_each_order_in_one_pass(rt: HostRuntime) -> Result<(), Fail> {
-    all_hold!(rt, OBJECTS, reads_in_each_order());
-    Ok(())
+    all_hold!(rt; OBJECTS => reads_in_each_order())
 }

@@ -59,11 +59,6 @@ static REPLAY_FAULTS: [(ReplayFault, &str); 13] = [
 static WRITE_FAULTS: [(WriteFailed, &str); 1] = [(WriteFailed, "a write failed")];
 
 #[test]
-fn texts_of_faults(rt: HostRuntime) {
-    none(&rt, first_other(rt.alloc(), &TRACE_FAULTS));
-    none(&rt, first_other(rt.alloc(), &LOG_FAULTS));
-    none(&rt, first_other(rt.alloc(), &INPUT_FAULTS));
-    none(&rt, first_other(rt.alloc(), &OUT_FAULTS));
-    none(&rt, first_other(rt.alloc(), &WRITE_FAULTS));
-    none(&rt, first_other(rt.alloc(), &REPLAY_FAULTS));
+fn texts_of_faults(rt: HostRuntime) -> Result<(), Fail> {
+    all_are_told!(rt; TRACE_FAULTS, LOG_FAULTS, INPUT_FAULTS, OUT_FAULTS, WRITE_FAULTS, REPLAY_FAULTS)
 }
