@@ -314,9 +314,10 @@ uint32_t tsc_open_shared(tsc_store *store, uint32_t page_first, uint32_t page_ma
  * looked that span up, which is at least all that it had seen before. `tsc_seat_may_write` asks in
  * the same way, and `*out` is true just where it is told the time of `write`.
  *
- * One Add is made at a time. An Add tries `tries` times to acquire the lock that another seat's
- * Add may hold, and looks as often at each seat that is inside a lookup. If others are in the way
- * each time, it is refused with TSC_BUSY, and may be tried again; with 0 tries it always is. Take
+ * Adds come one after another. An Add tries `tries` times to acquire the lock that another seat's
+ * Add may hold, and looks as often at each seat that is inside a lookup. Meanwhile `tsc_seat_add`
+ * asks the seat that holds the lock, which may make the Add as well. If others are in the way each
+ * time, the Add is refused with TSC_BUSY, and may be tried again; with 0 tries it always is. Take
  * 64 tries. After TSC_BUSY, let other threads run (`sched_yield`, `thrd_yield`), and try again.
  * TSC_FULL means that `limit` Adds were made. `place_in_history` is the Add's position among all
  * Adds, from 0 on. Lookups wait for nobody, and are refused as those of `tsc_get_max` are. `seen`

@@ -1,13 +1,17 @@
 //! Adds that seats make for one another: very many of them, beside gated ones, where pages rotate,
-//! and where some are refused memory.
+//! where some are refused memory, and where seats give up and try again.
 //!
 //! `scripts/refuse-each-growth` refuses memory to the last of these tests, and
 //! `scripts/refuse-handles` handles on the standby copy.
+use super::marks::Adding;
 use super::words::*;
 use std::thread;
 
 /// How often an Add is tried that is refused memory.
 const TRIES: u32 = 3;
+
+/// How often an Add is tried at most that others are in the way of.
+const CALLS: u32 = 10_000_000;
 
 /// How often a seat looks at most whether all seats are there, before it begins without them.
 const LOOKS: u32 = 10_000;
@@ -24,6 +28,18 @@ impl<C: Of, R: Wait + Abort> Player<'_, C, R> {
         }
     }
 
+    /// An Add that is called again as long as others are in its way.
+    fn add_until_free(&mut self, adding: &Adding, by: By) -> Reply {
+        for _ in 0..CALLS {
+            let reply = self.add(adding, by);
+            if !matches!(reply, Busy | Reply::Inside) {
+                return reply;
+            }
+            thread::yield_now();
+        }
+        Busy
+    }
+
     /// The Add of a round, at a place that no other was told. It is tried a few times where it is
     /// refused memory, until memory is refused for good.
     pub fn add_again(&mut self, plan: &Plan, round: u32) -> bool {
@@ -35,13 +51,45 @@ impl<C: Of, R: Wait + Abort> Player<'_, C, R> {
             return false;
         };
         for _ in 0..TRIES {
-            let reply = self.add(&adding, plan.by_of(number));
+            let reply = self.add_until_free(&adding, plan.by_of(number));
             if reply != Reply::NoMemory {
                 self.check(self.is_placed(reply, round), reply);
                 return round.saturating_add(1) < plan.0;
             }
         }
         false
+    }
+}
+
+/// How many Adds with a gate one seat makes.
+const ROUNDS: u64 = 200_000;
+
+impl<C: Of, R: Wait + Abort> Player<'_, C, R> {
+    /// The first seat adds with a gate, each time at a later time. Until it is done two others add
+    /// as well, and the rest see no Add of which the gate was not told before.
+    pub fn see_told(&mut self, round: u32) -> bool {
+        let round = u64::from(round);
+        match self.guest.seat.number() {
+            0 => {
+                let reply = self.add_key("a", round.saturating_add(20), Gate);
+                self.check(matches!(reply, Place(_, _)), reply);
+                let adds = round.saturating_add(1);
+                self.meeting.adds.store(adds, SeqCst);
+                return adds < ROUNDS;
+            }
+            1 | 2 => {
+                let reply = self.add_key("b", 20, Plain);
+                self.check(matches!(reply, Place(_, _)), reply);
+            }
+            _ => {
+                let seen = self.get("a");
+                let told = self.meeting.gate.told();
+                let is_told = matches!(seen, Value(wall, _, _) if wall <= told.saturating_add(19));
+                self.check(is_told, seen);
+            }
+        }
+        thread::yield_now();
+        self.meeting.adds.load(SeqCst) < ROUNDS
     }
 }
 
@@ -82,6 +130,39 @@ static THEIR_OWN: [Step; 6] = [
     (0, Close, Number(16_000)),
 ];
 
+/// The gate is told of an Add before anybody sees it, whatever others ask for meanwhile.
+static BEFORE_SEEN: [Step; 3] = [
+    (0, Open(PAGES, 5, 100_000_000), Done),
+    (0, AtOnce(Told), Number(ROUNDS)),
+    (0, CloseAny, Done),
+];
+
+/// A seat whose tries end leaves, and its Add is made once all the same: by itself or by another,
+/// beside others that try, beside some that wait, and where pages rotate.
+static LEFT: [Step; 9] = [
+    (0, Open(PAGES, 8, 160_000), Done),
+    (
+        0,
+        AtOnce(Retried(Plan(20_000, Tries(1), Tries(8), Same))),
+        Number(0),
+    ),
+    (0, Close, Number(160_000)),
+    (0, Open(PAGES, 8, 80_000), Done),
+    (
+        0,
+        AtOnce(Retried(Plan(10_000, Tries(2), Plain, Same))),
+        Number(0),
+    ),
+    (0, Close, Number(80_000)),
+    (0, Open(PAGES, 8, 16_000), Done),
+    (
+        0,
+        AtOnce(Retried(Plan(2_000, Tries(3), Plain, Rising))),
+        Number(0),
+    ),
+    (0, Close, Number(16_000)),
+];
+
 /// The places that were told are those of all Adds that were made, and the cache answers as one
 /// that had these alone.
 static AGAIN: [Step; 3] = [
@@ -107,6 +188,16 @@ fn sixty_four_seats_have_each_place_once(rt: HostRuntime) -> Result<(), Fail> {
 #[test]
 fn some_adds_are_made_by_their_own_seats(rt: HostRuntime) -> Result<(), Fail> {
     play(&rt, rt.alloc(), &THEIR_OWN, Once)
+}
+
+#[test]
+fn no_gated_add_is_seen_before_it_is_told(rt: HostRuntime) -> Result<(), Fail> {
+    play(&rt, rt.alloc(), &BEFORE_SEEN, Once)
+}
+
+#[test]
+fn seats_that_leave_have_each_place_once(rt: HostRuntime) -> Result<(), Fail> {
+    play(&rt, rt.alloc(), &LEFT, Once)
 }
 
 #[test]

@@ -1,8 +1,9 @@
 //! A seat whose thread is stopped while it has the writer lock, and one whose thread is stopped
 //! while its request is out.
 //!
-//! `scripts/stop-threads` stops these threads as the system may. Seats but the first one let no
-//! other thread run outside a call, so that it knows where they are when they do.
+//! `scripts/stop-threads` stops these threads as the system may: those of the last scene. There
+//! seats but the first one let no other thread run outside a call, so that it knows where they are
+//! when they do.
 use super::watch::TURNS;
 use super::words::*;
 use std::{hint, thread};
@@ -17,7 +18,7 @@ impl<C: Of, R: Wait + Abort> Player<'_, C, R> {
     /// An Add of a known key of its own, behind the one that is held up.
     fn add_behind(&mut self, key: &'static str) {
         let reply = self.add_key(key, 21, Plain);
-        self.check(matches!(reply, Place(7.., _)), reply);
+        self.check(matches!(reply, Place(9.., _)), reply);
     }
 
     /// Whether the first Add is held up, after a wait of some pauses at the most.
@@ -41,7 +42,7 @@ impl<C: Of, R: Wait + Abort> Player<'_, C, R> {
     fn add_first(&mut self, round: u32) -> bool {
         if round == 0 {
             let reply = self.add(&self.meeting.adding, Gate);
-            self.check(reply == Place(6, KEPT), reply);
+            self.check(reply == Place(8, KEPT), reply);
             thread::yield_now();
             return true;
         }
@@ -71,7 +72,9 @@ impl<C: Of, R: Wait + Abort> Player<'_, C, R> {
     }
 }
 
-static STOPPED: [Step; 9] = [
+/// The second and the third seat leave a request while the first one has the lock. They may ask
+/// again once it has added, so it makes their Adds in the last scene.
+static STOPPED: [Step; 13] = [
     (0, Open(PAGES, 3, 100_000_000), Done),
     (0, Add("a@20", 20, Plain), Place(0, KEPT)),
     (0, Add("b@20", 20, Plain), Place(1, KEPT)),
@@ -79,6 +82,10 @@ static STOPPED: [Step; 9] = [
     (0, Add("a@20", 20, Plain), Place(3, KEPT)),
     (1, Add("b@20", 20, Plain), Place(4, KEPT)),
     (2, Add("c@20", 20, Plain), Place(5, KEPT)),
+    (1, While(1, "a"), Value(20, First, 6)),
+    (1, LowMeanwhile, Value(5, Nobody, 6)),
+    (0, AtOnce(Held("a@20", 20, Place(6, KEPT))), Number(1)),
+    (0, Add("a@20", 20, Plain), Place(7, KEPT)),
     (0, AtOnce(Stopped), Number(1)),
     (0, CloseAny, Done),
 ];

@@ -28,6 +28,10 @@ pub enum Scene {
     Both,
     /// Adds that are given up, beside others and lookups.
     Tried,
+    /// Adds of which some are given up, and lookups of what was made.
+    GivenUp,
+    /// Adds with a gate, beside others and lookups.
+    Told,
     /// Adds of which one is held up, and another one is made for its seat.
     Stopped,
 }
@@ -148,6 +152,8 @@ impl<C: Of, R: Wait + Abort> Player<'_, C, R> {
             Scene::Ring => self.send_on(round),
             Scene::Both => self.add_both(round),
             Scene::Tried => self.try_beside(round),
+            Scene::GivenUp => self.add_own(round),
+            Scene::Told => self.see_told(round),
             Scene::Stopped => self.stop(round),
         }
     }

@@ -44,6 +44,60 @@ static BESIDE: [Step; 3] = [
     (0, CloseAny, Done),
 ];
 
+/// How often each seat adds that has a key of its own.
+const CALLS: u32 = 40_000;
+
+/// By which call such a seat adds in a round. The first one waits.
+fn by_in(round: u32) -> By {
+    match round % 8 {
+        0 => Plain,
+        tries => Tries(tries),
+    }
+}
+
+/// Whether both are the same time of the first owner, with whatever fronts.
+fn is_same(one: Reply, other: Reply) -> bool {
+    match (one, other) {
+        (Value(wall, First, _), Value(other_wall, First, _)) => wall == other_wall,
+        _ => false,
+    }
+}
+
+impl<C: Of, R: Wait + Abort> Player<'_, C, R> {
+    /// Each seat adds a key of its own, each time at a later time. It sees its last Add that was
+    /// made, and none that was given up.
+    pub fn add_own(&mut self, round: u32) -> bool {
+        let key = match self.guest.seat.number() {
+            0 => "a",
+            1 => "b",
+            2 => "c",
+            _ => "d",
+        };
+        let wall = u64::from(round).saturating_add(20);
+        let reply = self.add_key(key, wall, by_in(round));
+        if matches!(reply, Place(_, _)) {
+            self.guest.saw.2 = Value(wall, First, 0);
+        } else {
+            self.check(matches!(reply, Busy | Reply::Inside), reply);
+        }
+        let seen = self.get(key);
+        self.check(is_same(self.guest.saw.2, seen), seen);
+        round.saturating_add(1) < CALLS
+    }
+}
+
+/// Each seat waits for some of its Adds, and gives up others.
+static OWN: [Step; 3] = [
+    (0, Open(PAGES, 4, 160_000), Done),
+    (0, AtOnce(GivenUp), Number(0)),
+    (0, CloseAny, Done),
+];
+
+#[test]
+fn an_add_that_is_given_up_is_never_seen(rt: HostRuntime) -> Result<(), Fail> {
+    play(&rt, rt.alloc(), &OWN, Once)
+}
+
 #[test]
 fn adds_that_try_are_told_why_they_are_given_up(rt: HostRuntime) -> Result<(), Fail> {
     play(&rt, rt.alloc(), &ALONE, Once)

@@ -1,11 +1,14 @@
 //! A gate that counts the Adds that it is told of, and holds each up until so many seats have
 //! looked.
 use std::sync::atomic::{AtomicBool, AtomicU64, Ordering};
-use std::thread;
+use std::{hint, thread};
 use tsc_shared::Gate;
 
 /// How often a thread looks whether another has come so far.
 pub const TURNS: u32 = 10_000_000;
+
+/// How many pauses it makes before it counts an Add, in which others may look for it.
+const PAUSES: u32 = 50;
 
 #[derive(Drop)]
 pub struct Watch {
@@ -61,6 +64,9 @@ impl Gate for Watch {
     fn done(&self, _thread: u32, _call: u32) {}
 
     fn publish(&self, _seat: u32) {
+        for _ in 0..PAUSES {
+            hint::spin_loop();
+        }
         self.told.fetch_add(1, Ordering::SeqCst);
         self.met.store(self.is_met(), Ordering::SeqCst);
     }

@@ -18,7 +18,9 @@ pub use super::steps::{
 pub use super::stress::Keys::{Rising, Same, Turning};
 pub use super::stress::Plan;
 pub use super::threads::Player;
-pub use super::threads::Scene::{Both, Crowd, Held, Retried, Returned, Ring, Stopped, Tried};
+pub use super::threads::Scene::{
+    Both, Crowd, GivenUp, Held, Retried, Returned, Ring, Stopped, Told, Tried,
+};
 pub use std::process::Abort;
 pub use std::sync::Wait;
 pub use std::sync::atomic::Ordering::SeqCst;

@@ -3,4 +3,5 @@ pub mod InPlace
 pub mod Making
 pub mod Turns
 pub mod Outcomes
+pub mod Again
 pub mod Seating

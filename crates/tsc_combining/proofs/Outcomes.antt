@@ -1,7 +1,7 @@
 -- What a writer knows from the time when it has acquired the lock until it has released it.
 use Rattle.std.proofs.Common.{◌≡◌, ◌∙◌, refl, sym, ap, subst, false, ℕ, ◌+◌, ◌-◌, ◌<◌, ◌≤◌, List}
 use Rattle.std.proofs.Common.{[], ◌∷◌, ◌++◌, length, arith, length-append, true≢false}
-use Rattle.std.specs.Prelude.{Option, Some, None, Box, Result, Ok, Err, IfOk}
+use Rattle.std.specs.Prelude.{Option, Some, None, Box, Result, Ok, Err, IfErr}
 use Rattle.std.specs.Prelude.{IsNone, is_some}
 use Rattle.std.specs.Arc.{arc_value}
 use Rattle.std.specs.declared.sync.Arc.{Arc}
@@ -24,6 +24,7 @@ use Rattle.tsc_left_right.specs.declared.table.Knowledge.{Knowledge}
 use Rattle.tsc_left_right.specs.declared.table.Slot.TheVariants.{Empty}
 use Rattle.tsc_left_right.specs.Rule.{at_rest, entry_of, marks_in, adds_in, with_first, late_adds}
 use Rattle.tsc_left_right.specs.Rule.{standby_side, CanBe, IsAfter, IsState, LagsBy, HandleLags}
+use Rattle.tsc_left_right.specs.Rule.{one_if, times}
 use Rattle.tsc_left_right.specs.Steps.{At, state_in, with_state, seated, number_of, seen_of}
 use Rattle.tsc_left_right.specs.Steps.{count_of, acquired, own_of, with_own, grown, published}
 use Rattle.tsc_left_right.specs.Steps.{seen_then}
@@ -33,7 +34,8 @@ use Rattle.tsc_left_right.specs.Participating.{HasAcquired, HasInstalled, IsRead
 use Rattle.tsc_left_right.specs.Participating.{MayOwn, AreMade, cleared_in, published_in}
 use Rattle.tsc_left_right.specs.Participating.{released_in}
 use Rattle.tsc_left_right.proofs.Prefixes.{legal_push}
-use Rattle.tsc_left_right.proofs.Batching.{grown_length}
+use Rattle.tsc_left_right.proofs.Batching.{grown_length, times_cons}
+use Rattle.tsc_left_right.proofs.Moves.{same_number}
 use Rattle.tsc_left_right.proofs.Batches.{adds_of, lags_by}
 use Rattle.tsc_left_right.proofs.Composing.{is_writer}
 use Rattle.tsc_combining.proofs.AddingUp.{can_fit}
@@ -45,10 +47,11 @@ use Rattle.tsc_combining.specs.declared.writing.Prepared.{Prepared}
 use Rattle.tsc_combining.specs.declared.writing.Aborted.{Aborted}
 use Rattle.tsc_combining.specs.Asking.{resting, WasMade}
 use Rattle.tsc_combining.specs.Adding.{KeepsOthers, IsCaughtUp, IsNext}
-use Rattle.tsc_combining.specs.Serving.{HasBatch, HasSentAll, HasMade, Serves}
+use Rattle.tsc_combining.specs.Serving.{HasBatch, HasMade, Serves}
 use Rattle.tsc_combining.specs.Writing.{IsNewWriter, HoldsState, MayMake, IsSwapped}
-use Rattle.tsc_combining.specs.Writing.{IsReadyToPublish, IsPrepared, CanMake}
-use Rattle.tsc_combining.specs.Writing.{MayLeave, IsAborted, IsAdded, IsNotAdded}
+use Rattle.tsc_combining.specs.Writing.{IsPrepared, CanMake}
+use Rattle.tsc_combining.specs.Writing.{MayLeave, IsAborted, IsAdded, IsNotAdded, IsHindered}
+use Rattle.tsc_combining.specs.Writing.{IsBegun, MayPublish}
 use Rattle.tsc_combining.specs.Writing.{IsOutcome, IsBusy}
 
 -- A seat that was at rest and has acquired the lock.
@@ -119,8 +122,6 @@ holds_state me me' cleared state n w =
       seen = ap (λ (u : Knowledge). (state_in u).history) is ∙ sym (ap seen_of is);
       legal = subst (λ (u : Knowledge). IsLegal u.setup.config u.setup.seats (seen_of u)) (sym is)
           n.legal;
-      is_told = ap (λ (u : Knowledge). (state_in u).plan) is
-          ∙ sym (ap (λ (u : Knowledge). (state_in u).head) is);
       is_after = subst (λ (u : Knowledge). IsAfter u.setup (seen_of u) (state_in u).head state)
           (sym is) n.is_after;
     }
@@ -133,8 +134,6 @@ leaves_at me me' cleared watched state n w =
       release = record {
         lock = (cleared, watched, writes_self me.0 me' cleared watched w);
         none = ap (λ (u : Knowledge). (state_in u).collected) is;
-        is_told = ap (λ (u : Knowledge). (state_in u).plan) is
-            ∙ sym (ap (λ (u : Knowledge). (state_in u).head) is);
         is_after = subst (λ (u : Knowledge). IsAfter u.setup (state_in u).history
             (state_in u).head state) (sym is) n.is_after;
       };
@@ -156,7 +155,6 @@ held_leaves me cleared state state₁ h after = record {
   release = record {
     lock = (cleared, None, h.writing);
     none = h.none;
-    is_told = h.is_told;
     is_after = after me.0.setup (state_in me.0).history (state_in me.0).head
         (holds_after me cleared state h);
   };
@@ -168,10 +166,12 @@ held_leaves me cleared state state₁ h after = record {
 abbrev pub own_added : Knowledge → UnappliedAdd → History
 own_added v add = with_own (state_in v) (Some add)
 
--- What the writer has made for others behind its own Add.
-abbrev pub Served : At → UnappliedAdd → ℕ → ℕ → At → List MadeAdd → Arc CacheView Global → Type 0
-Served me add room plan me₁ items next =
-    (n : ℕ) × Serves me.0 (own_added me.0 add) room n plan me₁ items (arc_value next)
+-- What the writer has made for others behind its own Add, of so many seats at the most.
+abbrev pub Served : At → UnappliedAdd → ℕ → ℕ → ℕ → At → List MadeAdd → Arc CacheView Global
+    → Type 0
+Served me add served room head me₁ items next =
+    (n : ℕ) × (n ≤ served)
+    × Serves me.0 (own_added me.0 add) room n head me₁ items (arc_value next)
 
 -- A writer that has taken the next copy may look who asks for something, within the limit.
 pub can_serve : (me : At) (setup : Setup) (state first : WriterState) (add : UnappliedAdd)
@@ -192,7 +192,7 @@ can_serve me setup state first add added next same h may kept made =
       collected = [];
       batch = record {
         is = (is_writer me.0 me t.seats None writing).one
-            ∙ (λ i. with_state me.0 (serving p (h.none i) ((h.is_told ∙ sym head_is) i)));
+            ∙ (λ i. with_state me.0 (serving p (h.none i) (sym head_is i)));
         side = ap standby_side head_is;
         writing = writing;
         made = kept.1.1;
@@ -213,72 +213,90 @@ can_serve me setup state first add added next same h may kept made =
 
 -- When it has looked at all seats, so it has.
 pub served : (me me₁ : At) (setup : Setup) (state first : WriterState) (add : UnappliedAdd)
-    (added : Added) (plan : ℕ) (items : List MadeAdd) (next next₁ : Arc CacheView Global)
+    (added : Added) (seats head : ℕ) (items : List MadeAdd) (next next₁ : Arc CacheView Global)
     → setup ≡ me.0.setup → HoldsState me setup.seats state → MayMake me state add
     → KeepsOthers state first × IsCaughtUp first.lagging × (first.standby ≡ None)
     → IsNext state add (arc_value next) added
-    → HasMade (setup.limit - first.length - 1) first.head me first.lagging.others.items next plan
-    me₁ items next₁
-    → Served me add (setup.limit - first.length - 1) plan me₁ items next₁
-served me me₁ setup state first add added plan items next next₁ same h may kept made has =
+    → HasMade seats (setup.limit - first.length - 1) first.head me first.lagging.others.items next
+    head me₁ items next₁
+    → Served me add seats (setup.limit - first.length - 1) head me₁ items next₁
+served me me₁ setup state first add added seats head items next next₁ same h may kept made has =
     has me.0 (own_added me.0 add)
     (can_serve me setup state first add added next same h may kept made)
 
 -- When all is served, handles are installed on the copy.
-pub served_head : (me me₁ : At) (seats : ℕ) (state : WriterState) (add : UnappliedAdd)
-    (room plan : ℕ) (items : List MadeAdd) (next : Arc CacheView Global)
-    → HoldsState me seats state → Served me add room plan me₁ items next
-    → (state_in me₁.0).head ≡ state.head
-served_head me me₁ seats state add room plan items next h s =
-    ap (λ (u : Knowledge). (state_in u).head) s.1.batch.is ∙ sym h.is_after.head_is
+pub served_side : (me me₁ : At) (seats : ℕ) (state : WriterState) (add : UnappliedAdd)
+    (served room head : ℕ) (items : List MadeAdd) (next : Arc CacheView Global)
+    → HoldsState me seats state → Served me add served room head me₁ items next
+    → standby_side (state_in me₁.0).head ≡ standby_side state.head
+served_side me me₁ seats state add served room head items next h s =
+    ap (λ (u : Knowledge). standby_side (state_in u).head) s.2.batch.is ∙ s.2.batch.side
+    ∙ ap standby_side (sym h.is_after.head_is)
 
-pub served_requests : (me me₁ : At) (add : UnappliedAdd) (room plan : ℕ) (items : List MadeAdd)
-    (next : Arc CacheView Global) → Served me add room plan me₁ items next
+pub served_requests : (me me₁ : At) (add : UnappliedAdd) (served room head : ℕ)
+    (items : List MadeAdd) (next : Arc CacheView Global) → Served me add served room head me₁ items next
     → length items ≡ length (state_in me₁.0).collected
-served_requests me me₁ add room plan items next s =
-    are_made_length me.0.setup (own_added me.0 add) s.1.collected items s.1.batch.made
-    ∙ sym (ap (λ (u : Knowledge). length (state_in u).collected) s.1.batch.is)
+served_requests me me₁ add served room head items next s =
+    are_made_length me.0.setup (own_added me.0 add) s.2.collected items s.2.batch.made
+    ∙ sym (ap (λ (u : Knowledge). length (state_in u).collected) s.2.batch.is)
 
-pub served_writes : (me me₁ : At) (seats : ℕ) (add : UnappliedAdd) (room plan : ℕ)
+pub served_writes : (me me₁ : At) (seats : ℕ) (add : UnappliedAdd) (served room head : ℕ)
     (items : List MadeAdd) (next : Arc CacheView Global) → seats ≡ me.0.setup.seats
-    → Served me add room plan me₁ items next → IsWriting me₁.0 me₁ seats None
-served_writes me me₁ seats add room plan items next all s =
-    subst (λ (n : ℕ). IsWriting me₁.0 me₁ n None) (sym all) s.1.batch.writing
+    → Served me add served room head me₁ items next → IsWriting me₁.0 me₁ seats None
+served_writes me me₁ seats add served room head items next all s =
+    subst (λ (n : ℕ). IsWriting me₁.0 me₁ n None) (sym all) s.2.batch.writing
 
 -- The writer knows the same once they are.
-pub installed_same : (me me₁ me₂ : At) (seats : ℕ) (add : UnappliedAdd) (room plan : ℕ)
+pub installed_same : (me me₁ me₂ : At) (seats : ℕ) (add : UnappliedAdd) (served room head : ℕ)
     (items : List MadeAdd) (next : Arc CacheView Global) → seats ≡ me.0.setup.seats
-    → Served me add room plan me₁ items next → me₂.0 ≡ cleared_in me₁.0 seats None
+    → Served me add served room head me₁ items next → me₂.0 ≡ cleared_in me₁.0 seats None
     → me₂.0 ≡ me₁.0
-installed_same me me₁ me₂ seats add room plan items next all s is =
+installed_same me me₁ me₂ seats add served room head items next all s is =
     is ∙ sym (ap (λ (m : At). m.0)
-    (served_writes me me₁ seats add room plan items next all s).is)
+    (served_writes me me₁ seats add served room head items next all s).is)
+
+-- Where no seat was served, nothing is collected.
+none_asked : (xs : List Collected) → ((r : ℕ) → times r xs ≡ 0) → xs ≡ []
+none_asked [] none = refl
+none_asked (x ∷ xs) none = absurd (omega (
+  arith,
+  none x.seat,
+  times_cons x.seat x xs,
+  ap one_if (same_number x.seat x.seat refl),
+))
+
+pub served_alone : (me me₁ me₂ : At) (seats : ℕ) (add : UnappliedAdd) (served room head : ℕ)
+    (items : List MadeAdd) (next : Arc CacheView Global) → seats ≡ me.0.setup.seats
+    → Served me add served room head me₁ items next → me₂.0 ≡ cleared_in me₁.0 seats None
+    → served ≡ 0 → (state_in me₂.0).collected ≡ []
+served_alone me me₁ me₂ seats add served room head items next all s is none =
+    ap (λ (u : Knowledge). (state_in u).collected)
+    (installed_same me me₁ me₂ seats add served room head items next all s is ∙ s.2.batch.is)
+    ∙ none_asked s.2.collected (λ r. s.2.new r (omega (arith, s.1, none)))
 
 -- If there was no memory for all handles, it sends all back, and may release the lock.
-pub back_batch : (me me₁ me₂ : At) (seats : ℕ) (add : UnappliedAdd) (room plan : ℕ)
+pub back_batch : (me me₁ me₂ : At) (seats : ℕ) (add : UnappliedAdd) (served room head : ℕ)
     (items : List MadeAdd) (next : Arc CacheView Global) → seats ≡ me.0.setup.seats
-    → (s : Served me add room plan me₁ items next) → IsWriting me₁.0 me₂ seats None
-    → HasBatch me.0 (own_added me.0 add) s.1.collected seats plan me₂ items
-back_batch me me₁ me₂ seats add room plan items next all s w =
-    let same : me₂.0 ≡ me₁.0 = installed_same me me₁ me₂ seats add room plan items next all s
+    → (s : Served me add served room head me₁ items next) → IsWriting me₁.0 me₂ seats None
+    → HasBatch me.0 (own_added me.0 add) s.2.collected seats head me₂ items
+back_batch me me₁ me₂ seats add served room head items next all s w =
+    let same : me₂.0 ≡ me₁.0 = installed_same me me₁ me₂ seats add served room head items next all s
     (ap (λ (m : At). m.0) w.is) in record {
-      is = same ∙ s.1.batch.is;
-      side = s.1.batch.side;
+      is = same ∙ s.2.batch.is;
+      side = s.2.batch.side;
       writing = subst (λ (u : Knowledge). IsWriting u me₂ seats None) (sym same) w;
-      made = s.1.batch.made;
+      made = s.2.batch.made;
     }
 
-pub back_leaves : (me me₃ : At) (seats : ℕ) (state state₃ : WriterState) (n head : ℕ)
-    → HoldsState me seats state → HasSentAll me.0 n head me₃ → state₃.active ≡ state.active
-    → state₃.standby ≡ None → state₃.length ≡ state.length → state₃.head ≡ head
-    → MayLeave me.0 me₃ state₃
-back_leaves me me₃ seats state state₃ n head holds sent active none long head_is =
+pub back_leaves : (me me₃ : At) (h : History) (seats : ℕ) (state state₃ : WriterState)
+    (n head : ℕ) → HoldsState me seats state → HasBatch me.0 h [] n head me₃ []
+    → state₃.active ≡ state.active → state₃.standby ≡ None → state₃.length ≡ state.length
+    → state₃.head ≡ head → MayLeave me.0 me₃ state₃
+back_leaves me me₃ h seats state state₃ n head holds sent active none long head_is =
     let after = holds_after me seats state holds in record {
       release = record {
         lock = (n, None, sent.writing);
         none = ap (λ (u : Knowledge). (state_in u).collected) sent.is;
-        is_told = ap (λ (u : Knowledge). (state_in u).plan) sent.is
-            ∙ sym (ap (λ (u : Knowledge). (state_in u).head) sent.is);
         is_after = subst (λ (u : Knowledge). IsAfter u.setup (state_in u).history
             (state_in u).head state₃) (sym sent.is) (record {
               stands = subst (λ (c : Arc CacheView Global). IsState me.0.setup
@@ -295,29 +313,29 @@ back_leaves me me₃ seats state state₃ n head holds sent active none long hea
 
 -- Else all is prepared that is to be published.
 pub prepared : (me me₁ me₂ : At) (seats : ℕ) (state between state₄ : WriterState)
-    (add : UnappliedAdd) (added : Added) (room plan adds many : ℕ) (items : List MadeAdd)
+    (add : UnappliedAdd) (added : Added) (served room head adds many : ℕ) (items : List MadeAdd)
     (next : Arc CacheView Global) → seats ≡ me.0.setup.seats → HoldsState me seats state
-    → MayMake me state add → Served me add room plan me₁ items next → many ≡ length items
+    → MayMake me state add → Served me add served room head me₁ items next → many ≡ length items
     → HasInstalled me₁.0 me₂ (arc_value next) adds seats → adds ≡ state.length + 1 + many
-    → between.active ≡ state.active → between.length ≡ state.length → between.head ≡ plan
+    → between.active ≡ state.active → between.length ≡ state.length → between.head ≡ head
     → between.lagging.others.items ≡ items
     → IsSwapped between next add many state₄
     → ((t : Setup) (h : History) (head : ℕ) → IsAfter t h head state → added
     ≡ (step_all t.config (state_of t.config h) (marks_in add.marks) add.moment).added)
     → IsPrepared me.0 me₂ add state₄ added
-prepared me me₁ me₂ seats state between state₄ add added room plan adds many items next all holds
-    may s many_is installed adds_is active long head others sw added_is =
+prepared me me₁ me₂ seats state between state₄ add added served room head adds many items next all
+    holds may s many_is installed adds_is active long head_at others sw added_is =
     let p : SeatState = state_in me.0 in
     let t : Setup = me.0.setup in
     let e = entry_of p.number p.count add in
     let h : History = own_added me.0 add in
-    let xs : List Collected = s.1.collected in
-    let u : Knowledge = with_state me.0 (serving p xs plan) in
+    let xs : List Collected = s.2.collected in
+    let u : Knowledge = with_state me.0 (serving p xs head) in
     let after = holds_after me seats state holds in
-    let same : me₂.0 ≡ me₁.0 = installed_same me me₁ me₂ seats add room plan items next all s
+    let same : me₂.0 ≡ me₁.0 = installed_same me me₁ me₂ seats add served room head items next all s
     (ap (λ (m : At). m.0) installed.is) in
-    let is : me₂.0 ≡ u = same ∙ s.1.batch.is in
-    let made = s.1.batch.made in
+    let is : me₂.0 ≡ u = same ∙ s.2.batch.is in
+    let made = s.2.batch.made in
     let count : length items ≡ length xs = are_made_length t h xs items made in
     let whole : length (grown h xs) ≡ length p.history + 1 + length xs =
     omega (arith, grown_length h xs, length-append p.history (e ∷ [])) in
@@ -343,17 +361,17 @@ prepared me me₁ me₂ seats state between state₄ add added room plan adds ma
             arith,
             grown_length h xs,
             count,
-            s.1.few,
-            s.1.fits,
+            s.2.few,
+            s.2.fits,
           ));
-      is_after = subst (λ (o : Option UnappliedAdd). IsAfter t (published (state_in u) o) plan
+      is_after = subst (λ (o : Option UnappliedAdd). IsAfter t (published (state_in u) o) head
           state₄) (sym sw.own) (record {
             stands = subst (λ (c : Arc CacheView Global). IsState t (grown h xs) (arc_value c))
-                (sym sw.active) s.1.stands;
+                (sym sw.active) s.2.stands;
             behind = subst (HandleLags t (grown h xs) (late_adds state₄.lagging))
                 (sym (sw.standby ∙ ap Some active)) lags;
             length = long_is;
-            head_is = sw.head ∙ head;
+            head_is = sw.head ∙ head_at;
           });
     } in record {
       ready = record {
@@ -372,31 +390,64 @@ prepared me me₁ me₂ seats state between state₄ add added room plan adds ma
       seen = ap (λ (v : Knowledge). (state_in v).history) is ∙ holds.seen;
       below = omega (arith, may.room, holds.is_after.length);
       added_is = added_is t (seen_of me.0) p.head holds.is_after;
+      before = record {
+        copy = state.active;
+        is = sw.standby ∙ ap Some active;
+        stands = holds.is_after.stands;
+      };
     }
 
--- What a writer knows that has cleared all seats is what it knew before.
-pub since_prepared : (v : Knowledge) (me₁ me₂ : At) (cleared : ℕ) (add : UnappliedAdd)
-    (state : WriterState) (added : Added) → IsWriting v me₁ cleared None
-    → IsPrepared me₁.0 me₂ add state added → IsPrepared v me₂ add state added
-since_prepared v me₁ me₂ cleared add state added w p =
-    let q : IsPrepared (cleared_in v cleared None) me₂ add state added =
-    subst (λ (u : Knowledge). IsPrepared u me₂ add state added) (ap (λ (m : At). m.0) w.is) p in
-    record {
-      ready = q.ready;
-      own = q.own;
-      same = q.same;
-      seen = q.seen;
-      below = q.below;
-      added_is = q.added_is;
+-- What a writer knows that has the same seat once it has released the lock.
+pub prepared_for : (u v : Knowledge) (me : At) (add : UnappliedAdd) (state : WriterState)
+    (added : Added) → released_in u ≡ released_in v → IsPrepared u me add state added
+    → IsPrepared v me add state added
+prepared_for u v me add state added is p =
+    let b = p.before in
+    let q : IsPrepared (released_in u) me add state added = record {
+      ready = p.ready;
+      own = p.own;
+      same = p.same;
+      seen = p.seen;
+      below = p.below;
+      added_is = p.added_is;
+      before = record { copy = b.copy; is = b.is; stands = b.stands };
+    } in
+    let r : IsPrepared (released_in v) me add state added =
+    subst (λ (w : Knowledge). IsPrepared w me add state added) is q in
+    let c = r.before in record {
+      ready = r.ready;
+      own = r.own;
+      same = r.same;
+      seen = r.seen;
+      below = r.below;
+      added_is = r.added_is;
+      before = record { copy = c.copy; is = c.is; stands = c.stands };
     }
 
-pub since_leaves : (v : Knowledge) (me₁ me₂ : At) (cleared : ℕ) (state : WriterState)
-    → IsWriting v me₁ cleared None → MayLeave me₁.0 me₂ state → MayLeave v me₂ state
-since_leaves v me₁ me₂ cleared state w p =
-    let q : MayLeave (cleared_in v cleared None) me₂ state =
-    subst (λ (u : Knowledge). MayLeave u me₂ state) (ap (λ (m : At). m.0) w.is) p in
-    record { release = q.release; same = q.same; seen = q.seen }
+pub leaves_for : (u v : Knowledge) (me : At) (state : WriterState) → released_in u ≡ released_in v
+    → MayLeave u me state → MayLeave v me state
+leaves_for u v me state is p =
+    let q : MayLeave (released_in u) me state =
+    record { release = p.release; same = p.same; seen = p.seen } in
+    let r : MayLeave (released_in v) me state =
+    subst (λ (w : Knowledge). MayLeave w me state) is q in
+    record { release = r.release; same = r.same; seen = r.seen }
 
+pub aborted_for : (tries : Option ℕ) (u v : Knowledge) (me : At) (left : Aborted)
+    → released_in u ≡ released_in v → IsAborted tries u me left → IsAborted tries v me left
+aborted_for tries u v me left is a = record {
+  leave = leaves_for u v me left.state.value is a.leave;
+  why = subst (λ (w : Knowledge). IsHindered tries (length (seen_of w)) w.setup.limit left.why) is
+      a.why;
+}
+
+pub left_for : (tries : Option ℕ) (u v : Knowledge) (me : At) (r : Result Prepared Aborted)
+    → released_in u ≡ released_in v
+    → IfErr r (λ left. (any : Option ℕ) → IsAborted any u me left) → IfErr r (IsAborted tries v me)
+left_for tries u v me (Ok made) is a = tt
+left_for tries u v me (Err left) is a = aborted_for tries u v me left is (a tries)
+
+-- It may make an Add for which there is room.
 pub may_make : (me me₁ : At) (setup : Setup) (state : WriterState) (add : UnappliedAdd)
     (cleared : ℕ) → IsNewWriter me state → IsWriting me.0 me₁ cleared None → setup ≡ me.0.setup
     → CanBe setup add → state.length < setup.limit → MayMake me₁ state add
@@ -408,23 +459,45 @@ may_make me me₁ setup state add cleared n w same can room =
       room = subst (λ (t : Setup). state.length < t.limit) to room;
     }
 
-pub can_make_ready : (copied : Result UnappliedAdd NoMemory) (v : Knowledge) (me : At)
-    (made : Prepared) → CanMake copied v me made → IsReadyToPublish me made.state.value
-can_make_ready (Ok add) v me made p = p.ready
-can_make_ready (Err refused) v me made p = absurd p
+-- The Add that is made is the one that was copied.
+pub can_make_add : (copied : Result UnappliedAdd NoMemory) (v : Knowledge) (me : At)
+    (made : Prepared) → CanMake copied v me made
+    → (add : UnappliedAdd) × (copied ≡ Ok add) × IsPrepared v me add made.state.value made.added
+can_make_add (Ok add) v me made p = (add, refl, p)
+can_make_add (Err refused) v me made p = absurd p
+
+-- The new writer has begun.
+pub is_begun : (me : At) (state : WriterState) (place number : ℕ) → IsNewWriter me state
+    → place ≡ state.length → IsNumber me.0 number → IsBegun me.0 place
+is_begun me state place number n at low = record {
+  rests = ap (λ (m : At). released_in m.0) n.is;
+  legal = n.legal;
+  own = n.own;
+  limit = n.limit;
+  low = subst (λ (r : ℕ). r < me.0.setup.seats) low.0 low.1;
+  place_is = at ∙ n.is_after.length;
+}
+
+-- The writer may make its own Add where it asks for nothing.
+pub may_own : (v : Knowledge) (me : At) (add : UnappliedAdd) (state : WriterState) (added : Added)
+    → IsPrepared v me add state added → CanBe v.setup add × ((state_in me.0).request ≡ None)
+may_own v me add state added p =
+    let own : MayOwn me.0.setup (state_in me.0) (Some add) =
+    subst (MayOwn me.0.setup (state_in me.0)) p.own p.ready.ready.own in (
+      subst (λ (w : Knowledge). CanBe w.setup add) p.same own.0,
+      own.1,
+    )
 
 -- The seat has made its Add, and has released the lock.
-pub is_added_alone : (me me₁ me₂ : At) (state : WriterState) (setup : Setup)
-    (copied : Result UnappliedAdd NoMemory) (made : Prepared) (place : ℕ) → IsNewWriter me state
-    → setup ≡ me.0.setup → IfOk copied (CanBe setup) → CanMake copied me.0 me₁ made
+pub is_added_alone : (v : Knowledge) (me₁ me₂ : At) (add : UnappliedAdd) (made : Prepared)
+    (place : ℕ) → MayPublish v me₁ add place made
     → me₂ ≡ (released_in (published_in me₁.0 (own_of made.state.value)), [])
-    → place ≡ state.length → IsNumber me.0 (number_of me.0)
-    → (add : UnappliedAdd) × (copied ≡ Ok add) × IsAdded me.0 me₂ add place made.added
-is_added_alone me me₁ me₂ state setup (Err refused) made place n same can p then_ at low = absurd p
-is_added_alone me me₁ me₂ state setup (Ok add) made place n same can p then_ at low =
-    let v : Knowledge = me.0 in
+    → IsAdded v me₂ add place made.added
+is_added_alone v me₁ me₂ add made place m then_ =
     let t : Setup = v.setup in
     let h : History = seen_of v in
+    let b = m.begun in
+    let p = m.prepared in
     let e = entry_of (number_of v) (count_of v) add in
     let is : me₂ ≡ (seated t (number_of v) (h ++ e ∷ []) (count_of v + 1), []) =
     then_
@@ -436,43 +509,39 @@ is_added_alone me me₁ me₂ state setup (Ok add) made place n same can p then_
       }),
       [],
     ))
-    ∙ (λ i. let w = released_in (n.is i).0 in (
+    ∙ (λ i. let w = b.rests i in (
       with_state w (record (state_in w) {
         seen = h ++ entry_of (number_of w) (count_of w) add ∷ [];
         count = count_of w + 1;
       }),
       [],
     )) in
-    let made_can : CanBe t add = subst (λ (s : Setup). CanBe s add) same can in (
-      add,
-      refl,
-      record {
-        before = h;
-        after = is;
-        begins = begins_itself h;
-        legal = legal_push t.config t.seats h e n.legal (record {
-          seat = low.1;
-          number = sym n.own;
-          made = made_can (number_of v) (count_of v);
-        });
-        own = n.own;
-        below = p.below;
-        place_is = at ∙ n.is_after.length;
-        added_is = p.added_is;
-      },
-    )
+    let can : CanBe t add = (may_own v me₁ add made.state.value made.added p).0 in record {
+      before = h;
+      after = is;
+      begins = begins_itself h;
+      legal = legal_push t.config t.seats h e b.legal (record {
+        seat = b.low;
+        number = sym b.own;
+        made = can (number_of v) (count_of v);
+      });
+      own = b.own;
+      below = p.below;
+      place_is = b.place_is;
+      added_is = p.added_is;
+    }
 
-pub is_not_added : (tries : Option ℕ) (me me₁ me₂ : At) (state : WriterState) (left : Aborted)
-    (seen : ℕ) → IsNewWriter me state → IsAborted tries me.0 me₁ left
+pub is_not_added : (tries : Option ℕ) (v : Knowledge) (me₁ me₂ : At) (left : Aborted)
+    (place seen : ℕ) → IsBegun v place → IsAborted tries v me₁ left
     → me₂ ≡ (released_in me₁.0, []) → seen ≡ length (state_in me₁.0).history
-    → IsNotAdded tries me.0 me₂ seen left.why
-is_not_added tries me me₁ me₂ state left seen n a then_ long = record {
-  history = seen_of me.0;
-  after = then_ ∙ (λ i. (a.leave.same i, [])) ∙ (λ i. (released_in (n.is i).0, []));
-  begins = begins_itself (seen_of me.0);
-  legal = n.legal;
-  own = n.own;
-  limit = n.limit;
+    → IsNotAdded tries v me₂ seen left.why
+is_not_added tries v me₁ me₂ left place seen b a then_ long = record {
+  history = seen_of v;
+  after = then_ ∙ (λ i. (a.leave.same i, [])) ∙ (λ i. (b.rests i, []));
+  begins = begins_itself (seen_of v);
+  legal = b.legal;
+  own = b.own;
+  limit = b.limit;
   long = long ∙ ap length a.leave.seen;
   why_is = a.why;
 }

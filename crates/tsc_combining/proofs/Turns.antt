@@ -2,7 +2,7 @@
 use Rattle.std.proofs.Common.{◌≡◌, ◌≢◌, ◌∙◌, refl, sym, ap, subst, true, false, ℕ, ◌<◌, []}
 use Rattle.std.proofs.Common.{◌∷◌}
 use Rattle.std.proofs.lemmas.Option.{same_Some}
-use Rattle.std.specs.Prelude.{Option, Some, None, Box, IfSome, IfNone}
+use Rattle.std.specs.Prelude.{Option, Some, None, Box, Result}
 use Rattle.std.specs.declared.alloc.Global.{Global}
 use Rattle.atomic_table.specs.Table.{rest}
 use Rattle.atomic_table.specs.Seated.{TableId}
@@ -27,11 +27,12 @@ use Rattle.tsc_left_right.specs.Requesting.{HasHeard, fetched_in, posted_in, May
 use Rattle.tsc_left_right.proofs.Calls.{still_of}
 use Rattle.tsc_left_right.proofs.Composing.{is_writer}
 use Rattle.tsc_left_right.proofs.Answered.{heard_fetched, heard_rests, has_fetched}
+use Rattle.tsc_combining.specs.declared.asking.Asked.{Asked}
 use Rattle.tsc_combining.specs.declared.asking.Asked.TheVariants as asked
 use Rattle.tsc_combining.specs.declared.asking.Turn.{Turn}
-use Rattle.tsc_combining.specs.Waiting.{HasEnd, StillWrites}
+use Rattle.tsc_combining.specs.Waiting.{StillWrites}
 use Rattle.tsc_combining.specs.Asking.{resting, IsAsking, WasMade, HasAskedOf, HasAskedFor}
-use Rattle.tsc_combining.specs.Asking.{HasTurn, IsTurn}
+use Rattle.tsc_combining.specs.Asking.{IsTurnOf, HasTurnOf}
 
 -- A seat that has posted an Add may acquire the lock, and may hear of that Add.
 keeps : (me : At) (toggle : ℕ) (add : UnappliedAdd) → IsAsking me toggle add → KeepsOne me.0
@@ -91,8 +92,6 @@ pub acquired_releases : (v : Knowledge) (me : At) (state : WriterState) → HasA
 acquired_releases v me state a unpinned = record {
   lock = (0, None, acquired_writes v me state a unpinned);
   none = ap (λ (w : Knowledge). (state_in w).collected) a.0.after;
-  is_told = ap (λ (w : Knowledge). (state_in w).plan) a.0.after
-      ∙ sym (ap (λ (w : Knowledge). (state_in w).head) a.0.after);
   is_after = subst (λ (w : Knowledge). IsAfter w.setup (state_in w).history (state_in w).head
       state) (sym a.0.after) a.0.is_after;
 }
@@ -116,8 +115,8 @@ pub may_withdraw : (me me₁ : At) (toggle number : ℕ) (add : UnappliedAdd) (s
     → answer_bit state.head number ≢ toggle → MayWithdraw me₁ toggle
 may_withdraw me me₁ toggle number add state is a at differs =
     let unpinned : (state_in me.0).stage ≡ 0 = ap (λ (m : At). (state_in m.0).stage) is.0 in
-    let told : (state_in me₁.0).plan ≡ state.head =
-    ap (λ (w : Knowledge). (state_in w).plan) a.0.after ∙ sym a.0.is_after.head_is in
+    let told : (state_in me₁.0).head ≡ state.head =
+    ap (λ (w : Knowledge). (state_in w).head) a.0.after ∙ sym a.0.is_after.head_is in
     let same : number_of me₁.0 ≡ number = ap number_of a.0.after ∙ sym at in
     let toggles : (state_in me₁.0).toggle ≡ toggle =
     ap (λ (w : Knowledge). (state_in w).toggle) a.0.after
@@ -260,15 +259,6 @@ asked_back me me₁ me₂ toggle add back is h then_ =
       same_Some back.value add (sym h.0 ∙ request),
     )
 
--- A seat that was at rest has posted its Add, and nothing is in its hand.
-pub posted_all : (me me₁ me₂ : At) (toggle now number : ℕ) (x : Slot) (add : UnappliedAdd)
-    → IsAtRest me → me₁ ≡ (fetched_in me.0 true toggle, (request_slot number, x) ∷ me.1)
-    → me₂ ≡ (posted_in me₁.0 add now, rest me₁.1) → me₂ ≡ (posted_in me.0 add now, [])
-posted_all me me₁ me₂ toggle now number x add rested fetched then_ =
-    then_
-    ∙ (λ i. (posted_in (fetched i).0 add now, rest (fetched i).1))
-    ∙ (λ i. (posted_in me.0 add now, (rested i).1))
-
 pub is_asking : (me me₂ : At) (now : ℕ) (add : UnappliedAdd) → IsAtRest me
     → me₂ ≡ (posted_in me.0 add now, []) → now < 2 → IsAsking me₂ now add
 is_asking me me₂ now add rested is small =
@@ -313,16 +303,6 @@ turn_acquired me me₂ me₃ now add state back rested is has =
       q.1,
     )
 
--- The turn of a seat that has tried to acquire the lock.
-pub turn_of : (o : Option (Box WriterState Global)) (t : Turn) (add a : UnappliedAdd)
-    (tries : Option ℕ) (me me' : At) → IsTurn o a t → a ≡ add
-    → IfSome o (λ state. HasAcquired me.0 me' state.value)
-    → IfNone o ((me' ≡ me) × HasEnd tries) → HasTurn add tries me me' t
-turn_of None t add a tries me me' is same some none =
-    subst (HasTurn add tries me me') (sym is) none
-turn_of (Some state) t add a tries me me' is same some none =
-    subst (HasTurn add tries me me') (sym is) (some, same)
-
 -- It has the lock until it has cleared all seats, and knows what it knew.
 pub still_writes : (v : Knowledge) (me me' : At) (seat : ℕ) → IsWriting v me seat None
     → StillWrites me.0 me' → StillWrites v me'
@@ -341,46 +321,33 @@ still_writes v me me' seat w s =
       },
     )
 
--- What the calls of a seat leave that found the lock busy, or did not try it.
-pub left_as : (o : Option (Box WriterState Global)) (P : Type 0)
-    → ((x : Box WriterState Global) → o ≡ Some x → ⊥) → IfNone o P → P
-left_as None P not_some p = p
-left_as (Some x) P not_some p = absurd (not_some x refl)
-
-fetched_since : (me m₀ m₁ : At) (toggle number : ℕ) (x : Slot) → m₀ ≡ me
-    → m₁ ≡ (fetched_in m₀.0 true toggle, (request_slot number, x) ∷ m₀.1)
-    → m₁ ≡ (fetched_in me.0 true toggle, (request_slot number, x) ∷ me.1)
-fetched_since me m₀ m₁ toggle number x same f =
-    f ∙ (λ i. (fetched_in (same i).0 true toggle, (request_slot number, x) ∷ (same i).1))
-
-pub may_post : (me m₀ m₁ : At) (toggle number : ℕ) (x : Slot) (add a : UnappliedAdd)
-    → IsAtRest me → m₀ ≡ me → number ≡ number_of me.0
-    → m₁ ≡ (fetched_in m₀.0 true toggle, (request_slot number, x) ∷ m₀.1) → toggle < 2
+-- A seat that was at rest may post its Add.
+pub may_post : (me m₁ : At) (toggle number : ℕ) (x : Slot) (add a : UnappliedAdd)
+    → IsAtRest me → number ≡ number_of me.0
+    → m₁ ≡ (fetched_in me.0 true toggle, (request_slot number, x) ∷ me.1) → toggle < 2
     → CanBe me.0.setup add → a ≡ add → MayPost m₁ toggle a
-may_post me m₀ m₁ toggle number x add a rested same at f small can is =
-    let fetched = fetched_since me m₀ m₁ toggle number x same f in record {
-      fetched = has_fetched me m₁ number toggle x at
-          (ap (λ (m : At). (state_in m.0).request) rested) fetched;
-      toggle_is = sym (ap (λ (m : At). (state_in m.0).toggle) fetched);
-      small = small;
-      can = subst (λ (m : At). CanBe m.0.setup a) (sym fetched)
-          (subst (CanBe me.0.setup) (sym is) can);
-    }
+may_post me m₁ toggle number x add a rested at fetched small can is = record {
+  fetched = has_fetched me m₁ number toggle x at
+      (ap (λ (m : At). (state_in m.0).request) rested) fetched;
+  toggle_is = sym (ap (λ (m : At). (state_in m.0).toggle) fetched);
+  small = small;
+  can = subst (λ (m : At). CanBe m.0.setup a) (sym fetched)
+      (subst (CanBe me.0.setup) (sym is) can);
+}
 
-pub posted_since : (me m₀ m₁ m₂ : At) (toggle now number : ℕ) (x : Slot) (add a : UnappliedAdd)
-    → IsAtRest me → m₀ ≡ me
-    → m₁ ≡ (fetched_in m₀.0 true toggle, (request_slot number, x) ∷ m₀.1)
-    → m₂ ≡ (posted_in m₁.0 a now, rest m₁.1) → a ≡ add → m₂ ≡ (posted_in me.0 add now, [])
-posted_since me m₀ m₁ m₂ toggle now number x add a rested same f then_ is =
-    posted_all me m₁ m₂ toggle now number x a rested
-    (fetched_since me m₀ m₁ toggle number x same f) then_
-    ∙ ap (λ (b : UnappliedAdd). (posted_in me.0 b now, [])) is
+-- What its request comes to is its turn, or it has its Add again.
+pub turn_asked : (me me₂ me₃ : At) (now : ℕ) (add : UnappliedAdd) (tries : Option ℕ) (a : Asked)
+    (r : Result Turn UnappliedAdd) → IsAtRest me → me₂ ≡ (posted_in me.0 add now, [])
+    → HasAskedFor me₂ me₃ a → IsTurnOf a r → HasTurnOf add tries me me₃ r
+turn_asked me me₂ me₃ now add tries (asked.Made reply) r rested is has t =
+    subst (HasTurnOf add tries me me₃) (sym t) (turn_made me me₂ me₃ now add reply is has)
+turn_asked me me₂ me₃ now add tries (asked.SentBack back) r rested is has t =
+    subst (HasTurnOf add tries me me₃) (sym t) (turn_back me me₂ me₃ now add back rested is has)
+turn_asked me me₂ me₃ now add tries (asked.Acquired state back) r rested is has t =
+    subst (HasTurnOf add tries me me₃) (sym t)
+    (turn_acquired me me₂ me₃ now add state back rested is has)
 
-pub turn_since : (o : Option (Box WriterState Global)) (t : Turn) (add a : UnappliedAdd)
-    (tries : Option ℕ) (me m₃ m₄ : At) → IsTurn o a t → a ≡ add → m₃ ≡ me
-    → IfSome o (λ state. HasAcquired m₃.0 m₄ state.value)
-    → IfNone o ((m₄ ≡ m₃) × HasEnd tries) → HasTurn add tries me m₄ t
-turn_since o t add a tries me m₃ m₄ is same back some none =
-    turn_of o t add a tries me m₄ is same
-    (subst (λ (m : At). IfSome o (λ state. HasAcquired m.0 m₄ state.value)) back some)
-    (subst (λ (m : At). IfNone o ((m₄ ≡ m) × HasEnd tries)) back none)
+pub turn_left : (me me₂ me₃ : At) (now : ℕ) (add : UnappliedAdd) → IsAtRest me
+    → me₂ ≡ (posted_in me.0 add now, []) → me₃ ≡ (resting me₂.0, []) → me₃ ≡ me
+turn_left me me₂ me₃ now add rested is then_ =
+    then_ ∙ (λ i. (resting (is i).0, [])) ∙ sym rested

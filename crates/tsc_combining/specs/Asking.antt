@@ -1,5 +1,6 @@
 -- What becomes of an Add for which a seat wants the writer lock.
 use Rattle.std.specs.Prelude.{◌≡◌, ℕ, ◌+◌, ◌<◌, [], ◌∷◌, ◌++◌, length, Option, Some, None, Box}
+use Rattle.std.specs.Prelude.{Result, Ok, Err}
 use Rattle.std.specs.declared.alloc.Global.{Global}
 use Rattle.tsc_cache.specs.History.{History, own_count, BeginsWith, IsLegal}
 use Rattle.tsc_left_right.specs.declared.table.UnappliedAdd.{UnappliedAdd}
@@ -71,3 +72,14 @@ abbrev pub IsBusy : Turn → Type 0
 IsBusy turn.Busy = Unit {0}
 IsBusy (turn.Acquired state a) = ⊥
 IsBusy (turn.Made reply) = ⊥
+
+-- What a request comes to: what was sent back is the seat's again.
+abbrev pub IsTurnOf : Asked → Result Turn UnappliedAdd → Type 0
+IsTurnOf (asked.Made reply) r = r ≡ Ok (turn.Made reply)
+IsTurnOf (asked.SentBack a) r = r ≡ Err a.value
+IsTurnOf (asked.Acquired state a) r = r ≡ Ok (turn.Acquired state a.value)
+
+-- What became of an Add of a seat that was at rest and asked for it: the seat may have it back.
+abbrev pub HasTurnOf : UnappliedAdd → Option ℕ → At → At → Result Turn UnappliedAdd → Type 0
+HasTurnOf add tries me me' (Ok t) = HasTurn add tries me me' t
+HasTurnOf add tries me me' (Err a) = (me' ≡ me) × (a ≡ add)

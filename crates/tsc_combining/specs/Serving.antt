@@ -1,6 +1,6 @@
 -- What the writer makes for other seats, and what it has in hand meanwhile. (For private
 -- contracts.)
-use Rattle.std.specs.Prelude.{◌≡◌, ℕ, ◌+◌, ◌≤◌, List, [], length, Bool, false, None}
+use Rattle.std.specs.Prelude.{◌≡◌, ℕ, ◌+◌, ◌≤◌, List, length, Bool, false, None}
 use Rattle.std.specs.Arc.{arc_value}
 use Rattle.std.specs.declared.sync.Arc.{Arc}
 use Rattle.std.specs.declared.alloc.Global.{Global}
@@ -12,7 +12,7 @@ use Rattle.tsc_left_right.specs.declared.table.Collected.{Collected}
 use Rattle.tsc_left_right.specs.declared.table.Knowledge.{Knowledge}
 use Rattle.tsc_left_right.specs.Rule.{marks_in, IsState, times, standby_side}
 use Rattle.tsc_left_right.specs.Steps.{At, state_in, with_state, grown}
-use Rattle.tsc_left_right.specs.RequestSteps.{serving, told}
+use Rattle.tsc_left_right.specs.RequestSteps.{serving}
 use Rattle.tsc_left_right.specs.Participating.{IsWriting, AreMade}
 
 -- An Add was made in a cache, without a rotation.
@@ -23,26 +23,21 @@ IsMadeIn old new add kept =
     (record { kept = kept; rotated = false; evicted = 0 })
 
 -- The writer, as it was in v, has cleared so many seats, and has these requests in hand. What it
--- has made for others after a history is that of these requests. What HEAD is to be (plan) leaves
--- the side as it is.
-pub record HasBatch (v : Knowledge) (h : History) (xs : List Collected) (cleared plan : ℕ)
+-- has made for others after a history is that of these requests. What it knows of HEAD now leaves
+-- the side as it was.
+pub record HasBatch (v : Knowledge) (h : History) (xs : List Collected) (cleared head : ℕ)
     (me : At) (items : List MadeAdd) : Type 0 where
-  pub is : me.0 ≡ with_state v (serving (state_in v) xs plan)
-  pub side : standby_side plan ≡ standby_side (state_in v).head
+  pub is : me.0 ≡ with_state v (serving (state_in v) xs head)
+  pub side : standby_side head ≡ standby_side (state_in v).head
   pub writing : IsWriting me.0 me cleared None
   pub made : AreMade v.setup h xs items
 
--- The writer of v has sent back all that it has made, and this is HEAD, which tells so.
-pub record HasSentAll (v : Knowledge) (cleared head : ℕ) (me : At) : Type 0 where
-  pub is : me.0 ≡ with_state v (told (serving (state_in v) [] head))
-  pub writing : IsWriting me.0 me cleared None
-
 -- The writer has cleared all seats, and has looked whether the seats up to this one ask for
 -- something. This copy has had all that was collected.
-pub record Serves (v : Knowledge) (h : History) (room from plan : ℕ) (me : At)
+pub record Serves (v : Knowledge) (h : History) (room from head : ℕ) (me : At)
     (items : List MadeAdd) (cache : CacheView) : Type 0 where
   pub collected : List Collected
-  pub batch : HasBatch v h collected v.setup.seats plan me items
+  pub batch : HasBatch v h collected v.setup.seats head me items
   pub stands : IsState v.setup (grown h collected) cache
   pub new : (r : ℕ) → from ≤ r → times r collected ≡ 0
   pub few : length items ≤ room
@@ -51,16 +46,17 @@ pub record Serves (v : Knowledge) (h : History) (room from plan : ℕ) (me : At)
 -- Whatever the writer was, it still serves.
 abbrev pub Serving : ℕ → ℕ → ℕ → At → List MadeAdd → CacheView → ℕ → ℕ → At → List MadeAdd
     → CacheView → Type 0
-Serving room from plan me items cache from' plan' me' items' cache' =
-    (v : Knowledge) (h : History) → Serves v h room from plan me items cache
-    → Serves v h room from' plan' me' items' cache'
+Serving room from head me items cache from' head' me' items' cache' =
+    (v : Knowledge) (h : History) → Serves v h room from head me items cache
+    → Serves v h room from' head' me' items' cache'
 
 abbrev pub CanServe : ℕ → ℕ → At → List MadeAdd → Arc CacheView Global → Type 0
-CanServe room plan me items next =
-    (v : Knowledge) × (h : History) × Serves v h room 0 plan me items (arc_value next)
+CanServe room head me items next =
+    (v : Knowledge) × (h : History) × Serves v h room 0 head me items (arc_value next)
 
-abbrev pub HasMade : ℕ → ℕ → At → List MadeAdd → Arc CacheView Global → ℕ → At → List MadeAdd
-    → Arc CacheView Global → Type 0
-HasMade room plan me items next plan' me' items' next' =
-    (v : Knowledge) (h : History) → Serves v h room 0 plan me items (arc_value next)
-    → (n : ℕ) × Serves v h room n plan' me' items' (arc_value next')
+-- It has looked at some of so many seats.
+abbrev pub HasMade : ℕ → ℕ → ℕ → At → List MadeAdd → Arc CacheView Global → ℕ → At
+    → List MadeAdd → Arc CacheView Global → Type 0
+HasMade seats room head me items next head' me' items' next' =
+    (v : Knowledge) (h : History) → Serves v h room 0 head me items (arc_value next)
+    → (n : ℕ) × (n ≤ seats) × Serves v h room n head' me' items' (arc_value next')

@@ -13,11 +13,11 @@ use Rattle.tsc_left_right.specs.declared.table.UnappliedAdd.{UnappliedAdd}
 use Rattle.tsc_left_right.specs.declared.table.WriterState.{WriterState}
 use Rattle.tsc_left_right.specs.declared.table.Knowledge.{Knowledge}
 use Rattle.tsc_left_right.specs.declared.table.Slot.TheVariants.{Empty}
-use Rattle.tsc_left_right.specs.Rule.{at_rest, entry_of, marks_in, CanBe, IsAfter}
+use Rattle.tsc_left_right.specs.Rule.{at_rest, entry_of, marks_in, CanBe, IsAfter, IsState}
 use Rattle.tsc_left_right.specs.Steps.{At, state_in, with_state, seated, number_of, seen_of}
 use Rattle.tsc_left_right.specs.Steps.{count_of, acquired}
 use Rattle.tsc_combining.specs.Waiting.{HasEnd}
-use Rattle.tsc_left_right.specs.Participating.{IsWriting, HasInstalled, IsReady, MayRelease}
+use Rattle.tsc_left_right.specs.Participating.{Participant, IsWriting, HasInstalled, IsReady, MayRelease}
 use Rattle.tsc_left_right.specs.Participating.{released_in}
 use Rattle.tsc_combining.specs.Asking.{resting}
 use Rattle.tsc_combining.specs.declared.writing.Prepared.{Prepared}
@@ -27,6 +27,8 @@ use Rattle.tsc_combining.specs.declared.writing.NotAdded.TheVariants as not_adde
 use Rattle.tsc_combining.specs.declared.writing.Outcome.{Outcome}
 use Rattle.tsc_combining.specs.declared.writing.Outcome.TheVariants.{Busy, Made, Refused}
 use Rattle.tsc_combining.specs.Adding.{AllFit}
+use Rattle.tsc_combining.specs.Context.{IsSeatOf}
+use Rattle.tsc_combining.specs.declared.context.AddContext.{AddContext}
 
 -- A writer that has just acquired the lock: it has seen all, and nothing is cleared or collected.
 -- What it works with is in its hand.
@@ -49,7 +51,6 @@ pub record HoldsState (me : At) (cleared : ℕ) (state : WriterState) : Type 0 w
   pub asks_none : (state_in me.0).request ≡ None
   pub seen : (state_in me.0).history ≡ seen_of me.0
   pub legal : IsLegal me.0.setup.config me.0.setup.seats (seen_of me.0)
-  pub is_told : (state_in me.0).plan ≡ (state_in me.0).head
   pub is_after : IsAfter me.0.setup (seen_of me.0) (state_in me.0).head state
 
 -- The writer can make this Add, for which there is room.
@@ -57,6 +58,13 @@ pub record MayMake (me : At) (state : WriterState) (add : UnappliedAdd) : Type 0
   pub can : CanBe me.0.setup add
   pub fits : AllFit state add
   pub room : state.length < me.0.setup.limit
+
+-- The writer can prepare this Add, for which it has cleared all seats.
+pub record MayPrepare (context : AddContext) (who : Participant) (state : WriterState)
+    (add : UnappliedAdd) : Type 0 where
+  pub seat : IsSeatOf context who
+  pub holds : HoldsState who.me context.setup.now.seats state
+  pub make : MayMake who.me state add
 
 -- The copies are swapped.
 pub record IsSwapped (old : WriterState) (next : Arc CacheView Global) (add : UnappliedAdd)
@@ -67,6 +75,23 @@ pub record IsSwapped (old : WriterState) (next : Arc CacheView Global) (add : Un
   pub others_same : new.lagging.others ≡ old.lagging.others
   pub length : new.length ≡ old.length + 1 + count
   pub head : new.head ≡ old.head
+
+-- The copies are swapped back, when there were so many Adds.
+pub record IsSwappedBack (old : WriterState) (adds : ℕ) (new : WriterState) (add : UnappliedAdd)
+    : Type 0 where
+  pub active : old.standby ≡ Some new.active
+  pub standby : new.standby ≡ None
+  pub own : old.lagging.own ≡ Some add
+  pub none : new.lagging.own ≡ None
+  pub others_same : new.lagging.others ≡ old.lagging.others
+  pub length : new.length ≡ adds
+  pub head : new.head ≡ old.head
+
+-- What the standby copy stands for is all that a seat of v has seen.
+pub record StandsBefore (v : Knowledge) (state : WriterState) : Type 0 where
+  pub copy : Arc CacheView Global
+  pub is : state.standby ≡ Some copy
+  pub stands : IsState v.setup (seen_of v) (arc_value copy)
 
 -- All is prepared that is to be published.
 pub record IsReadyToPublish (me : At) (state : WriterState) : Type 0 where
@@ -83,6 +108,43 @@ pub record IsPrepared (v : Knowledge) (me : At) (add : UnappliedAdd) (state : Wr
   pub below : length (seen_of v) < v.setup.limit
   pub added_is : added ≡ (step_all v.setup.config (state_of v.setup.config (seen_of v))
       (marks_in add.marks) add.moment).added
+  pub before : StandsBefore v state
+
+-- The writer of v has acquired the lock and has seen all, so many Adds.
+pub record IsBegun (v : Knowledge) (place : ℕ) : Type 0 where
+  pub rests : released_in v ≡ resting v
+  pub legal : IsLegal v.setup.config v.setup.seats (seen_of v)
+  pub own : own_count (number_of v) (seen_of v) ≡ count_of v
+  pub limit : length (seen_of v) ≤ v.setup.limit
+  pub low : number_of v < v.setup.seats
+  pub place_is : place ≡ length (seen_of v)
+
+-- It is still that writer.
+pub record HasBegun (v : Knowledge) (me : At) (place : ℕ) : Type 0 where
+  pub begun : IsBegun v place
+  pub same : released_in me.0 ≡ released_in v
+
+-- What it has prepared may be published.
+pub record MayPublish (v : Knowledge) (me : At) (add : UnappliedAdd) (place : ℕ) (made : Prepared)
+    : Type 0 where
+  pub begun : IsBegun v place
+  pub prepared : IsPrepared v me add made.state.value made.added
+
+-- It has sent back all that it had made for others, and published nothing.
+pub record MayAddAgain (v : Knowledge) (me : At) (add : UnappliedAdd) (place : ℕ)
+    (state : WriterState) : Type 0 where
+  pub begun : IsBegun v place
+  pub writing : IsWriting me.0 me me.0.setup.seats None
+  pub none : (state_in me.0).collected ≡ []
+  pub asks_none : (state_in me.0).request ≡ None
+  pub same : released_in me.0 ≡ released_in v
+  pub seen : (state_in me.0).history ≡ seen_of v
+  pub below : length (seen_of v) < v.setup.limit
+  pub can : CanBe v.setup add
+  pub own : state.lagging.own ≡ Some add
+  pub others : state.lagging.others.items ≡ []
+  pub before : StandsBefore v state
+  pub head_is : state.head ≡ (state_in me.0).head
 
 -- The Add that can be made is the one that was copied.
 abbrev pub CanMake : Result UnappliedAdd NoMemory → Knowledge → At → Prepared → Type 0

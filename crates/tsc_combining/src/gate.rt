@@ -10,8 +10,12 @@ pub trait Gate {
     /// The call was answered.
     fn done(&self, thread: u32, call: u32);
 
-    /// The Add of this seat is about to be published: nothing can refuse it any more, and nobody
+    /// The Add of this seat is about to be published: nothing can refuse it now, and nobody
     /// has seen it yet. A refused Add is not told.
+    ///
+    /// That holds of a seat that neither asks nor serves ([`Asks`](crate::Asks)). An Add that
+    /// another seat has made, and one beside which Adds of others are made, is told once it is
+    /// published.
     fn publish(&self, seat: u32);
 }
 
@@ -27,7 +31,7 @@ impl Gate for NoGate {
     fn publish(&self, _seat: u32) {}
 }
 
-/// What a gate is told of one Add: that it is about to be published, once.
+/// What a gate is told of one Add, once: that it is about to be published, or that it was.
 #[derive(Drop)]
 pub struct Notice<'g, G> {
     gate: &'g G,

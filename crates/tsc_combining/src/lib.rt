@@ -2,10 +2,15 @@
 //! lock of `tsc_left_right`, or by the seat that has the lock.
 //!
 //! That is *flat combining*. A seat that finds the lock busy asks the seat that has it. The
-//! writer makes its own Add in the standby copy, then one Add of each seat that asks. One store
+//! writer makes its own Add in the standby copy, then one Add of each seat that asks. One step
 //! publishes all of them: it swaps the copies and gives each of these seats its reply. The writer
 //! sends back what would rotate the pages, what is refused memory, and what the limit does not
 //! allow: the seat that asked makes that by itself.
+//!
+//! A seat whose tries come to their end leaves: it withdraws what it asked for, whatever the writer
+//! does. A writer that has made the Add of such a seat sends back all that it has made for others,
+//! and makes its own Add anew, alone, which nobody keeps it from publishing. So a seat that waits
+//! may wait for one that has the lock, and nobody waits for one that asks.
 //!
 //! - [`add_by`] makes an Add, and says what became of it ([`Outcome`]).
 //! - A [`WaitPolicy`] says how a seat waits: for ever ([`Blocking`]), or for so many tries

@@ -9,13 +9,11 @@ ghost use Rattle.tsc_combining.specs.Asking.{HasTurn, IsBusy, IsTurn};
 ghost use Rattle.tsc_left_right.specs.Participating.{IsOf, IsFree, IsNext, AreSides, IsWriting};
 ghost use Rattle.tsc_left_right.specs.Participating.{HasAcquired};
 
-use crate::asking::{Asked, Turn, wait_for_answer};
+use crate::asking::{Turn, ask_and_leave, ask_and_wait};
 use crate::context::AddContext;
 use crossbeam_utils::Backoff;
 use std::sync::Wait;
-use tsc_left_right::{
-    Participant, SharedReplicas, UnappliedAdd, WriterState, acquire, clear, fetch, post,
-};
+use tsc_left_right::{Participant, SharedReplicas, UnappliedAdd, WriterState, acquire, clear};
 
 /// How often one tries to acquire the writer lock, and then looks whether a seat has left the
 /// standby side.
@@ -39,8 +37,9 @@ pub trait WaitPolicy {
         ensures no_try { tries self.now ≡ Some 0 → IsNone result };
 
     /// Acquires the writer lock with this Add, or has it made by the seat that has the lock. An
-    /// eager seat asks that seat at once, and waits for it a little. Any other seat tries the lock
-    /// first.
+    /// eager seat asks that seat at once. Any other seat tries the lock first.
+    ///
+    /// If this gives up, the Add is in no history, and never comes into one.
     fn ask(
         &self,
         context: &AddContext<'_>,
@@ -96,7 +95,8 @@ fn acquire_first(
     }
 }
 
-/// Until it is so.
+/// Until it is so. A seat that is eager to ask waits a little for its answer, before it tries the
+/// lock.
 #[derive(Drop)]
 pub struct Blocking<'r, R>(pub &'r R);
 
@@ -131,18 +131,9 @@ impl<'r, R: Wait> WaitPolicy for Blocking<'r, R> {
         if let Some(state) = acquire_first(shared, who, number, eager) {
             return Turn::Acquired(state, add);
         }
-        let add = match Box::new(context.alloc, add) {
-            Ok(add) => add,
-            Err(refused) => return acquired(self.acquire(shared, who, number), refused.value),
-        };
-        let toggle = fetch(shared, who, number);
-        let toggle = post(shared, who, number, toggle, add);
-        match wait_for_answer(self.0, shared, who, number, toggle, eager) {
-            Asked::Made(reply) => Turn::Made(reply),
-            Asked::SentBack(add) => {
-                acquired(self.acquire(shared, who, number), Box::into_inner(add))
-            }
-            Asked::Acquired(state, add) => Turn::Acquired(state, Box::into_inner(add)),
+        match ask_and_wait(self.0, context, who, add, eager) {
+            Ok(turn) => turn,
+            Err(add) => acquired(self.acquire(shared, who, number), add),
         }
     }
 
@@ -167,6 +158,14 @@ impl<'r, R: Wait> WaitPolicy for Blocking<'r, R> {
 }
 
 /// A policy of this number of tries, with a few idle steps between them.
+///
+/// A seat that asks looks so many times whether its request was answered, and tries the lock as
+/// often. Then it withdraws the request. Until it has the lock or its reply, or has given up, it
+/// takes three atomic steps for each try and a dozen more at the most, whatever other threads do.
+///
+/// No other seat waits for it: a writer that has made its Add meanwhile and not published it
+/// publishes without. Once a writer has seen that it had left, it can ask again. Until then it only
+/// tries the lock.
 #[derive(Clone, Copy)]
 pub struct Bounded(pub u32);
 
@@ -194,9 +193,20 @@ impl WaitPolicy for Bounded {
         context: &AddContext<'_>,
         who: &mut Participant,
         add: UnappliedAdd,
-        _eager: bool,
+        eager: bool,
     ) -> Turn {
-        acquired(self.acquire(context.shared, who, context.number), add)
+        if self.0 == 0 {
+            return Turn::Busy;
+        }
+        let shared = context.shared;
+        let number = context.number;
+        if let Some(state) = acquire_first(shared, who, number, eager) {
+            return Turn::Acquired(state, add);
+        }
+        match ask_and_leave(self.0, context, who, add) {
+            Ok(turn) => turn,
+            Err(add) => acquired(self.acquire(shared, who, number), add),
+        }
     }
 
     fn clear(

@@ -1,4 +1,4 @@
--- A seat acquires the writer lock, and a writer tells all seats.
+-- A seat acquires the writer lock.
 use Rattle.std.proofs.Common.{◌≡◌, ◌≢◌, ◌∙◌, refl, sym, ap, subst, Bool, true, false, ℕ, ◌+◌, ◌%◌}
 use Rattle.std.proofs.Common.{List, [], ◌∷◌, set, arith, slice_index, length-set}
 use Rattle.std.proofs.Common.{get_or-set_other, get_or-set_same, ne_eqb}
@@ -23,111 +23,17 @@ use Rattle.tsc_left_right.specs.declared.table.SeatState.{SeatState}
 use Rattle.tsc_left_right.specs.declared.table.Knowledge.{Knowledge}
 use Rattle.tsc_left_right.specs.Rule.{keeping, one_if, SharedState, LeftRightRule}
 use Rattle.tsc_left_right.specs.Rule.{StateFits}
-use Rattle.tsc_left_right.specs.Rule.{holders, answer_bit}
+use Rattle.tsc_left_right.specs.Rule.{holders}
 use Rattle.tsc_left_right.specs.Rule.{head_word, epoch_word, request_word, side_slot}
 use Rattle.tsc_left_right.specs.Rule.{request_slot, active_side, standby_side}
 use Rattle.tsc_left_right.specs.Steps.{seen_then, acquired, acquires}
-use Rattle.tsc_left_right.specs.RequestSteps.{told}
-use Rattle.tsc_left_right.proofs.Batching.{says_told}
 use Rattle.tsc_cache.proofs.Beginnings.{begins_itself}
 use Rattle.tsc_left_right.proofs.Owning.{quiet_none}
-use Rattle.tsc_left_right.proofs.Requests.{seat_same}
 use Rattle.tsc_left_right.proofs.Hearing.{unmoved}
 use Rattle.tsc_left_right.proofs.Totals.{part}
 use Rattle.tsc_left_right.proofs.Hands.{Homes, Hand}
 use Rattle.tsc_left_right.proofs.Moves.{Board, Moved, moved_kept, of_one, only_fits, not_holding}
 use Rattle.tsc_left_right.proofs.Moves.{knows_all, none_is_no}
-
-module _ (setup : Setup) (slots : ℕ) (id : ℕ) (t : Setup) (p : SeatState) (hand : Hand) where
-  abbrev v : Knowledge
-  v = keeping t (p ∷ [])
-
-  -- The writer tells all by one store.
-  pub tell_allowed : p.holds ≡ true → Allows (LeftRightRule setup) slots id (v, hand) head_word
-      (λ _. p.plan) (λ _ me'. me' ≡ (keeping t (told p ∷ []), hand))
-  tell_allowed holds s k deep at small =
-      let all = knows_all setup s k id t p holds at in
-      let g : SharedState = k.g in
-      let taken = all.taken in
-      let wide = k.wide in
-      let w : Knowledge = keeping t (told p ∷ []) in
-      let words : List ℕ = set s.words head_word p.plan in
-      let same : (i : ℕ) → i ≢ head_word → slice_index words i ≡ slice_index s.words i =
-      λ i apart. get_or-set_other s.words head_word i p.plan 0 apart in
-      let g' : SharedState = record {
-        history = g.history;
-        head = g.plan;
-        plan = g.plan;
-        word = g.word;
-        stage_of = g.stage_of;
-        toggle_of = g.toggle_of;
-        request_of = g.request_of;
-        cleared = g.cleared;
-        watched = g.watched;
-        collected = g.collected;
-      } in (
-        w,
-        act_keeps,
-        tt,
-        moved_kept setup s k id v w g' words s.homes (record {
-          at = at;
-          legal = k.legal;
-          limit = k.limit;
-          side = refl;
-          wide = length-set s.words head_word p.plan ∙ k.wide;
-          deep = k.deep;
-          word_is = same 0 (λ z. omega (arith, z)) ∙ k.word_is;
-          head_is = get_or-set_same s.words head_word p.plan 0 (omega (arith, wide)) ∙ all.plan;
-          seats = λ r low. seat_same setup g g' s.words words s.homes s.homes r refl k.side refl
-              refl refl (same (epoch_word r) (λ z. omega (arith, z))) (λ _ _. refl) (k.seats r low);
-          requests = λ r low. let ok = k.requests r low in record {
-            toggle = same (request_word r) (λ z. omega (arith, z)) ∙ ok.toggle;
-            small = ok.small;
-            says = says_told setup g.history (get_elem? s.homes (request_slot r)) (g.toggle_of r)
-                (answer_bit g.head r) (answer_bit g.plan r) r (g.request_of r) ok.says;
-          };
-          collected = k.collected;
-          fits = of_one t (told p) all.same (record {
-            begins = all.mine.begins;
-            own = all.mine.own;
-            own_seen = all.mine.own_seen;
-            at_stage = all.mine.at_stage;
-            at_toggle = all.mine.at_toggle;
-            at_request = all.mine.at_request;
-            at_fetched = all.mine.at_fetched;
-            sees = λ z. all.mine.sees (omega (arith, z, k.side));
-            holding = λ _. (
-              all.all,
-              all.taken,
-              all.cleared,
-              all.watched,
-              all.collected,
-              all.plan,
-              all.plan,
-            );
-          });
-          others = λ other u apart e. let was = k.views other u e in record {
-            settled = was.settled;
-            states = λ i x d. let f = was.states i x d in record {
-              begins = f.begins;
-              own = f.own;
-              own_seen = f.own_seen;
-              at_stage = f.at_stage;
-              at_toggle = f.at_toggle;
-              at_request = f.at_request;
-              at_fetched = f.at_fetched;
-              sees = λ z. f.sees (omega (arith, z, k.side));
-              holding = λ y. absurd (not_holding u i x (all.nobody other u apart e) d y);
-            };
-            front = was.front;
-          };
-          each = λ _. refl;
-          one = omega (arith, k.one);
-          idle = k.idle;
-          free = λ z. absurd (omega (arith, z, taken));
-        }),
-        refl,
-      )
 
 module _ (setup : Setup) (slots : ℕ) (st : Step Slot) (id : ℕ) (t : Setup) (p : SeatState) where
   abbrev acquirer : Knowledge
@@ -150,7 +56,7 @@ module _ (setup : Setup) (slots : ℕ) (st : Step Slot) (id : ℕ) (t : Setup) (
   own_then None g is fits = omega (
     arith,
     fits.own,
-    (quiet_none (g.request_of p.number) (fits.at_request ∙ is)).0,
+    quiet_none (g.request_of p.number) (fits.at_request ∙ is),
   )
   own_then (Some a) g is fits = fits.own_seen
 
@@ -169,7 +75,7 @@ module _ (setup : Setup) (slots : ℕ) (st : Step Slot) (id : ℕ) (t : Setup) (
       let mine = only_fits setup g t p (k.views id acquirer at) in
       let same : t ≡ setup = (k.views id acquirer at).settled refl in
       let nobody : sum_by holders s.views ≡ 0 = k.one ∙ ap (λ n. one_if (nat_lt 0 n)) free in
-      let q : SeatState = acquired p h g.head in
+      let q : SeatState = acquired p h g.known in
       let w : Knowledge = keeping t (q ∷ []) in
       let n1 : ℕ = p.number + 1 in
       let words : List ℕ = set s.words 0 n1 in
@@ -179,7 +85,7 @@ module _ (setup : Setup) (slots : ℕ) (st : Step Slot) (id : ℕ) (t : Setup) (
       let g' : SharedState = record {
         history = h;
         head = g.head;
-        plan = g.plan;
+        known = g.known;
         word = n1;
         stage_of =
             g.stage_of;
@@ -232,8 +138,9 @@ module _ (setup : Setup) (slots : ℕ) (st : Step Slot) (id : ℕ) (t : Setup) (
           at_toggle = mine.at_toggle;
           at_request = mine.at_request;
           at_fetched = mine.at_fetched;
+          at_leaving = mine.at_leaving;
           sees = λ z. seen_all p.request h (mine.sees z);
-          holding = λ _. (refl, omega arith, sym idle.0, refl, sym idle.1, refl, sym here.3);
+          holding = λ _. (refl, omega arith, sym idle.0, refl, sym idle.1, refl);
         });
         others = λ other u apart e. let was = k.views other u e in record {
           settled = was.settled;
@@ -245,6 +152,7 @@ module _ (setup : Setup) (slots : ℕ) (st : Step Slot) (id : ℕ) (t : Setup) (
             at_toggle = f.at_toggle;
             at_request = f.at_request;
             at_fetched = f.at_fetched;
+            at_leaving = f.at_leaving;
             sees = f.sees;
             holding = λ y. absurd
                 (not_holding u i x (omega (arith, nobody, part holders s.views other u e)) d y);
@@ -267,7 +175,7 @@ module _ (setup : Setup) (slots : ℕ) (st : Step Slot) (id : ℕ) (t : Setup) (
             here.0,
             record {
               history = h;
-              head = g.head;
+              head = g.known;
               after = refl;
               begins = mine.begins;
               legal = rw same k.legal;

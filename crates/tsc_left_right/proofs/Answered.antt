@@ -25,6 +25,7 @@ rest_fetches me rested = record {
   one = rest_keeps me rested;
   request = ap (λ (m : At). (state_in m.0).request) rested;
   fetched = ap (λ (m : At). (state_in m.0).fetched) rested;
+  leaving = ap (λ (m : At). (state_in m.0).leaving) rested;
 }
 
 pub rest_is_free : (me : At) → IsAtRest me → IsFree me

@@ -16,7 +16,8 @@ use Rattle.tsc_left_right.specs.declared.table.UnappliedAdd.{UnappliedAdd}
 use Rattle.tsc_left_right.specs.declared.table.Collected.{Collected}
 use Rattle.tsc_left_right.specs.declared.table.Slot.{Slot}
 use Rattle.tsc_left_right.specs.Rule.{one_if, RequestState, Idle, Fetched, Posted, Taken}
-use Rattle.tsc_left_right.specs.Rule.{Answered, SentBack, made_of, in_hand, IsMadeAt, HasAnswer}
+use Rattle.tsc_left_right.specs.Rule.{Answered, SentBack, Leaving, LeavingTaken, Left, LeftTaken}
+use Rattle.tsc_left_right.specs.Rule.{made_of, in_hand, IsMadeAt, HasAnswer}
 use Rattle.tsc_left_right.specs.Rule.{IsRequested, CanBe, times, entry_of, request_slot}
 use Rattle.tsc_left_right.specs.Steps.{next_of, grown}
 use Rattle.tsc_left_right.specs.Writing.{Hand, Replied}
@@ -84,7 +85,7 @@ requests_made request_of h [] = request_of
 requests_made request_of h (x ∷ xs) =
     put (requests_made request_of h xs) x.seat (Answered (grown h xs) x.add)
 
--- Each of these requests was taken, and is there once.
+-- Each of these requests was taken, its seat still waits for it, and it is there once.
 pub record Ready (seats : ℕ) (request_of : ℕ → RequestState) (xs : List Collected)
     : Type 0 where
   pub listed : (i : ℕ) (x : Collected) → get_elem? xs i ≡ maybe.some x
@@ -186,49 +187,41 @@ made_at_more h r b p es none made = record {
 }
 
 pub says_more : (setup : Setup) (h : History) (home : maybe.Option (maybe.Option Slot))
-    (toggle told plan r : ℕ) (a : RequestState) (es : History) → own_count r es ≡ 0
-    → IsRequested setup h home toggle told plan r a → IsRequested setup (h ++ es) home toggle told
-    plan r a
-says_more setup h home toggle told plan r Idle es none says = says
-says_more setup h home toggle told plan r Fetched es none says = says
-says_more setup h home toggle told plan r (Posted p) es none says = says
-says_more setup h home toggle told plan r (Taken p) es none says = says
-says_more setup h home toggle told plan r (Answered b p) es none says =
+    (toggle told known r : ℕ) (a : RequestState) (es : History) → own_count r es ≡ 0
+    → IsRequested setup h home toggle told known r a → IsRequested setup (h ++ es) home toggle told
+    known r a
+says_more setup h home toggle told known r Idle es none says = says
+says_more setup h home toggle told known r Fetched es none says = says
+says_more setup h home toggle told known r (Posted p) es none says = says
+says_more setup h home toggle told known r (Taken p) es none says = says
+says_more setup h home toggle told known r (Answered b p) es none says =
     (says.0, made_at_more h r b p es none says.1, says.2, says.3)
-says_more setup h home toggle told plan r (SentBack p) es none says = says
-
--- What is asked for a seat fits still when HEAD is what it was to be.
-pub says_told : (setup : Setup) (h : History) (home : maybe.Option (maybe.Option Slot))
-    (toggle told plan r : ℕ) (a : RequestState) → IsRequested setup h home toggle told plan r a
-    → IsRequested setup h home toggle plan plan r a
-says_told setup h home toggle told plan r Idle says = (says.0, says.2, says.2)
-says_told setup h home toggle told plan r Fetched says = (says.1, says.1)
-says_told setup h home toggle told plan r (Posted p) says = (says.0, says.1, says.3, says.3)
-says_told setup h home toggle told plan r (Taken p) says = (says.0, says.2, says.2)
-says_told setup h home toggle told plan r (Answered b p) says = (says.0, says.1, says.3, says.3)
-says_told setup h home toggle told plan r (SentBack p) says = says
+says_more setup h home toggle told known r (SentBack p) es none says = says
+says_more setup h home toggle told known r (Leaving p) es none says = says
+says_more setup h home toggle told known r (LeavingTaken p) es none says = says
+says_more setup h home toggle told known r Left es none says = says
+says_more setup h home toggle told known r (LeftTaken p) es none says = says
 
 says_grown : (setup : Setup) (h : History) (xs : List Collected)
-    (home : maybe.Option (maybe.Option Slot)) (toggle told plan r : ℕ) (a : RequestState)
-    → times r xs ≡ 0 → IsRequested setup h home toggle told plan r a
-    → IsRequested setup (grown h xs) home toggle told plan r a
-says_grown setup h [] home toggle told plan r a none says = says
-says_grown setup h (x ∷ xs) home toggle told plan r a none says =
+    (home : maybe.Option (maybe.Option Slot)) (toggle told known r : ℕ) (a : RequestState)
+    → times r xs ≡ 0 → IsRequested setup h home toggle told known r a
+    → IsRequested setup (grown h xs) home toggle told known r a
+says_grown setup h [] home toggle told known r a none says = says
+says_grown setup h (x ∷ xs) home toggle told known r a none says =
     let g : History = grown h xs in
-    says_more setup g home toggle told plan r a (next_of g x ∷ [])
+    says_more setup g home toggle told known r a (next_of g x ∷ [])
     (own_of_other r (next_of g x)
     (λ is. omega (arith, none, times_cons r x xs, ap one_if (is_number x.seat r is))))
-    (says_grown setup h xs home toggle told plan r a (omega (arith, none, times_cons r x xs)) says)
+    (says_grown setup h xs home toggle told known r a (omega (arith, none, times_cons r x xs)) says)
 
 pub says_else : (setup : Setup) (request_of : ℕ → RequestState) (h : History) (xs : List Collected)
-    (home : maybe.Option (maybe.Option Slot)) (toggle told plan r : ℕ) → times r xs ≡ 0
-    → IsRequested setup h home toggle told plan r (request_of r)
-    → IsRequested setup (grown h xs) home toggle plan plan r (requests_made request_of h xs r)
-says_else setup request_of h xs home toggle told plan r none says =
-    subst (IsRequested setup (grown h xs) home toggle plan plan r)
+    (home : maybe.Option (maybe.Option Slot)) (toggle told known r : ℕ) → times r xs ≡ 0
+    → IsRequested setup h home toggle told known r (request_of r)
+    → IsRequested setup (grown h xs) home toggle told known r (requests_made request_of h xs r)
+says_else setup request_of h xs home toggle told known r none says =
+    subst (IsRequested setup (grown h xs) home toggle told known r)
     (sym (request_else request_of h xs r none))
-    (says_told setup (grown h xs) home toggle told plan r (request_of r)
-    (says_grown setup h xs home toggle told plan r (request_of r) none says))
+    (says_grown setup h xs home toggle told known r (request_of r) none says)
 
 -- The writer has fewer request slots by those of the requests.
 hand_put : (request_of : ℕ → RequestState) (h : History) (s : ℕ) (p : UnappliedAdd)

@@ -69,8 +69,8 @@ module _ (setup : Setup) (slots : ℕ) (st : Step Slot) (id : ℕ) (t : Setup) (
         pinned,
         ap (λ (x : Setup). x.seats) all.same,
       ) in
-      let plan = all.cleared in
-      let head_is = all.head in
+      let cleared_is = all.cleared in
+      let head_is = all.side in
       let taken = all.taken in
       let here = k.seats p.cleared within in
       let moved : (c : ℕ) (wt : Option ℕ) (homes : Homes) → length homes ≡ length s.homes
@@ -85,7 +85,7 @@ module _ (setup : Setup) (slots : ℕ) (st : Step Slot) (id : ℕ) (t : Setup) (
         cleared = c;
         watched = wt;
         collected = g.collected;
-        plan = g.plan;
+        known = g.known;
       }) words homes r)
       → LeftRightRule setup (record {
         words = words;
@@ -105,7 +105,7 @@ module _ (setup : Setup) (slots : ℕ) (st : Step Slot) (id : ℕ) (t : Setup) (
         cleared = c;
         watched = wt;
         collected = g.collected;
-        plan = g.plan;
+        known = g.known;
       }) words homes
       (record {
         at = at;
@@ -132,8 +132,9 @@ module _ (setup : Setup) (slots : ℕ) (st : Step Slot) (id : ℕ) (t : Setup) (
           at_toggle = all.mine.at_toggle;
           at_request = all.mine.at_request;
           at_fetched = all.mine.at_fetched;
+          at_leaving = all.mine.at_leaving;
           sees = all.mine.sees;
-          holding = λ _. (all.all, all.taken, refl, refl, all.collected, all.head, all.plan);
+          holding = λ _. (all.all, all.taken, refl, refl, all.collected, all.head);
         });
         others = λ other u apart z. let was = k.views other u z in record {
           settled = was.settled;
@@ -145,6 +146,7 @@ module _ (setup : Setup) (slots : ℕ) (st : Step Slot) (id : ℕ) (t : Setup) (
             at_toggle = f.at_toggle;
             at_request = f.at_request;
             at_fetched = f.at_fetched;
+            at_leaving = f.at_leaving;
             sees = f.sees;
             holding = λ y. absurd (not_holding u n x (all.nobody other u apart z) d y);
           };
@@ -157,9 +159,9 @@ module _ (setup : Setup) (slots : ℕ) (st : Step Slot) (id : ℕ) (t : Setup) (
       }) in
       let left : has_left p.watched e ≡ true → Clears s e = λ gone.
       let gone_from : g.stage_of p.cleared ≢ hidden + 2 = λ z. not_left p.watched e
-      (here.pinned (omega (arith, z))) (λ w is. here.late w plan (sym all.watched ∙ is) z)
+      (here.pinned (omega (arith, z))) (λ w is. here.late w cleared_is (sym all.watched ∙ is) z)
       gone in
-      let x = here.standby (omega (arith, plan)) gone_from in
+      let x = here.standby (omega (arith, cleared_is)) gone_from in
       let homes : Homes = set s.homes j maybe.none in (
         keeping t (clearing p (suc p.cleared) None ∷ []),
         act_takes j x.0,
@@ -175,7 +177,7 @@ module _ (setup : Setup) (slots : ℕ) (st : Step Slot) (id : ℕ) (t : Setup) (
                     (λ z. omega (arith, z, head_is)) ∙ y.1,
                 y.2,
               );
-              standby = λ c n. let y = ok.standby (omega (arith, c, plan)) n in (
+              standby = λ c n. let y = ok.standby (omega (arith, c, cleared_is)) n in (
                 y.0,
                 set_else s.homes j (side_slot r hidden) maybe.none (λ z. omega (
                   arith,
@@ -186,7 +188,7 @@ module _ (setup : Setup) (slots : ℕ) (st : Step Slot) (id : ℕ) (t : Setup) (
               );
               left = λ c. dite (ℕ_discrete r p.cleared)
                   (λ z. subst (λ (q : ℕ). g.stage_of q ≢ hidden + 2) (sym z) gone_from)
-                  (λ z. ok.left (omega (arith, c, z, plan)));
+                  (λ z. ok.left (omega (arith, c, z, cleared_is)));
               late = λ w _ z. absurd (none_is_no w z);
             }),
         ((λ _. (x.0, refl)), (λ f. absurd (false_is_no (sym f ∙ gone)))),
@@ -200,8 +202,8 @@ module _ (setup : Setup) (slots : ℕ) (st : Step Slot) (id : ℕ) (t : Setup) (
               unpinned = λ z. ap (λ (b : ℕ). b % 2) (same (epoch_word r)) ∙ ok.unpinned z;
               pinned = λ z. ap (λ (b : ℕ). b % 2) (same (epoch_word r)) ∙ ok.pinned z;
               active = ok.active;
-              standby = λ c n. ok.standby (omega (arith, c, plan)) n;
-              left = λ c. ok.left (omega (arith, c, plan));
+              standby = λ c n. ok.standby (omega (arith, c, cleared_is)) n;
+              left = λ c. ok.left (omega (arith, c, cleared_is));
               late = λ w is z _. same (epoch_word r)
                   ∙ ap (λ (c : ℕ). slice_index s.words (epoch_word c)) is ∙ some_same e w z;
             }),

@@ -175,7 +175,7 @@ counted_all : (g : SharedState) (p : SeatState) → StateFits g p → p.request 
 counted_all g p fits none = omega (
   arith,
   fits.own,
-  (quiet_none (g.request_of p.number) (fits.at_request ∙ none)).0,
+  quiet_none (g.request_of p.number) (fits.at_request ∙ none),
 )
 
 -- what lies in the writer's slot then
@@ -194,7 +194,7 @@ home_at key s k id v at none long slots get x is =
       record {
         each = each_there key s k id v at long;
         history = k.g.history;
-        head = k.g.head;
+        head = k.g.known;
         legal = k.legal;
         is_after = here.2;
         fits = λ i p e. let f = (k.views id v at).states i p e in record {

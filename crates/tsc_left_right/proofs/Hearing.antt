@@ -22,8 +22,9 @@ use Rattle.tsc_left_right.specs.declared.table.SeatState.{SeatState}
 use Rattle.tsc_left_right.specs.declared.table.Knowledge.{Knowledge}
 use Rattle.tsc_left_right.specs.Rule.{keeping, LeftRightRule}
 use Rattle.tsc_left_right.specs.Rule.{StateFits, RequestState, Idle, Fetched, Posted}
-use Rattle.tsc_left_right.specs.Rule.{Taken, Answered, SentBack, made_of, in_hand, add_of}
-use Rattle.tsc_left_right.specs.Rule.{fetched_of, toggle_seen, IsRequested, IsMadeAt}
+use Rattle.tsc_left_right.specs.Rule.{Taken, Answered, SentBack, Leaving, LeavingTaken, Left}
+use Rattle.tsc_left_right.specs.Rule.{LeftTaken, made_of, in_hand, add_of, fetched_of, leaving_of}
+use Rattle.tsc_left_right.specs.Rule.{toggle_seen, flagged_toggle, IsRequested, IsMadeAt}
 use Rattle.tsc_left_right.specs.Rule.{HasRequest, HasAnswer, entry_of, head_word}
 use Rattle.tsc_left_right.specs.Rule.{epoch_word, request_word, side_slot, answer_bit}
 use Rattle.tsc_left_right.specs.Rule.{request_slot}
@@ -37,7 +38,7 @@ use Rattle.tsc_left_right.proofs.Hands.{Homes, Hand}
 use Rattle.tsc_left_right.proofs.Moves.{Board, only_fits, low_number}
 use Rattle.tsc_left_right.proofs.Moves.{none_is_no}
 use Rattle.tsc_left_right.proofs.Requests.{some_same, toggle_known}
-use Rattle.tsc_left_right.proofs.Requests.{requests_now, requests_kept}
+use Rattle.tsc_left_right.proofs.Requests.{requests_now, requests_kept, not_taken, not_flagged}
 
 -- What a seat had seen is a beginning of what stands before its next Add.
 pub begins_before : (h seen b : History) (e : Entry) → BeginsWith h seen
@@ -79,7 +80,7 @@ module _ (setup : Setup) (slots : ℕ) (st : Step Slot) (id : ℕ) (t : Setup) (
   abbrev v : Knowledge
   v = keeping t (p ∷ [])
 
-  abbrev HearsAt : Board → Type 0
+  abbrev pub HearsAt : Board → Type 0
   HearsAt s = (w : Knowledge) × (a : Act Slot) × Valid s.homes hand a × LeftRightRule setup
       (stepped s head_word (slice_index s.words head_word) id hand w a)
       × hears st (v, hand) (slice_index s.words head_word) (w, carried_after hand a)
@@ -90,11 +91,12 @@ module _ (setup : Setup) (slots : ℕ) (st : Step Slot) (id : ℕ) (t : Setup) (
   found_is s k = ap (λ (n : ℕ). answer_bit n p.number) k.head_is
 
   -- The seat has its slot in hand, and asks for nothing any more.
-  taken_home : (s : Board) (k : LeftRightRule setup s) → get_elem? s.views id ≡ maybe.some v
-      → k.g.toggle_of p.number ≡ p.toggle → answer_bit k.g.head p.number
-      ≡ p.toggle → answer_bit k.g.plan p.number ≡ p.toggle → in_hand (k.g.request_of p.number) ≡ 0
+  taken_home : p.request ≡ Some add → (s : Board) (k : LeftRightRule setup s)
+      → get_elem? s.views id ≡ maybe.some v
+      → k.g.toggle_of p.number ≡ p.toggle → answer_bit k.g.head p.number ≡ p.toggle
+      → answer_bit k.g.known p.number ≡ p.toggle → in_hand (k.g.request_of p.number) ≡ 0
       → (q : SeatState) → q.number ≡ p.number → q.holds ≡ p.holds
-      → StateFits (requests_now k.g p.number Fetched (k.g.toggle_of p.number)) q
+      → StateFits (requests_now k.g p.number Fetched (k.g.toggle_of p.number) k.g.head) q
       → LeftRightRule setup
       (record {
         words = set s.words head_word (slice_index s.words head_word);
@@ -103,7 +105,7 @@ module _ (setup : Setup) (slots : ℕ) (st : Step Slot) (id : ℕ) (t : Setup) (
         views =
             set s.views id (keeping t (q ∷ []));
       })
-  taken_home s k at toggle_is told plan home q number holds fits =
+  taken_home request s k at toggle_is told known home q number holds fits =
       let n : ℕ = p.number in
       let j : ℕ = request_slot n in
       let e : ℕ = slice_index s.words head_word in
@@ -115,11 +117,14 @@ module _ (setup : Setup) (slots : ℕ) (st : Step Slot) (id : ℕ) (t : Setup) (
       let same : (i : ℕ) → slice_index words i ≡ slice_index s.words i =
       λ i. ap (λ (ws : List ℕ). slice_index ws i) (set-get_or s.words head_word 0) in
       let here_toggle = put_here k.g.toggle_of n (k.g.toggle_of n) in
-      requests_kept setup s k id t p q Fetched (k.g.toggle_of n) words homes at (record {
+      let here = put_here k.g.request_of n Fetched in
+      requests_kept setup s k id t p q Fetched (k.g.toggle_of n) k.g.head words homes at (record {
         wide = length-set s.words head_word e;
         deep = length-set s.homes j maybe.none;
         word_same = same 0;
-        head_same = same head_word;
+        head_is = same head_word ∙ k.head_is;
+        bits = λ r _. refl;
+        side = refl;
         lock_slot_same = set_else s.homes j 0 maybe.none (λ z. omega (arith, z));
         epochs = λ r. same (epoch_word r);
         sides = λ r side small. set_else s.homes j (side_slot r side) maybe.none
@@ -130,15 +135,17 @@ module _ (setup : Setup) (slots : ℕ) (st : Step Slot) (id : ℕ) (t : Setup) (
               (λ z. isnt (omega (arith, z))),
         );
         here = record {
-          toggle = same (request_word n) ∙ ok.toggle ∙ sym here_toggle;
+          toggle = same (request_word n) ∙ ok.toggle
+              ∙ not_flagged add (k.g.toggle_of n) (k.g.request_of n) (mine.at_request ∙ request)
+              ∙ (λ c. flagged_toggle (sym here_toggle c) (sym here c));
           small = omega (arith, ok.small, here_toggle);
-          says = rw (put_here k.g.request_of n Fetched, here_toggle) (
+          says = rw (here, here_toggle) (
             told ∙ sym toggle_is,
-            plan ∙ sym toggle_is,
+            known ∙ sym toggle_is,
           );
         };
-        was_home = home;
-        is_home = refl;
+        hand_same = sym home;
+        taken_same = λ y z. absurd (not_taken (k.g.request_of n) y home z);
         number_same = number;
         holds_same = holds;
         fits = fits;
@@ -147,14 +154,14 @@ module _ (setup : Setup) (slots : ℕ) (st : Step Slot) (id : ℕ) (t : Setup) (
   -- The Add was not made.
   hear_back : p.request ≡ Some add → (s : Board) (k : LeftRightRule setup s) → get_elem? s.views id
       ≡ maybe.some v → answer_bit k.g.head p.number ≡ p.toggle
-      → (r : UnappliedAdd) → k.g.request_of p.number ≡ SentBack r → answer_bit k.g.plan p.number
+      → (r : UnappliedAdd) → k.g.request_of p.number ≡ SentBack r → answer_bit k.g.known p.number
       ≡ p.toggle → (x : Slot) → get_elem? s.homes (request_slot p.number) ≡ maybe.some
       (maybe.some x) → HasRequest r x → HearsAt s
-  hear_back request s k at told r is plan Empty home has = absurd has
-  hear_back request s k at told r is plan (Writer d) home has = absurd has
-  hear_back request s k at told r is plan (Handle c) home has = absurd has
-  hear_back request s k at told r is plan (Answer c) home has = absurd has
-  hear_back request s k at told r is plan (Request b) home has =
+  hear_back request s k at told r is known Empty home has = absurd has
+  hear_back request s k at told r is known (Writer d) home has = absurd has
+  hear_back request s k at told r is known (Handle c) home has = absurd has
+  hear_back request s k at told r is known (Answer c) home has = absurd has
+  hear_back request s k at told r is known (Request b) home has =
       let mine = only_fits setup k.g t p (k.views id v at) in
       let here = put_here k.g.request_of p.number Fetched in
       let toggle_is : k.g.toggle_of p.number ≡ p.toggle =
@@ -163,18 +170,21 @@ module _ (setup : Setup) (slots : ℕ) (st : Step Slot) (id : ℕ) (t : Setup) (
         with_state v (asks_none p),
         act_takes (request_slot p.number) (Request b),
         home,
-        taken_home s k at toggle_is told plan (ap in_hand is) (asks_none p) refl refl (record {
-          begins = mine.begins;
-          own = omega (arith, mine.own, ap made_of is, ap made_of here);
-          own_seen = mine.own_seen;
-          at_stage = mine.at_stage;
-          at_toggle = (λ c. toggle_seen (put_here k.g.toggle_of p.number (k.g.toggle_of p.number) c)
-              (here c)) ∙ toggle_is;
-          at_request = ap add_of here;
-          at_fetched = ap fetched_of here;
-          sees = mine.sees;
-          holding = mine.holding;
-        }),
+        taken_home request s k at toggle_is told known (ap in_hand is) (asks_none p) refl refl
+            (record {
+              begins = mine.begins;
+              own = omega (arith, mine.own, ap made_of is, ap made_of here);
+              own_seen = mine.own_seen;
+              at_stage = mine.at_stage;
+              at_toggle = (λ c. toggle_seen
+                  (put_here k.g.toggle_of p.number (k.g.toggle_of p.number) c) (here c))
+                  ∙ toggle_is;
+              at_request = ap add_of here;
+              at_fetched = ap fetched_of here;
+              at_leaving = ap leaving_of here ∙ sym (ap leaving_of is) ∙ mine.at_leaving;
+              sees = mine.sees;
+              holding = mine.holding;
+            }),
         (
           (λ not. absurd (not (found_is s k ∙ told))),
           (λ _. (Request b, refl, rw request (refl, has ∙ same))),
@@ -185,14 +195,14 @@ module _ (setup : Setup) (slots : ℕ) (st : Step Slot) (id : ℕ) (t : Setup) (
   hear_made : p.request ≡ Some add → (s : Board) (k : LeftRightRule setup s) → get_elem? s.views id
       ≡ maybe.some v → answer_bit k.g.head p.number ≡ p.toggle
       → (b : History) (r : UnappliedAdd) → k.g.request_of p.number ≡ Answered b r
-      → answer_bit k.g.plan p.number ≡ p.toggle → IsMadeAt k.g.history p.number b r
+      → answer_bit k.g.known p.number ≡ p.toggle → IsMadeAt k.g.history p.number b r
       → (x : Slot) → get_elem? s.homes (request_slot p.number) ≡ maybe.some (maybe.some x)
       → HasAnswer setup b r x → HearsAt s
-  hear_made request s k at told b r is plan made Empty home has = absurd has
-  hear_made request s k at told b r is plan made (Writer d) home has = absurd has
-  hear_made request s k at told b r is plan made (Handle c) home has = absurd has
-  hear_made request s k at told b r is plan made (Request c) home has = absurd has
-  hear_made request s k at told b r is plan made (Answer reply) home has =
+  hear_made request s k at told b r is known made Empty home has = absurd has
+  hear_made request s k at told b r is known made (Writer d) home has = absurd has
+  hear_made request s k at told b r is known made (Handle c) home has = absurd has
+  hear_made request s k at told b r is known made (Request c) home has = absurd has
+  hear_made request s k at told b r is known made (Answer reply) home has =
       let n : ℕ = p.number in
       let h : History = k.g.history in
       let e : Entry = entry_of n p.count add in
@@ -218,7 +228,7 @@ module _ (setup : Setup) (slots : ℕ) (st : Step Slot) (id : ℕ) (t : Setup) (
         with_state v q,
         act_takes (request_slot n) (Answer reply),
         home,
-        taken_home s k at toggle_is told plan (ap in_hand is) q refl refl (record {
+        taken_home request s k at toggle_is told known (ap in_hand is) q refl refl (record {
           begins = begins;
           own = omega (arith, all_own, ap made_of here);
           own_seen = now_own;
@@ -227,6 +237,7 @@ module _ (setup : Setup) (slots : ℕ) (st : Step Slot) (id : ℕ) (t : Setup) (
               ∙ toggle_is;
           at_request = ap add_of here;
           at_fetched = ap fetched_of here;
+          at_leaving = ap leaving_of here ∙ sym (ap leaving_of is) ∙ mine.at_leaving;
           sees = λ z. absurd (omega (
             arith,
             all_own,
@@ -267,7 +278,7 @@ module _ (setup : Setup) (slots : ℕ) (st : Step Slot) (id : ℕ) (t : Setup) (
       ≡ maybe.some v → answer_bit k.g.head p.number ≡ p.toggle
       → (a : RequestState) → k.g.request_of p.number ≡ a → IsRequested setup k.g.history
       (get_elem? s.homes (request_slot p.number)) p.toggle
-      (answer_bit k.g.head p.number) (answer_bit k.g.plan p.number) p.number
+      (answer_bit k.g.head p.number) (answer_bit k.g.known p.number) p.number
       a → HearsAt s
   hear_by request s k at told Idle is says =
       absurd (none_is_no add (sym (ap add_of is)
@@ -279,8 +290,33 @@ module _ (setup : Setup) (slots : ℕ) (st : Step Slot) (id : ℕ) (t : Setup) (
   hear_by request s k at told (Taken r) is says = absurd (says.1 told)
   hear_by request s k at told (Answered b r) is says = hear_made request s k at told b r is says.3
       says.1 says.0.0 says.0.1 says.0.2
-  hear_by request s k at told (SentBack r) is says = hear_back request s k at told r is says.1
+  hear_by request s k at told (SentBack r) is says = hear_back request s k at told r is says.2
       says.0.0 says.0.1 says.0.2
+  hear_by request s k at told (Leaving r) is says =
+      absurd (none_is_no add (sym (ap add_of is)
+      ∙ (only_fits setup k.g t p (k.views id v at)).at_request ∙ request))
+  hear_by request s k at told (LeavingTaken r) is says =
+      absurd (none_is_no add (sym (ap add_of is)
+      ∙ (only_fits setup k.g t p (k.views id v at)).at_request ∙ request))
+  hear_by request s k at told Left is says =
+      absurd (none_is_no add (sym (ap add_of is)
+      ∙ (only_fits setup k.g t p (k.views id v at)).at_request ∙ request))
+  hear_by request s k at told (LeftTaken r) is says =
+      absurd (none_is_no add (sym (ap add_of is)
+      ∙ (only_fits setup k.g t p (k.views id v at)).at_request ∙ request))
+
+  -- A seat that is answered takes its slot.
+  pub hear_told : p.request ≡ Some add → (s : Board) (k : LeftRightRule setup s)
+      → get_elem? s.views id ≡ maybe.some v → answer_bit k.g.head p.number ≡ p.toggle → HearsAt s
+  hear_told request s k at told =
+      let low = low_number setup s k v id at 0 p refl in
+      let mine = only_fits setup k.g t p (k.views id v at) in
+      hear_by request s k at told (k.g.request_of p.number) refl
+      (subst (λ (x : ℕ). IsRequested setup k.g.history (get_elem? s.homes (request_slot p.number)) x
+      (answer_bit k.g.head p.number) (answer_bit k.g.known p.number) p.number
+      (k.g.request_of p.number))
+      (sym (toggle_known add (k.g.toggle_of p.number) (k.g.request_of p.number)
+      (mine.at_request ∙ request)) ∙ mine.at_toggle) (k.requests p.number low).says)
 
   pub hear_allowed : p.request ≡ Some add → Allows (LeftRightRule setup) slots id (
     v,
@@ -288,13 +324,7 @@ module _ (setup : Setup) (slots : ℕ) (st : Step Slot) (id : ℕ) (t : Setup) (
   ) head_word (λ n. n) (hears st (v, hand))
   hear_allowed request s k deep at small =
       dite (ℕ_discrete (answer_bit k.g.head p.number) p.toggle)
-      (λ told. let low = low_number setup s k v id at 0 p refl in
-      hear_by request s k at told (k.g.request_of p.number) refl
-      (subst (λ (x : ℕ). IsRequested setup k.g.history (get_elem? s.homes (request_slot p.number)) x
-      (answer_bit k.g.head p.number) (answer_bit k.g.plan p.number) p.number
-      (k.g.request_of p.number)) (let mine = only_fits setup k.g t p (k.views id v at) in
-      sym (toggle_known add (k.g.toggle_of p.number) (k.g.request_of p.number) (mine.at_request
-      ∙ request)) ∙ mine.at_toggle) (k.requests p.number low).says))
+      (λ told. hear_told request s k at told)
       (λ not. (
         v,
         act_keeps,

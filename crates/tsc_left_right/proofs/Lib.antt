@@ -9,6 +9,7 @@ pub mod Owning
 pub mod Publishing
 pub mod Requests
 pub mod Hearing
+pub mod Leaving
 pub mod Served
 pub mod Collecting
 pub mod Acquiring
@@ -30,5 +31,7 @@ pub mod FrontCalls
 pub mod Laying
 pub mod Endings
 pub mod Composing
+pub mod SendingBack
+pub mod CallingOff
 pub mod Answered
 pub mod Crossing

@@ -39,7 +39,7 @@ pub record Moved (setup : Setup) (s : Board) (k : LeftRightRule setup s) (id : �
   pub deep : length homes ≡ slot_count setup.seats
   pub word_is : slice_index words 0 ≡ g.word
   pub head_is : slice_index words head_word ≡ g.head
-  pub side : active_side g.plan ≡ active_side g.head
+  pub side : active_side g.known ≡ active_side g.head
   pub seats : (seat : ℕ) → seat < setup.seats → SeatFits setup g words homes seat
   pub requests : (seat : ℕ) → seat < setup.seats → RequestFits setup g words homes seat
   pub collected : CollectedFits setup.seats g.request_of g.collected
@@ -51,7 +51,7 @@ pub record Moved (setup : Setup) (s : Board) (k : LeftRightRule setup s) (id : �
   pub idle : g.word ≡ 0 → (g.cleared ≡ 0) × (g.collected ≡ [])
   pub free : g.word ≡ 0 → (state : LaidState)
       × (get_elem? homes 0 ≡ maybe.some (maybe.some (Writer state)))
-      × IsAfter setup g.history g.head state.value × (g.plan ≡ g.head)
+      × IsAfter setup g.history g.known state.value
 
 pub moved_kept : (setup : Setup) (s : Board) (k : LeftRightRule setup s) (id : ℕ) (v w : Knowledge)
     (g : SharedState) (words : List ℕ) (homes : Homes)
@@ -189,8 +189,8 @@ pub record KnowsAll (setup : Setup) (s : Board) (k : LeftRightRule setup s) (id 
   pub cleared : p.cleared ≡ k.g.cleared
   pub watched : p.watched ≡ k.g.watched
   pub collected : p.collected ≡ k.g.collected
-  pub head : p.head ≡ k.g.head
-  pub plan : p.plan ≡ k.g.plan
+  pub head : p.head ≡ k.g.known
+  pub side : active_side p.head ≡ active_side k.g.head
   pub low : p.number < setup.seats
   pub one : sum_by holders s.views ≡ 1
   pub nobody : (other : ℕ) (u : Knowledge) → other ≢ id → get_elem? s.views other ≡ maybe.some u
@@ -217,7 +217,7 @@ knows_all setup s k id t p holding at =
       watched = knows.3;
       collected = knows.4;
       head = knows.5;
-      plan = knows.6;
+      side = ap active_side knows.5 ∙ k.side;
       low = low_number setup s k v id at 0 p refl;
       one = total;
       nobody = λ other u apart e. omega (

@@ -121,7 +121,7 @@ first_shared : SharedState
 first_shared = record {
   history = [];
   head = 0;
-  plan = 0;
+  known = 0;
   word = 0;
   stage_of = λ _. 0;
   toggle_of = λ _. 0;
@@ -177,7 +177,7 @@ opening_kept setup state slots after laid =
         nobody_fresh 0 setup.seats,
       );
       idle = λ _. (refl, refl);
-      free = λ _. (state, at_map maybe.some slots 0 (Writer state) laid.writer, after, refl);
+      free = λ _. (state, at_map maybe.some slots 0 (Writer state) laid.writer, after);
     }
   where
     at : (id : ℕ) (v : Knowledge) → get_elem? (first_knowledge setup ∷ []) id ≡ maybe.some v
@@ -194,6 +194,7 @@ opening_kept setup state slots after laid =
                 at_toggle = refl;
                 at_request = refl;
                 at_fetched = refl;
+                at_leaving = refl;
                 sees =
                     λ f. absurd (omega (arith, f));
                 holding = λ f. absurd (false_is_no f);

@@ -10,7 +10,8 @@ use Rattle.tsc_left_right.specs.declared.table.Slot.{Slot}
 use Rattle.tsc_left_right.specs.declared.table.SeatState.{SeatState}
 use Rattle.tsc_left_right.specs.Rule.{SharedState, StateFits}
 use Rattle.tsc_left_right.specs.Rule.{RequestState, Idle, Fetched, Posted}
-use Rattle.tsc_left_right.specs.Rule.{Taken, Answered, SentBack, made_of, in_hand, add_of}
+use Rattle.tsc_left_right.specs.Rule.{Taken, Answered, SentBack, Leaving, LeavingTaken, Left}
+use Rattle.tsc_left_right.specs.Rule.{LeftTaken, made_of, add_of}
 use Rattle.tsc_left_right.specs.Rule.{IsRequested}
 use Rattle.tsc_left_right.specs.Rule.{entry_of}
 use Rattle.tsc_left_right.specs.Steps.{with_own, seen_own, count_own}
@@ -23,28 +24,36 @@ use Rattle.tsc_left_right.proofs.Moves.{none_is_no}
 use native.Mathlib.Decide.{ℕ_discrete}
 use mathlib.Core.Logic.{dite}
 
--- a seat that asks for nothing
-pub quiet_none : (a : RequestState) → add_of a ≡ None → (made_of a ≡ 0) × (in_hand a ≡ 0)
-quiet_none Idle none = (refl, refl)
-quiet_none Fetched none = (refl, refl)
+-- a seat that waits for nothing
+pub quiet_none : (a : RequestState) → add_of a ≡ None → made_of a ≡ 0
+quiet_none Idle none = refl
+quiet_none Fetched none = refl
 quiet_none (Posted p) none = absurd (none_is_no p (sym none))
 quiet_none (Taken p) none = absurd (none_is_no p (sym none))
 quiet_none (Answered b p) none = absurd (none_is_no p (sym none))
 quiet_none (SentBack p) none = absurd (none_is_no p (sym none))
+quiet_none (Leaving p) none = refl
+quiet_none (LeavingTaken p) none = refl
+quiet_none Left none = refl
+quiet_none (LeftTaken p) none = refl
 
--- It asks for nothing whatever the history is.
+-- It waits for nothing whatever the history is.
 pub quiet_says : (setup : Setup) (h h' : History) (home : maybe.Option (maybe.Option Slot))
-    (toggle told plan r : ℕ) (a : RequestState) → add_of a ≡ None → IsRequested setup h home toggle
-    told plan r a → IsRequested setup h' home toggle told plan r a
-quiet_says setup h h' home toggle told plan r Idle none says = says
-quiet_says setup h h' home toggle told plan r Fetched none says = says
-quiet_says setup h h' home toggle told plan r (Posted p) none says =
+    (toggle told known r : ℕ) (a : RequestState) → add_of a ≡ None → IsRequested setup h home toggle
+    told known r a → IsRequested setup h' home toggle told known r a
+quiet_says setup h h' home toggle told known r Idle none says = says
+quiet_says setup h h' home toggle told known r Fetched none says = says
+quiet_says setup h h' home toggle told known r (Posted p) none says =
     absurd (none_is_no p (sym none))
-quiet_says setup h h' home toggle told plan r (Taken p) none says = absurd (none_is_no p (sym none))
-quiet_says setup h h' home toggle told plan r (Answered b p) none says =
+quiet_says setup h h' home toggle told known r (Taken p) none says = absurd (none_is_no p (sym none))
+quiet_says setup h h' home toggle told known r (Answered b p) none says =
     absurd (none_is_no p (sym none))
-quiet_says setup h h' home toggle told plan r (SentBack p) none says =
+quiet_says setup h h' home toggle told known r (SentBack p) none says =
     absurd (none_is_no p (sym none))
+quiet_says setup h h' home toggle told known r (Leaving p) none says = says
+quiet_says setup h h' home toggle told known r (LeavingTaken p) none says = says
+quiet_says setup h h' home toggle told known r Left none says = says
+quiet_says setup h h' home toggle told known r (LeftTaken p) none says = says
 
 -- the history with the writer's own Add
 pub record Owned (setup : Setup) (g : SharedState) (p : SeatState)
@@ -55,9 +64,9 @@ pub record Owned (setup : Setup) (g : SharedState) (p : SeatState)
   pub mine : own_count p.number (with_own p own) ≡ count_own p own + made_of (g.request_of p.number)
   pub seen_begins : BeginsWith (with_own p own) (seen_own p own)
   pub seen_count : own_count p.number (seen_own p own) ≡ count_own p own
-  pub says : (home : maybe.Option (maybe.Option Slot)) (toggle told plan r : ℕ)
-      → IsRequested setup p.history home toggle told plan r (g.request_of r)
-      → IsRequested setup (with_own p own) home toggle told plan r (g.request_of r)
+  pub says : (home : maybe.Option (maybe.Option Slot)) (toggle told known r : ℕ)
+      → IsRequested setup p.history home toggle told known r (g.request_of r)
+      → IsRequested setup (with_own p own) home toggle told known r (g.request_of r)
 
 pub owned : (setup : Setup) (g : SharedState) (p : SeatState) (own : Option UnappliedAdd)
     → StateFits g p → p.history ≡ g.history → IsLegal setup.config setup.seats p.history
@@ -69,7 +78,7 @@ owned setup g p None fits all is_legal low may = record {
   mine = ap (own_count p.number) all ∙ fits.own;
   seen_begins = subst (λ (x : History). BeginsWith x p.seen) (sym all) fits.begins;
   seen_count = fits.own_seen;
-  says = λ home toggle told plan r is. is;
+  says = λ home toggle told known r is. is;
 }
 owned setup g p (Some add) fits all is_legal low may =
     let e = entry_of p.number p.count add in
@@ -78,7 +87,7 @@ owned setup g p (Some add) fits all is_legal low may =
       arith,
       ap (own_count p.number) all,
       fits.own,
-      none.0,
+      none,
     ) in
     let has : own_count p.number (p.history ++ e ∷ []) ≡ p.count + 1 =
     omega (arith, own_append p.number p.history (e ∷ []), had, own_of_one p.number e refl) in
@@ -94,13 +103,13 @@ owned setup g p (Some add) fits all is_legal low may =
         own_append r p.history (e ∷ []),
         own_of_other r e (λ z. apart (sym z)),
       );
-      mine = omega (arith, has, none.0);
+      mine = omega (arith, has, none);
       seen_begins = begins_itself (p.history ++ e ∷ []);
       seen_count = has;
-      says = λ home toggle told plan r is. dite (ℕ_discrete r p.number)
-          (λ z. quiet_says setup p.history (p.history ++ e ∷ []) home toggle told plan r
+      says = λ home toggle told known r is. dite (ℕ_discrete r p.number)
+          (λ z. quiet_says setup p.history (p.history ++ e ∷ []) home toggle told known r
           (g.request_of r) (subst (λ (q : ℕ). add_of (g.request_of q) ≡ None) (sym z)
           (fits.at_request ∙ may.1)) is)
-          (λ z. says_more setup p.history home toggle told plan r (g.request_of r) (e ∷ [])
+          (λ z. says_more setup p.history home toggle told known r (g.request_of r) (e ∷ [])
           (own_of_other r e (λ w. z (sym w))) is);
     }

@@ -41,7 +41,7 @@ stage_now g n stage = record {
   cleared = g.cleared;
   watched = g.watched;
   collected = g.collected;
-  plan = g.plan;
+  known = g.known;
 }
 
 -- A seat goes to another stage. Its own epoch and side slots alone change.
@@ -110,6 +110,7 @@ stage_kept setup s k id t p q stage words homes at m =
               at_toggle = f.at_toggle;
               at_request = f.at_request;
               at_fetched = f.at_fetched;
+              at_leaving = f.at_leaving;
               sees = f.sees;
               holding = f.holding;
             };
@@ -118,7 +119,7 @@ stage_kept setup s k id t p q stage words homes at m =
       each = λ r. omega (arith, ap (λ (c : ℕ). one_if (c == r)) m.number_same);
       one = omega (arith, k.one, ap one_if m.holds_same);
       idle = k.idle;
-      free = λ z. let f = k.free z in (f.0, m.lock_slot_same ∙ f.1, f.2, f.3);
+      free = λ z. let f = k.free z in (f.0, m.lock_slot_same ∙ f.1, f.2);
     })
 
 module _ (setup : Setup) (slots : ℕ) (st : Step Slot) (id : ℕ) (t : Setup) (p : SeatState)
@@ -180,6 +181,7 @@ module _ (setup : Setup) (slots : ℕ) (st : Step Slot) (id : ℕ) (t : Setup) (
             at_toggle = mine.at_toggle;
             at_request = mine.at_request;
             at_fetched = mine.at_fetched;
+            at_leaving = mine.at_leaving;
             sees = λ z. absurd (omega (arith, z));
             holding = mine.holding;
           };
@@ -212,7 +214,7 @@ module _ (setup : Setup) (slots : ℕ) (st : Step Slot) (id : ℕ) (t : Setup) (
       let own_all : own_count n h ≡ p.count = omega (
         arith,
         mine.own,
-        (quiet_none (g.request_of n) (mine.at_request ∙ none)).0,
+        quiet_none (g.request_of n) (mine.at_request ∙ none),
       ) in
       let stage = put_here g.stage_of n (side + 2) in
       let q : SeatState = record p { seen = h; stage = side + 2 } in (
@@ -258,6 +260,7 @@ module _ (setup : Setup) (slots : ℕ) (st : Step Slot) (id : ℕ) (t : Setup) (
             at_toggle = mine.at_toggle;
             at_request = mine.at_request;
             at_fetched = mine.at_fetched;
+            at_leaving = mine.at_leaving;
             sees = λ _. refl;
             holding = mine.holding;
           };
@@ -363,6 +366,7 @@ module _ (setup : Setup) (slots : ℕ) (st : Step Slot) (id : ℕ) (t : Setup) (
               at_toggle = mine.at_toggle;
               at_request = mine.at_request;
               at_fetched = mine.at_fetched;
+              at_leaving = mine.at_leaving;
               sees = λ z. absurd (omega (arith, z));
               holding = mine.holding;
             };

@@ -33,12 +33,12 @@ module _ (setup : Setup) (slots : ℕ) (id : ℕ) (t : Setup) (p : SeatState) (s
   abbrev hand : Hand
   hand = sides ++ (0, Writer state) ∷ []
 
-  pub release_allowed : p.holds ≡ true → p.collected ≡ [] → p.plan ≡ p.head
+  pub release_allowed : p.holds ≡ true → p.collected ≡ []
       → Filled Anything (standby_side p.head) 0 sides p.cleared
       → IsAfter t p.history p.head state.value
       → Allows (LeftRightRule setup) slots id (releaser, hand) 0 (λ _. 0)
       (λ _ me'. me' ≡ (keeping t (released p ∷ []), []))
-  release_allowed holds none told filled after s k deep at small =
+  release_allowed holds none filled after s k deep at small =
       let all = knows_all setup s k id t p holds at in
       let g : SharedState = k.g in
       let w : Knowledge = keeping t (released p ∷ []) in
@@ -49,7 +49,7 @@ module _ (setup : Setup) (slots : ℕ) (id : ℕ) (t : Setup) (p : SeatState) (s
       let wide = k.wide in
       let one = all.one in
       let cleared_is = all.cleared in
-      let head_is = all.head in
+      let head_is = all.side in
       let side_same : standby_side g.head ≡ standby_side p.head = omega (arith, head_is) in
       let apart : (i : ℕ) → ((r : ℕ) → i ≢ side_slot r (standby_side p.head)) → i ≢ 0
       → get_elem? homes i ≡ get_elem? s.homes i = λ i no zero. set_else put 0 i
@@ -58,7 +58,7 @@ module _ (setup : Setup) (slots : ℕ) (id : ℕ) (t : Setup) (p : SeatState) (s
       let g' : SharedState = record {
         history = g.history;
         head = g.head;
-        plan = g.plan;
+        known = g.known;
         word = 0;
         stage_of =
             g.stage_of;
@@ -132,6 +132,7 @@ module _ (setup : Setup) (slots : ℕ) (id : ℕ) (t : Setup) (p : SeatState) (s
               all.mine.at_toggle;
           at_request = all.mine.at_request;
           at_fetched = all.mine.at_fetched;
+          at_leaving = all.mine.at_leaving;
           sees = all.mine.sees;
           holding = λ f. absurd (false_is_no f);
         });
@@ -145,6 +146,7 @@ module _ (setup : Setup) (slots : ℕ) (id : ℕ) (t : Setup) (p : SeatState) (s
             at_toggle = f.at_toggle;
             at_request = f.at_request;
             at_fetched = f.at_fetched;
+            at_leaving = f.at_leaving;
             sees = f.sees;
             holding = λ y. absurd (not_holding u i x (all.nobody other u no e) d y);
           };
@@ -157,10 +159,9 @@ module _ (setup : Setup) (slots : ℕ) (id : ℕ) (t : Setup) (p : SeatState) (s
           state,
           set_here put 0 (maybe.some (Writer state))
               (omega (arith, put_length s.homes sides, tall)),
-          subst (λ (x : Setup). IsAfter x g.history g.head state.value) all.same
+          subst (λ (x : Setup). IsAfter x g.history g.known state.value) all.same
               (subst (λ (c : ℕ). IsAfter t g.history c state.value) all.head
               (subst (λ (y : History). IsAfter t y p.head state.value) all.all after)),
-          sym all.plan ∙ told ∙ all.head,
         );
       } in (
         w,

@@ -73,26 +73,26 @@ last_left ms done m low is =
 
 -- So many requests are answered, and the others are left: their slots are first in hand.
 pub record IsLeft (t : Setup) (h : History) (xs : List Collected) (others : Hand) (v : Knowledge)
-    (me : At) (items : List MadeAdd) (adds done plan head : ℕ) : Type 0 where
+    (me : At) (items : List MadeAdd) (adds done known head : ℕ) : Type 0 where
   pub left : List Collected
   pub replies : Hand
   pub is : me ≡ (v, slots_of left ++ (others ++ replies))
   pub made : AreMade t h left items
   pub long : length (grown h left) + done ≡ adds
-  pub head_is : answered_head head left ≡ answered_head plan xs
+  pub head_is : answered_head head left ≡ answered_head known xs
   pub replied : (rs : Hand) → Replied t h left rs → Replied t h xs (replies ++ rs)
 
 -- Whatever was to be answered at first, so much of it is left.
 abbrev pub Answers : At → List MadeAdd → ℕ → ℕ → At → List MadeAdd → ℕ → ℕ → Type 0
-Answers me items adds plan me' items' done head =
+Answers me items adds known me' items' done head =
     (t : Setup) (h : History) (xs : List Collected) (others : Hand)
     → HasUnanswered t h xs others me items → adds ≡ length (grown h xs)
-    → IsLeft t h xs others me.0 me' items' adds done plan head
+    → IsLeft t h xs others me.0 me' items' adds done known head
 
 -- at first all
-pub none_answered : (me : At) (items : List MadeAdd) (adds plan n : ℕ) → n ≡ length items
-    → Answers me items adds plan me (take n items) 0 plan
-none_answered me items adds plan n all = λ t h xs others u so_many. record {
+pub none_answered : (me : At) (items : List MadeAdd) (adds known n : ℕ) → n ≡ length items
+    → Answers me items adds known me (take n items) 0 known
+none_answered me items adds known n all = λ t h xs others u so_many. record {
   left = xs;
   replies = [];
   is = λ i. (
@@ -108,10 +108,10 @@ none_answered me items adds plan n all = λ t h xs others u so_many. record {
 
 -- The slot of the last one is first in hand,
 pub last_first : (t : Setup) (h : History) (xs : List Collected) (others : Hand) (v : Knowledge)
-    (me : At) (items front : List MadeAdd) (made : MadeAdd) (adds done plan head slot : ℕ)
-    → IsLeft t h xs others v me items adds done plan head → items ≡ front ++ made ∷ []
+    (me : At) (items front : List MadeAdd) (made : MadeAdd) (adds done known head slot : ℕ)
+    → IsLeft t h xs others v me items adds done known head → items ≡ front ++ made ∷ []
     → slot ≡ request_slot made.seat → (old : Slot) × (me.1 ≡ (slot, old) ∷ rest me.1)
-last_first t h xs others v me items front made adds done plan head slot l is at =
+last_first t h xs others v me items front made adds done known head slot l is at =
     let last = last_made t h l.left items front made l.made is in
     first_in me.1 (slots_of last.others ++ (others ++ l.replies)) slot
     (request_slot last.first.seat) Empty
@@ -121,10 +121,10 @@ last_first t h xs others v me items front made adds done plan head slot l is at 
 
 -- its seat has a bit of HEAD, and there is an Add for it,
 pub last_small : (t : Setup) (h : History) (xs : List Collected) (others : Hand) (v : Knowledge)
-    (me : At) (items front : List MadeAdd) (made : MadeAdd) (adds done plan head : ℕ)
-    → IsLeft t h xs others v me items adds done plan head → items ≡ front ++ made ∷ []
+    (me : At) (items front : List MadeAdd) (made : MadeAdd) (adds done known head : ℕ)
+    → IsLeft t h xs others v me items adds done known head → items ≡ front ++ made ∷ []
     → (made.seat < 63) × (done + 1 ≤ adds)
-last_small t h xs others v me items front made adds done plan head l is =
+last_small t h xs others v me items front made adds done known head l is =
     let last = last_made t h l.left items front made l.made is in
     let before : History = grown h last.others in (
       subst (λ (r : ℕ). r < 63) (sym last.made_for.seat) last.made_for.small,
@@ -139,13 +139,13 @@ last_small t h xs others v me items front made adds done plan head l is =
 -- and it is answered, and goes behind the others.
 pub one_answered : (t : Setup) (h : History) (xs : List Collected) (others : Hand) (v : Knowledge)
     (me me₁ me₂ : At) (items front : List MadeAdd) (made : MadeAdd)
-    (adds done plan head head' slot : ℕ) (reply : Reply)
-    → IsLeft t h xs others v me items adds done plan head → items ≡ front ++ made ∷ []
+    (adds done known head head' slot : ℕ) (reply : Reply)
+    → IsLeft t h xs others v me items adds done known head → items ≡ front ++ made ∷ []
     → slot ≡ request_slot made.seat → reply.place ≡ adds - 1 - done → reply.kept ≡ made.kept
     → me₁ ≡ (me.0, (slot, Answer reply) ∷ rest me.1) → me₂ ≡ (me₁.0, turned me₁.1)
     → head' ≡ turned_answer head made.seat
-    → IsLeft t h xs others v me₂ front adds (done + 1) plan head'
-one_answered t h xs others v me me₁ me₂ items front made adds done plan head head' slot reply l is
+    → IsLeft t h xs others v me₂ front adds (done + 1) known head'
+one_answered t h xs others v me me₁ me₂ items front made adds done known head head' slot reply l is
     at place kept laid turned_is head_then =
     let last = last_made t h l.left items front made l.made is in
     let y : Collected = last.first in
@@ -181,10 +181,10 @@ one_answered t h xs others v me me₁ me₂ items front made adds done plan head
 
 -- In the end all are answered.
 pub all_answered : (t : Setup) (h : History) (xs : List Collected) (others : Hand) (v : Knowledge)
-    (me : At) (items : List MadeAdd) (adds done plan head : ℕ)
-    → IsLeft t h xs others v me items adds done plan head → items ≡ []
-    → HasAnswered t h xs others v me × (head ≡ answered_head plan xs)
-all_answered t h xs others v me items adds done plan head l none =
+    (me : At) (items : List MadeAdd) (adds done known head : ℕ)
+    → IsLeft t h xs others v me items adds done known head → items ≡ []
+    → HasAnswered t h xs others v me × (head ≡ answered_head known xs)
+all_answered t h xs others v me items adds done known head l none =
     let no : l.left ≡ [] = none_made t h l.left items l.made none in (
       record {
         replies = l.replies;

@@ -1,32 +1,36 @@
 -- A seat's steps at its request, and a writer's, in the shape that the calls ask for.
-use Rattle.std.proofs.Common.{◌≡◌, ◌≢◌, ◌∙◌, refl, sym, ap, subst, true, ℕ, ◌+◌, ◌<◌, [], ◌∷◌}
-use Rattle.std.proofs.Common.{arith}
-use Rattle.std.specs.Prelude.{Option, Some, None, Box}
+use Rattle.std.proofs.Common.{◌≡◌, ◌≢◌, ◌∙◌, refl, sym, ap, subst, ℕ, ◌+◌, ◌-◌, ◌^◌, ◌<◌, ◌≤◌}
+use Rattle.std.proofs.Common.{[], ◌∷◌, arith}
+use Rattle.std.specs.Prelude.{Option, Some, Box, bit_and, bit_or}
 use Rattle.std.specs.declared.alloc.Global.{Global}
 use Rattle.atomic_table.specs.Table.{Step, Allows, rest}
 use Rattle.tsc_left_right.specs.declared.table.Setup.{Setup}
 use Rattle.tsc_left_right.specs.declared.table.UnappliedAdd.{UnappliedAdd}
 use Rattle.tsc_left_right.specs.declared.table.Slot.{Slot}
-use Rattle.tsc_left_right.specs.declared.table.Slot.TheVariants.{Empty, Writer, Handle, Request}
-use Rattle.tsc_left_right.specs.declared.table.Slot.TheVariants.{Answer}
+use Rattle.tsc_left_right.specs.declared.table.Slot.TheVariants.{Empty, Request}
+use Rattle.tsc_left_right.specs.declared.requesting.Heard.{Heard}
+use Rattle.tsc_left_right.specs.declared.requesting.Heard.TheVariants.{Waiting, Made, SentBack}
 use Rattle.tsc_left_right.specs.Rule.{LeftRightRule, CanBe, HasRequest, times, request_word}
-use Rattle.tsc_left_right.specs.Rule.{request_slot, answer_bit, turned_answer}
+use Rattle.tsc_left_right.specs.Rule.{request_slot, answer_bit, turned_answer, with_answer}
 use Rattle.tsc_left_right.specs.Steps.{At, state_in, with_state, number_of}
-use Rattle.tsc_left_right.specs.RequestSteps.{fetching, fetches}
-use Rattle.tsc_left_right.specs.RequestSteps.{rests, posting, posts, withdrawn, withdraws, HasAdd}
+use Rattle.tsc_left_right.specs.RequestSteps.{fetches}
+use Rattle.tsc_left_right.specs.RequestSteps.{rests, posting, posts, withdraws}
 use Rattle.tsc_left_right.specs.RequestSteps.{hears}
 use Rattle.tsc_left_right.specs.RequestSteps.{Collects, collects, seat_of_word, serving, puts_back}
-use Rattle.tsc_left_right.specs.RequestSteps.{put_back_by, last_seat, tells}
-use Rattle.tsc_left_right.specs.Participating.{KeepsOne}
+use Rattle.tsc_left_right.specs.RequestSteps.{put_back_by, last_seat, HearsOf, on_leaving}
+use Rattle.tsc_left_right.specs.RequestSteps.{leaves, flags, Readmits, readmits}
+use Rattle.tsc_left_right.specs.Participating.{Participant, KeepsOne}
 use Rattle.tsc_left_right.specs.Requesting.{MayFetch, HasFetched, HasPosted, MayWithdraw, IsWriter}
-use Rattle.tsc_left_right.specs.Requesting.{IsCollected, MayPutBack, IsPutBack}
+use Rattle.tsc_left_right.specs.Requesting.{IsCollected, MayPutBack, IsPutBack, IsAnsweredIn}
+use Rattle.tsc_left_right.specs.Requesting.{IsReadmitted, HasHeardOr}
 use Rattle.tsc_left_right.proofs.Hands.{Hand}
 use Rattle.tsc_left_right.proofs.Calls.{whole}
-use Rattle.tsc_left_right.proofs.Acquiring.{tell_allowed}
+use Rattle.tsc_left_right.proofs.Heads.{SetsAnswer, sets_by_or, sets_by_and}
 use Rattle.tsc_left_right.proofs.Asking.{fetch_allowed, rest_allowed, post_allowed}
 use Rattle.tsc_left_right.proofs.Asking.{withdraw_allowed}
 use Rattle.tsc_left_right.proofs.Hearing.{hear_allowed}
-use Rattle.tsc_left_right.proofs.Collecting.{collect_allowed, put_back_allowed}
+use Rattle.tsc_left_right.proofs.Leaving.{leave_allowed, flag_allowed}
+use Rattle.tsc_left_right.proofs.Collecting.{collect_allowed, readmit_allowed, put_back_allowed}
 
 -- a word by its place
 at_word : (key : Setup) (slots id word n : ℕ) (me : At) (f : ℕ → ℕ) (then_ : ℕ → At → Type 0)
@@ -42,21 +46,8 @@ fetch_at key slots st id number word me may is at = at_word key slots id word
     (request_word (number_of me.0)) me (λ n. n) (fetches st me) (at ∙ ap request_word is)
     (subst (λ (m : At). Allows (LeftRightRule key) slots id m (request_word (number_of me.0))
     (λ n. n) (fetches st m)) (sym (whole me me.1 may.one refl))
-    (fetch_allowed key slots st id me.0.setup (state_in me.0) me.1 may.request may.fetched))
-
-pub fetched_then : (st : Step Slot) (found number : ℕ) (me me' : At) → number ≡ number_of me.0
-    → fetches st me found me'
-    → (x : Slot) × (me' ≡ (
-      with_state me.0 (fetching (state_in me.0) true found),
-      (request_slot number, x) ∷ me.1,
-    ))
-fetched_then st found number me me' is done = (
-  done.1,
-  done.2 ∙ ap (λ (n : ℕ). (
-    with_state me.0 (fetching (state_in me.0) true found),
-    (request_slot n, done.1) ∷ me.1,
-  )) (sym is),
-)
+    (fetch_allowed key slots st id me.0.setup (state_in me.0) me.1 may.request may.fetched
+    may.leaving))
 
 pub rest_at : (key : Setup) (slots : ℕ) (st : Step Slot) (id number word : ℕ) (me : At)
     → HasFetched me → number ≡ number_of me.0 → word ≡ request_word number
@@ -117,16 +108,6 @@ withdraw_at key slots st id number word toggle me may is at other = at_word key 
     (withdraw_allowed key slots st id me.0.setup (state_in me.0) may.posted.0 me.1 may.writer.holds
     may.posted.1 may.new may.differs other))
 
--- A slot that has an Add has a request.
-pub request_is : (o : Option UnappliedAdd) (x : Slot) → HasAdd o x → (add : Box UnappliedAdd Global)
-    × (x ≡ Request add) × (o ≡ Some add.value)
-request_is None x has = absurd has
-request_is (Some a) Empty has = absurd has
-request_is (Some a) (Writer state) has = absurd has
-request_is (Some a) (Handle handle) has = absurd has
-request_is (Some a) (Request add) has = (add, refl, ap Some (sym has))
-request_is (Some a) (Answer reply) has = absurd has
-
 abbrev what_first : Slot → Hand → Slot
 what_first d [] = d
 what_first d (x ∷ xs) = x.1
@@ -135,27 +116,6 @@ what_first d (x ∷ xs) = x.1
 pub taken_is : (hand others : Hand) (i j : ℕ) (x y : Slot) → hand ≡ (i, x) ∷ others
     → hand ≡ (j, y) ∷ rest hand → x ≡ y
 taken_is hand others i j x y is also = ap (what_first x) (sym is ∙ also)
-
--- an Add by what lies in a slot
-abbrev add_or : Box UnappliedAdd Global → Slot → Box UnappliedAdd Global
-add_or d Empty = d
-add_or d (Writer state) = d
-add_or d (Handle handle) = d
-add_or d (Request add) = add
-add_or d (Answer reply) = d
-
-pub request_same : (a b : Box UnappliedAdd Global) → Request a ≡ Request b → a ≡ b
-request_same a b is = ap (add_or a) is
-
--- The request that a writer takes back is its own.
-pub withdrawn_add : (st : Step Slot) (n : ℕ) (me me₁ : At) (slot : ℕ) (y : Slot)
-    (w : withdraws st me n me₁) → me₁.1 ≡ (slot, y) ∷ rest me₁.1 → (add : Box UnappliedAdd Global)
-    × (y ≡ Request add) × ((state_in me.0).request ≡ Some add.value)
-withdrawn_add st n me me₁ slot y w out =
-    let x = request_is (state_in me.0).request w.0 w.1 in
-    let same : w.0 ≡ y = taken_is me₁.1 me.1 (request_slot (number_of me.0)) slot w.0 y
-    (ap (λ (m : At). m.1) w.2) out in
-    (x.0, sym same ∙ x.1, x.2)
 
 pub withdrawn_first : (st : Step Slot) (n number slot : ℕ) (me me₁ : At) (w : withdraws st me n me₁)
     → number ≡ number_of me.0 → slot ≡ request_slot number → (old : Slot)
@@ -166,25 +126,98 @@ withdrawn_first st n number slot me me₁ w is at = (
       ∙ (λ i. (sym (at ∙ ap request_slot is) i, w.0) ∷ rest (sym w.2 i).1),
 )
 
-pub withdrawn_then : (st : Step Slot) (n number slot : ℕ) (me me₁ me₂ : At)
-    (w : withdraws st me n me₁) → number ≡ number_of me.0 → slot ≡ request_slot number
-    → me₂ ≡ (me₁.0, (slot, Empty) ∷ rest me₁.1)
-    → me₂ ≡ (
-      with_state me.0 (withdrawn (state_in me.0) st.first),
-      (
-        request_slot number,
-        Empty,
-      ) ∷ me.1,
-    )
-withdrawn_then st n number slot me me₁ me₂ w is at emptied = emptied
-    ∙ (λ i. ((w.2 i).0, (at i, Empty) ∷ rest (w.2 i).1))
-
 pub hear_at : (key : Setup) (slots : ℕ) (st : Step Slot) (id : ℕ) (me : At) (add : UnappliedAdd)
     → HasPosted me add → Allows (LeftRightRule key) slots id me 16 (λ n. n) (hears st me)
 hear_at key slots st id me add has =
     subst (λ (m : At). Allows (LeftRightRule key) slots id m 16 (λ n. n) (hears st m))
     (sym (whole me me.1 has.one refl))
     (hear_allowed key slots st id me.0.setup (state_in me.0) add me.1 has.request)
+
+-- What a seat has that was answered: its request slot comes first in hand.
+pub answered_then : (number : ℕ) (me me' : At) (add : UnappliedAdd) → number ≡ number_of me.0
+    → (state_in me.0).request ≡ Some add
+    → ((x : Slot) × (me'.1 ≡ (request_slot (number_of me.0), x) ∷ me.1)
+    × HearsOf (state_in me.0).request me.0 me'.0 x)
+    → IsAnsweredIn me.0 me.1 me' number
+answered_then number me me' add at is done = record {
+  number_is = at;
+  add = add;
+  is = is;
+  slot = done.0;
+  taken = done.1 ∙ ap (λ (n : ℕ). (request_slot n, done.0) ∷ me.1) (sym at);
+  hears = subst (λ (o : Option UnappliedAdd). HearsOf o me.0 me'.0 done.0) is done.2;
+}
+
+-- What a seat hears is the same by whatever it was answered.
+pub heard_else : (P : Type 0) (me me' : At) (h : Heard) → HasHeardOr ⊥ me me' h
+    → HasHeardOr P me me' h
+heard_else P me me' Waiting has = absurd has
+heard_else P me me' (Made reply) has = has
+heard_else P me me' (SentBack add) has = has
+
+-- HEAD with the bit of a seat set, and with that bit cleared
+pub or_sets : (seat bit toggle : ℕ) → seat < 63 → bit ≡ 2 ^ (seat + 1) → toggle ≡ 1 → (n : ℕ)
+    → n < 18446744073709551616 → SetsAnswer n (bit_or n bit) seat toggle
+or_sets seat bit toggle low is at n small = rw (is, at) (sets_by_or n seat small low)
+
+pub and_sets : (seat bit toggle : ℕ) → seat < 63 → bit ≡ 2 ^ (seat + 1) → toggle ≡ 0 → (n : ℕ)
+    → n < 18446744073709551616
+    → SetsAnswer n (bit_and n (18446744073709551615 - bit)) seat toggle
+and_sets seat bit toggle low is at n small = rw (is, at) (sets_by_and n seat small low)
+
+pub leave_at : (key : Setup) (slots : ℕ) (st : Step Slot) (id number toggle : ℕ) (me : At)
+    (add : UnappliedAdd) (f : ℕ → ℕ)
+    → ((n : ℕ) → n < 18446744073709551616 → SetsAnswer n (f n) number toggle)
+    → HasPosted me add → number ≡ number_of me.0 → toggle ≡ (state_in me.0).toggle
+    → Allows (LeftRightRule key) slots id me 16 f (leaves st me)
+leave_at key slots st id number toggle me add f sets has at is =
+    subst (λ (m : At). Allows (LeftRightRule key) slots id m 16 f (leaves st m))
+    (sym (whole me me.1 has.one refl))
+    (leave_allowed key slots st id me.0.setup (state_in me.0) add me.1 f
+    (λ n small. rw (sym at, sym is) (sets n small)) has.request)
+
+-- Either way by which a seat withdraws its Add comes to this.
+pub left_by : (st : Step Slot) (me : At) (head found : ℕ) (who then_ : Participant) → who ≡ then_
+    → head ≡ found → leaves st me found then_.me → leaves st me head who.me
+left_by st me head found who then_ who_is head_is left =
+    subst (λ (n : ℕ). leaves st me n who.me) (sym head_is)
+    (subst (λ (p : Participant). leaves st me found p.me) (sym who_is) left)
+
+-- One that found itself answered has its answer.
+pub left_answered : (st : Step Slot) (number toggle head found : ℕ) (me : At)
+    (who then_ : Participant) (add : UnappliedAdd) → HasPosted me add → number ≡ number_of me.0
+    → toggle ≡ (state_in me.0).toggle → who ≡ then_ → head ≡ found
+    → leaves st me found then_.me → answer_bit head number ≡ toggle
+    → IsAnsweredIn me.0 me.1 who.me number
+left_answered st number toggle head found me who then_ add has at is who_is head_is left told =
+    answered_then number me who.me add at has.request
+    ((left_by st me head found who then_ who_is head_is left).1
+    (ap (answer_bit head) (sym at) ∙ told ∙ is))
+
+-- One that was not answered flags its request word.
+pub left_waiting : (st : Step Slot) (number toggle head found : ℕ) (me : At)
+    (who then_ : Participant) → number ≡ number_of me.0 → toggle ≡ (state_in me.0).toggle
+    → who ≡ then_ → head ≡ found → leaves st me found then_.me → answer_bit head number ≢ toggle
+    → who.me ≡ (with_state me.0 (on_leaving (state_in me.0)), me.1)
+left_waiting st number toggle head found me who then_ at is who_is head_is left not =
+    (left_by st me head found who then_ who_is head_is left).0
+    (λ told. not (ap (answer_bit head) at ∙ told ∙ sym is))
+
+pub flag_at : (key : Setup) (slots : ℕ) (st : Step Slot) (id number word toggle : ℕ) (me me₁ : At)
+    → number ≡ number_of me.0 → word ≡ request_word number → toggle ≡ (state_in me.0).toggle
+    → me₁ ≡ (with_state me.0 (on_leaving (state_in me.0)), me.1)
+    → Allows (LeftRightRule key) slots id me₁ word (λ _. toggle + 2) (flags st me₁)
+flag_at key slots st id number word toggle me me₁ at at_place is left = at_word key slots id word
+    (request_word (number_of me.0)) me₁ (λ _. toggle + 2) (flags st me₁)
+    (at_place ∙ ap request_word at)
+    (subst (λ (m : At). Allows (LeftRightRule key) slots id m (request_word (number_of me.0))
+    (λ _. toggle + 2) (flags st m)) (sym left)
+    (flag_allowed key slots st id me.0.setup (on_leaving (state_in me.0)) me.1 toggle refl is))
+
+-- the seat whose request word a writer reads
+seat_is : (st : Step Slot) (seat word : ℕ) → st.word ≡ word → word ≡ request_word seat
+    → seat ≡ seat_of_word st.word
+seat_is st seat word is at = omega (arith, ap seat_of_word (is ∙ at))
 
 pub collect_at : (key : Setup) (slots : ℕ) (st : Step Slot) (id seat word : ℕ) (me : At)
     → IsWriter me → seat < me.0.setup.seats → times seat (state_in me.0).collected ≡ 0
@@ -197,55 +230,77 @@ collect_at key slots st id seat word me writer low new at is = at_word key slots
     (subst (λ (m : At). Allows (LeftRightRule key) slots id m (request_word seat) (λ n. n)
     (Collects m seat)) (sym (whole me me.1 writer.one refl))
     (collect_allowed key slots id me.0.setup (state_in me.0) me.1 seat writer.holds low new)))
-  where
-    seat_is : (st : Step Slot) (seat word : ℕ) → st.word ≡ word → word ≡ request_word seat
-        → seat ≡ seat_of_word st.word
-    seat_is st seat word is at = omega (arith, ap seat_of_word (is ∙ at))
 
 pub collects_then : (st : Step Slot) (found seat word : ℕ) (me me' : At) → st.word ≡ word
     → word ≡ request_word seat → collects st me found me' → Collects me seat found me'
 collects_then st found seat word me me' is at done = subst (λ (r : ℕ). Collects me r found me')
-    (omega (arith, ap seat_of_word (is ∙ at))) done
+    (sym (seat_is st seat word is at)) done
+
+pub readmit_at : (key : Setup) (slots : ℕ) (st : Step Slot) (id seat word : ℕ) (me : At)
+    → IsWriter me → seat < me.0.setup.seats → times seat (state_in me.0).collected ≡ 0
+    → word ≡ request_word seat → st.word ≡ word
+    → Allows (LeftRightRule key) slots id me word (λ n. bit_and n 1) (readmits st me)
+readmit_at key slots st id seat word me writer low new at is = at_word key slots id word
+    (request_word seat) me (λ n. bit_and n 1) (readmits st me) at
+    (subst (λ (r : ℕ). Allows (LeftRightRule key) slots id me (request_word seat)
+    (λ n. bit_and n 1) (Readmits me r)) (seat_is st seat word is at)
+    (subst (λ (m : At). Allows (LeftRightRule key) slots id m (request_word seat)
+    (λ n. bit_and n 1) (Readmits m seat)) (sym (whole me me.1 writer.one refl))
+    (readmit_allowed key slots id me.0.setup (state_in me.0) me.1 seat writer.holds low new)))
+
+-- what a writer knows that has let a seat ask again
+pub readmitted_then : (st : Step Slot) (found seat word head known : ℕ) (me me' : At)
+    → st.word ≡ word → word ≡ request_word seat → readmits st me found me' → 2 ≤ found
+    → known ≡ (state_in me.0).head → head ≡ with_answer known seat (found - 2)
+    → IsReadmitted me me' seat head
+readmitted_then st found seat word head known me me' is at done flagged known_is head_is =
+    let d = subst (λ (r : ℕ). Readmits me r found me') (sym (seat_is st seat word is at)) done in
+    let e = d.1 flagged in
+    let now : head ≡ with_answer (state_in me.0).head seat (found - 2) =
+    head_is ∙ ap (λ (n : ℕ). with_answer n seat (found - 2)) known_is in record {
+      toggle = found - 2;
+      small = omega (arith, e.0);
+      head_is = now;
+      after = e.1 ∙ ap (λ (n : ℕ). (
+        with_state me.0 (serving (state_in me.0) (state_in me.0).collected n),
+        me.1,
+      )) (sym now);
+    }
 
 pub put_back_at : (key : Setup) (slots : ℕ) (st : Step Slot) (id seat slot : ℕ) (me me₁ : At)
-    (x : Slot) → (may : MayPutBack me seat x) → slot ≡ request_slot seat
-    → me₁ ≡ (me.0, (slot, x) ∷ rest me.1)
-    → Allows (LeftRightRule key) slots id me₁ 0 (λ n. n) (puts_back st me₁)
-put_back_at key slots st id seat slot me me₁ x may at laid =
+    (x : Slot) (f : ℕ → ℕ) → (may : MayPutBack me seat x)
+    → ((n : ℕ) → n < 18446744073709551616
+    → SetsAnswer n (f n) seat (1 - answer_bit (state_in me.0).head seat))
+    → slot ≡ request_slot seat → me₁ ≡ (me.0, (slot, x) ∷ rest me.1)
+    → Allows (LeftRightRule key) slots id me₁ 16 f (puts_back st me₁)
+put_back_at key slots st id seat slot me me₁ x f may sets at laid =
     let at_seat : slot ≡ request_slot may.first.seat = at ∙ ap request_slot (sym may.seat) in
-    subst (λ (m : At). Allows (LeftRightRule key) slots id m 0 (λ n. n) (puts_back st m))
+    subst (λ (m : At). Allows (LeftRightRule key) slots id m 16 f (puts_back st m))
     (sym (laid ∙ (λ i. (may.writer.one i, (at_seat i, x) ∷ rest me.1))))
     (put_back_allowed key slots st id me.0.setup (state_in me.0) (rest me.1) may.first may.others x
-    may.writer.holds may.is may.laid)
+    f (λ n small. subst (λ (r : ℕ). SetsAnswer n (f n) r (1 - answer_bit (state_in me.0).head r))
+    (sym may.seat) (sets n small)) may.writer.holds may.is may.laid)
 
-pub put_back_then : (st : Step Slot) (found seat slot plan : ℕ) (me me₁ me₂ : At) (x : Slot)
-    → (may : MayPutBack me seat x) → me₁ ≡ (me.0, (slot, x) ∷ rest me.1)
-    → puts_back st me₁ found me₂ → plan ≡ turned_answer (state_in me.0).plan seat
-    → IsPutBack me me₂ seat plan
-put_back_then st found seat slot plan me me₁ me₂ x may laid done plan_is = record {
-  plan_is = plan_is;
-  after = subst (λ (m : At). puts_back st m found me₂) laid done
+pub put_back_then : (st : Step Slot) (found seat slot head : ℕ) (me me₁ : At)
+    (who then_ : Participant) (x : Slot) → (may : MayPutBack me seat x)
+    → me₁ ≡ (me.0, (slot, x) ∷ rest me.1) → who ≡ then_ → puts_back st me₁ found then_.me
+    → head ≡ turned_answer (state_in me.0).head seat → IsPutBack me who.me seat head
+put_back_then st found seat slot head me me₁ who then_ x may laid who_is done head_is = record {
+  head_is = head_is;
+  after = ap (λ (p : Participant). p.me) who_is
+      ∙ subst (λ (m : At). puts_back st m found then_.me) laid done
       ∙ ap (λ (n : ℕ). (with_state me.0 (put_back_by (state_in me.0) n), rest me.1))
       (ap last_seat may.is ∙ may.seat);
 }
 
-pub tell_at : (key : Setup) (slots : ℕ) (st : Step Slot) (id : ℕ) (me : At) (n : ℕ)
-    → IsWriter me → n ≡ (state_in me.0).plan
-    → Allows (LeftRightRule key) slots id me 16 (λ _. n) (tells st me)
-tell_at key slots st id me n writer n_is =
-    subst (λ (k : ℕ). Allows (LeftRightRule key) slots id me 16 (λ _. k) (tells st me)) (sym n_is)
-    (subst (λ (m : At). Allows (LeftRightRule key) slots id m 16 (λ _. (state_in me.0).plan)
-    (tells st m)) (sym (whole me me.1 writer.one refl))
-    (tell_allowed key slots id me.0.setup (state_in me.0) me.1 writer.holds))
-
 -- what a writer has collected, once its slot is empty
 pub collected_then : (found seat slot : ℕ) (me me₁ me₂ : At) (add : Box UnappliedAdd Global)
-    → Collects me seat found me₁ → answer_bit (state_in me.0).plan seat ≢ found
+    → Collects me seat found me₁ → found < 2 → answer_bit (state_in me.0).head seat ≢ found
     → slot ≡ request_slot seat
     → me₁.1 ≡ (slot, Request add) ∷ rest me₁.1 → me₂ ≡ (me₁.0, (slot, Empty) ∷ rest me₁.1)
     → IsCollected me me₂ seat add.value
-collected_then found seat slot me me₁ me₂ add done differs at out emptied =
-    let d = done.1 differs in
+collected_then found seat slot me me₁ me₂ add done low differs at out emptied =
+    let d = done.2 low differs in
     let same : d.0 ≡ Request add = taken_is me₁.1 me.1 (request_slot seat) slot d.0 (Request add)
     (ap (λ (m : At). m.1) d.4) out in
     let is : add.value ≡ d.1 = subst (HasRequest d.1) same d.2 in record {
@@ -255,7 +310,7 @@ collected_then found seat slot me me₁ me₂ add done differs at out emptied =
             with_state me.0 (serving (state_in me.0) (record {
               seat = seat;
               add = sym is i;
-            } ∷ (state_in me.0).collected) (state_in me.0).plan),
+            } ∷ (state_in me.0).collected) (state_in me.0).head),
             (request_slot seat, Empty) ∷ me.1,
           ));
     }

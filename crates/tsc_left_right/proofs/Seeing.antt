@@ -231,7 +231,7 @@ catch_up_allowed setup slots st id t p seen none s k deep at small =
     let own_all : own_count p.number h ≡ p.count = omega (
       arith,
       mine.own,
-      (quiet_none (k.g.request_of p.number) (mine.at_request ∙ none)).0,
+      quiet_none (k.g.request_of p.number) (mine.at_request ∙ none),
     ) in
     let own : own_count p.number (longer p.seen seen) ≡ p.count = own_between p.number p.count h
     (longer p.seen seen) p.seen long.2 long.0 own_all mine.own_seen in
@@ -250,6 +250,7 @@ catch_up_allowed setup slots st id t p seen none s k deep at small =
       at_request =
           mine.at_request;
       at_fetched = mine.at_fetched;
+      at_leaving = mine.at_leaving;
       sees = λ e. all_seen (mine.sees e);
       holding =
           mine.holding;

@@ -26,7 +26,7 @@ use Rattle.tsc_left_right.specs.Steps.{first_state, Acquires, flipped, released,
 use Rattle.tsc_left_right.specs.Steps.{At, state_in, with_state, seated, number_of, seen_of}
 use Rattle.tsc_left_right.specs.Steps.{count_of, clearing, Filled, Anything, IsHandleOn, front_of}
 use Rattle.tsc_left_right.specs.Steps.{own_of, published, with_own, grown}
-use Rattle.tsc_left_right.specs.RequestSteps.{told}
+use Rattle.tsc_left_right.specs.RequestSteps.{serving}
 
 abbrev pub Participant : Type 0
 Participant = TableSeat Slot Knowledge
@@ -92,10 +92,6 @@ published_in v own = with_state v (flipped (state_in v) own)
 abbrev pub released_in : Knowledge → Knowledge
 released_in v = with_state v (released (state_in v))
 
--- what a writer knows once HEAD tells which requests came back
-abbrev pub told_in : Knowledge → Knowledge
-told_in v = with_state v (told (state_in v))
-
 -- the writer, as it is in v, when so many seats are cleared and the next one was watched
 abbrev pub cleared_in : Knowledge → ℕ → Option ℕ → Knowledge
 cleared_in v cleared watched = with_state v (clearing (state_in v) cleared watched)
@@ -135,12 +131,10 @@ IsNext v seat standby = (seat < v.setup.seats) × (standby ≡ standby_side (sta
 abbrev pub AreSides : Knowledge → ℕ → ℕ → Type 0
 AreSides v seats standby = (seats ≡ v.setup.seats) × (standby ≡ standby_side (state_in v).head)
 
--- A writer that has no request in hand, and has told what came back, may release the lock, with a
--- state that is as it knows.
+-- A writer that has no request in hand may release the lock, with a state that is as it knows.
 pub record MayRelease (me : At) (state : WriterState) : Type 0 where
   pub lock : HasLock me
   pub none : (state_in me.0).collected ≡ []
-  pub is_told : (state_in me.0).plan ≡ (state_in me.0).head
   pub is_after : IsAfter me.0.setup (state_in me.0).history (state_in me.0).head state
 
 -- The writer makes an Add of its own only where it asks for nothing.
@@ -165,13 +159,24 @@ AreMade t h (x ∷ xs) items =
     × IsMadeFor t (grown h xs) x made × AreMade t h xs front
 
 -- What the writer has prepared can be published: its own Add, if there is one, and then all that it
--- has collected. The limit allows all, and the state says what HEAD is to be without the answers.
+-- has collected. The limit allows all, and the state says what is known of HEAD.
 pub record IsReady (v : Knowledge) (state : WriterState) : Type 0 where
   pub own : MayOwn v.setup (state_in v) (own_of state)
   pub made : AreMade v.setup (with_own (state_in v) (own_of state)) (state_in v).collected
       state.lagging.others.items
   pub limit : length (published (state_in v) (own_of state)) ≤ v.setup.limit
-  pub is_after : IsAfter v.setup (published (state_in v) (own_of state)) (state_in v).plan state
+  pub is_after : IsAfter v.setup (published (state_in v) (own_of state)) (state_in v).head state
+
+-- The writer of v could not publish, since some seat has left. All that it had collected is back.
+-- What it works with is as before, without the Adds of others, and with what it knows of HEAD.
+pub record IsCalledOff (v : Knowledge) (old : WriterState) (me : At) (new : WriterState)
+    : Type 0 where
+  pub is : me.0 ≡ with_state v (serving (state_in v) [] new.head)
+  pub side : standby_side new.head ≡ standby_side (state_in v).head
+  pub writing : IsWriting me.0 me v.setup.seats None
+  pub copies : (new.active ≡ old.active) × (new.standby ≡ old.standby)
+  pub length : new.length ≡ old.length
+  pub lagging : (new.lagging.own ≡ old.lagging.own) × (new.lagging.others.items ≡ [])
 
 -- a slot has a handle that meets P
 abbrev pub HasHandle : Slot → (CacheView → ℕ → Type 0) → Type 0

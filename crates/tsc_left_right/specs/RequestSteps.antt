@@ -1,5 +1,5 @@
 -- What each step at a request says to the one who takes it.
-use Rattle.std.specs.Prelude.{◌≡◌, ◌≢◌, ℕ, ◌+◌, ◌-◌, ◌*◌, ◌/◌, ◌%◌, ◌<◌}
+use Rattle.std.specs.Prelude.{◌≡◌, ◌≢◌, ℕ, ◌+◌, ◌-◌, ◌*◌, ◌/◌, ◌%◌, ◌<◌, ◌≤◌}
 use Rattle.std.specs.Prelude.{List, [], ◌∷◌, ◌++◌, length, Bool, true, false}
 use Rattle.std.specs.Prelude.{Option, Some, None}
 use Rattle.atomic_table.specs.Table.{Step, rest}
@@ -13,6 +13,7 @@ use Rattle.tsc_left_right.specs.declared.table.Slot.{Slot}
 use Rattle.tsc_left_right.specs.declared.table.Slot.TheVariants.{Empty, Writer, Handle, Request}
 use Rattle.tsc_left_right.specs.declared.table.Slot.TheVariants.{Answer}
 use Rattle.tsc_left_right.specs.Rule.{entry_of, request_slot, answer_bit, turned_answer}
+use Rattle.tsc_left_right.specs.Rule.{with_answer}
 use Rattle.tsc_left_right.specs.Rule.{CanBe, HasRequest, IsReply}
 use Rattle.tsc_left_right.specs.Steps.{At, state_in, with_state}
 
@@ -20,13 +21,15 @@ use Rattle.tsc_left_right.specs.Steps.{At, state_in, with_state}
 abbrev pub fetching : SeatState → Bool → ℕ → SeatState
 fetching p b toggle = record p { fetched = b; toggle = toggle }
 
--- The seat has its request slot in hand, and knows its toggle.
+-- The seat has its request slot in hand, and knows its toggle. Where its word is flagged, the slot
+-- may be in a writer's hand, and nothing changes.
 abbrev pub fetches : Step Slot → At → ℕ → At → Type 0
-fetches st me found me' = (found < 2) × (x : Slot)
-    × (me' ≡ (
+fetches st me found me' =
+    (found < 2 → (x : Slot) × (me' ≡ (
       with_state me.0 (fetching (state_in me.0) true found),
       (request_slot (state_in me.0).number, x) ∷ me.1,
-    ))
+    )))
+    × (2 ≤ found → me' ≡ me)
 
 -- The request slot is at home, with nothing asked.
 abbrev pub rests : Step Slot → At → ℕ → At → Type 0
@@ -67,28 +70,40 @@ withdraws st me found me' = (x : Slot) × HasAdd (state_in me.0).request x
     ))
     × (own_count (state_in me.0).number (state_in me.0).history ≡ (state_in me.0).count)
 
--- the writer, with these requests collected, and what HEAD is to be
+-- the writer, with these requests collected, and what it knows of HEAD
 abbrev pub serving : SeatState → List Collected → ℕ → SeatState
-serving p collected plan = record p { collected = collected; plan = plan }
+serving p collected head = record p { collected = collected; head = head }
 
 -- the seat whose request word this is
 abbrev pub seat_of_word : ℕ → ℕ
 seat_of_word i = 8 * ((i - 32) / 152) + (i - 32) % 152
 
--- A request that is collected, where the seat's toggle differs from its bit: its slot is in hand,
--- with an Add that can be made. Else nothing changes.
+-- Where a seat's toggle differs from its bit, as the writer knows it, its request is collected: the
+-- slot is in hand, with an Add that can be made. Else, and where the word is flagged, nothing
+-- changes.
 abbrev pub Collects : At → ℕ → ℕ → At → Type 0
 Collects me r found me' = let p = state_in me.0 in
-    (answer_bit p.plan r ≡ found → me' ≡ me)
-    × (answer_bit p.plan r ≢ found → (x : Slot) × (add : UnappliedAdd)
+    (2 ≤ found → me' ≡ me)
+    × (answer_bit p.head r ≡ found → me' ≡ me)
+    × (found < 2 → answer_bit p.head r ≢ found → (x : Slot) × (add : UnappliedAdd)
     × HasRequest add x × CanBe me.0.setup add
     × (me' ≡ (
-      with_state me.0 (serving p (record { seat = r; add = add } ∷ p.collected) p.plan),
+      with_state me.0 (serving p (record { seat = r; add = add } ∷ p.collected) p.head),
       (request_slot r, x) ∷ me.1,
     )))
 
 abbrev pub collects : Step Slot → At → ℕ → At → Type 0
 collects st me found me' = Collects me (seat_of_word st.word) found me'
+
+-- A seat that had left may ask again, and the writer knows its bit of HEAD.
+abbrev pub Readmits : At → ℕ → ℕ → At → Type 0
+Readmits me r found me' = let p = state_in me.0 in
+    (found < 2 → me' ≡ me)
+    × (2 ≤ found → (found < 4)
+    × (me' ≡ (with_state me.0 (serving p p.collected (with_answer p.head r (found - 2))), me.1)))
+
+abbrev pub readmits : Step Slot → At → ℕ → At → Type 0
+readmits st me found me' = Readmits me (seat_of_word st.word) found me'
 
 -- all collected requests but the first
 abbrev pub other_requests : List Collected → List Collected
@@ -97,26 +112,19 @@ other_requests (x ∷ xs) = xs
 
 -- the writer, when the slot of the last request that it collected is back
 abbrev pub put_back_by : SeatState → ℕ → SeatState
-put_back_by p r = serving p (other_requests p.collected) (turned_answer p.plan r)
+put_back_by p r = serving p (other_requests p.collected) (turned_answer p.head r)
 
 -- the seat of the last request that was collected
 abbrev pub last_seat : List Collected → ℕ
 last_seat [] = 0
 last_seat (x ∷ xs) = x.seat
 
--- The slot of that request is at home, with the request.
+-- The slot of that request is at home, with the request, and HEAD says that it is answered.
 abbrev pub puts_back : Step Slot → At → ℕ → At → Type 0
 puts_back st me found me' = let p = state_in me.0 in
     me' ≡ (with_state me.0 (put_back_by p (last_seat p.collected)), rest me.1)
 
--- the writer, once HEAD tells each seat whose request came back
-abbrev pub told : SeatState → SeatState
-told p = record p { head = p.plan }
-
-abbrev pub tells : Step Slot → At → ℕ → At → Type 0
-tells st me stored me' = me' ≡ (with_state me.0 (told (state_in me.0)), me.1)
-
--- a seat whose request slot is in its hand again, and that asks for nothing any more
+-- a seat whose request slot is in its hand again, and that asks for nothing
 abbrev pub asks_none : SeatState → SeatState
 asks_none p = record p { request = None; fetched = true }
 
@@ -158,3 +166,22 @@ hears st me found me' = let p = state_in me.0 in
     (answer_bit found p.number ≢ p.toggle → me' ≡ me)
     × (answer_bit found p.number ≡ p.toggle → (x : Slot)
     × (me'.1 ≡ (request_slot p.number, x) ∷ me.1) × HearsOf p.request me.0 me'.0 x)
+
+-- a seat that has withdrawn its Add
+abbrev pub on_leaving : SeatState → SeatState
+on_leaving p = record p { request = None; leaving = true }
+
+-- A seat withdraws its Add by its bit of HEAD, unless it was answered: then its slot is in its
+-- hand.
+abbrev pub leaves : Step Slot → At → ℕ → At → Type 0
+leaves st me found me' = let p = state_in me.0 in
+    (answer_bit found p.number ≢ p.toggle → me' ≡ (with_state me.0 (on_leaving p), me.1))
+    × (answer_bit found p.number ≡ p.toggle → (x : Slot)
+    × (me'.1 ≡ (request_slot p.number, x) ∷ me.1) × HearsOf p.request me.0 me'.0 x)
+
+-- a seat whose request word is flagged: it is as a seat that never asked
+abbrev pub flagged : SeatState → SeatState
+flagged p = record p { toggle = 0; leaving = false }
+
+abbrev pub flags : Step Slot → At → ℕ → At → Type 0
+flags st me stored me' = me' ≡ (with_state me.0 (flagged (state_in me.0)), me.1)

@@ -44,9 +44,9 @@ at_rest number seen count = record {
   toggle = 0;
   request = None;
   fetched = false;
+  leaving = false;
   history = [];
   head = 0;
-  plan = 0;
   collected = [];
 }
 
@@ -116,6 +116,11 @@ answer_bit head seat = bit_at head (seat + 1)
 abbrev pub turned_answer : ℕ → ℕ → ℕ
 turned_answer head seat = bit_xor head (2 ^ (seat + 1))
 
+-- HEAD with the bit of a seat as this toggle
+abbrev pub with_answer : ℕ → ℕ → ℕ → ℕ
+with_answer head seat toggle =
+    if answer_bit head seat == toggle then head else turned_answer head seat
+
 -- a cache stands for the state of a history
 abbrev pub IsState : Setup → History → CacheView → Type 0
 IsState setup h cache = RepresentsState cache setup.config (state_of setup.config h)
@@ -134,7 +139,12 @@ Shows setup h (Answer reply) = ⊥
 -- Idle: nothing, and its request slot is at home. Fetched: nothing, and the slot is in its own
 -- hand. Posted: an Add that nobody has collected. Taken: an Add that the writer has collected.
 -- Answered: an Add that was made after this history, whose slot has the reply. SentBack: an Add
--- that the writer has collected and not made.
+-- that the writer has collected and not made, and whose slot is at home again.
+--
+-- In the others the seat has withdrawn its Add: HEAD says that it is answered. Leaving: the slot is
+-- at home, with the Add. LeavingTaken: the writer has collected the Add. Left: the request word is
+-- flagged, and the slot is at home. LeftTaken: the word is flagged, and the writer has collected
+-- the Add.
 pub data RequestState : Type 0 where
   Idle : RequestState
   Fetched : RequestState
@@ -142,6 +152,10 @@ pub data RequestState : Type 0 where
   Taken : UnappliedAdd → RequestState
   Answered : History → UnappliedAdd → RequestState
   SentBack : UnappliedAdd → RequestState
+  Leaving : UnappliedAdd → RequestState
+  LeavingTaken : UnappliedAdd → RequestState
+  Left : RequestState
+  LeftTaken : UnappliedAdd → RequestState
 
 -- 1 where the Add is in the history, and its seat has not counted it
 abbrev pub made_of : RequestState → ℕ
@@ -151,6 +165,10 @@ made_of (Posted p) = 0
 made_of (Taken p) = 0
 made_of (Answered b p) = 1
 made_of (SentBack p) = 0
+made_of (Leaving p) = 0
+made_of (LeavingTaken p) = 0
+made_of Left = 0
+made_of (LeftTaken p) = 0
 
 -- 1 where the writer has the request slot
 abbrev pub in_hand : RequestState → ℕ
@@ -160,8 +178,12 @@ in_hand (Posted p) = 0
 in_hand (Taken p) = 1
 in_hand (Answered b p) = 0
 in_hand (SentBack p) = 0
+in_hand (Leaving p) = 0
+in_hand (LeavingTaken p) = 1
+in_hand Left = 0
+in_hand (LeftTaken p) = 1
 
--- the Add that is asked for
+-- the Add that the seat waits for
 abbrev pub add_of : RequestState → Option UnappliedAdd
 add_of Idle = None
 add_of Fetched = None
@@ -169,6 +191,10 @@ add_of (Posted p) = Some p
 add_of (Taken p) = Some p
 add_of (Answered b p) = Some p
 add_of (SentBack p) = Some p
+add_of (Leaving p) = None
+add_of (LeavingTaken p) = None
+add_of Left = None
+add_of (LeftTaken p) = None
 
 -- whether the seat has its request slot in hand
 abbrev pub fetched_of : RequestState → Bool
@@ -178,6 +204,23 @@ fetched_of (Posted p) = false
 fetched_of (Taken p) = false
 fetched_of (Answered b p) = false
 fetched_of (SentBack p) = false
+fetched_of (Leaving p) = false
+fetched_of (LeavingTaken p) = false
+fetched_of Left = false
+fetched_of (LeftTaken p) = false
+
+-- whether the seat has withdrawn its Add, and is to flag its request word
+abbrev pub leaving_of : RequestState → Bool
+leaving_of Idle = false
+leaving_of Fetched = false
+leaving_of (Posted p) = false
+leaving_of (Taken p) = false
+leaving_of (Answered b p) = false
+leaving_of (SentBack p) = false
+leaving_of (Leaving p) = true
+leaving_of (LeavingTaken p) = true
+leaving_of Left = false
+leaving_of (LeftTaken p) = false
 
 -- the toggle of a seat, as far as its state says it: between two calls it says none
 abbrev pub toggle_seen : ℕ → RequestState → ℕ
@@ -187,15 +230,32 @@ toggle_seen n (Posted p) = n
 toggle_seen n (Taken p) = n
 toggle_seen n (Answered b p) = n
 toggle_seen n (SentBack p) = n
+toggle_seen n (Leaving p) = n
+toggle_seen n (LeavingTaken p) = n
+toggle_seen n Left = 0
+toggle_seen n (LeftTaken p) = 0
 
--- What stands behind the words and slots: the history, HEAD and the word of the lock. The plan is
--- HEAD once each seat is told that its request came back. Of each seat: its stage, its toggle and
--- what is asked for it. Of the writer: how many seats it has cleared, the epoch at which it watched
--- the next one, and whose request slots it has.
+-- the request word of a seat with this toggle: 2 more is the flag of a seat that has left
+abbrev pub flagged_toggle : ℕ → RequestState → ℕ
+flagged_toggle n Idle = n
+flagged_toggle n Fetched = n
+flagged_toggle n (Posted p) = n
+flagged_toggle n (Taken p) = n
+flagged_toggle n (Answered b p) = n
+flagged_toggle n (SentBack p) = n
+flagged_toggle n (Leaving p) = n
+flagged_toggle n (LeavingTaken p) = n
+flagged_toggle n Left = n + 2
+flagged_toggle n (LeftTaken p) = n + 2
+
+-- What stands behind the words and slots: the history, HEAD and the word of the lock. What writers
+-- know of HEAD (known) may lack the bits by which seats have left. Of each seat: its stage, its
+-- toggle and what is asked for it. Of the writer: how many seats it has cleared, the epoch at which
+-- it watched the next one, and whose request slots it has.
 pub record SharedState : Type 0 where
   pub history : History
   pub head : ℕ
-  pub plan : ℕ
+  pub known : ℕ
   pub word : ℕ
   pub stage_of : ℕ → ℕ
   pub toggle_of : ℕ → ℕ
@@ -204,12 +264,11 @@ pub record SharedState : Type 0 where
   pub watched : Option ℕ
   pub collected : List Collected
 
--- What the writer knows is all there is.
+-- What the writer knows is all there is, but for the seats that have left.
 abbrev pub WriterFits : SharedState → SeatState → Type 0
 WriterFits g p =
     (p.history ≡ g.history) × (g.word ≡ suc p.number) × (p.cleared ≡ g.cleared)
-    × (p.watched ≡ g.watched) × (p.collected ≡ g.collected) × (p.head ≡ g.head)
-    × (p.plan ≡ g.plan)
+    × (p.watched ≡ g.watched) × (p.collected ≡ g.collected) × (p.head ≡ g.known)
 
 -- What a seat's state says fits. The seat has seen a beginning of the history, which has all its
 -- Adds but one that was made for it and whose reply it has not read. Who has a handle on the active
@@ -222,6 +281,7 @@ pub record StateFits (g : SharedState) (p : SeatState) : Type 0 where
   pub at_toggle : toggle_seen (g.toggle_of p.number) (g.request_of p.number) ≡ p.toggle
   pub at_request : add_of (g.request_of p.number) ≡ p.request
   pub at_fetched : fetched_of (g.request_of p.number) ≡ p.fetched
+  pub at_leaving : leaving_of (g.request_of p.number) ≡ p.leaving
   pub sees : p.stage ≡ active_side g.head + 2 → p.seen ≡ g.history
   pub holding : p.holds ≡ true → WriterFits g p
 
@@ -295,41 +355,65 @@ HasAnswer setup before p (Answer reply) = IsReply setup before p reply
 abbrev pub CanBe : Setup → UnappliedAdd → Type 0
 CanBe setup p = CanAllBeAdded setup.config (marks_in p.marks) p.moment
 
--- What is asked for a seat fits its request slot, its toggle, its bit of HEAD (told), and the bit
--- that HEAD is to have (plan).
+-- What is asked for a seat fits its request slot, its toggle, its bit of HEAD (told), and that bit
+-- as writers know it (known).
 abbrev pub IsRequested : Setup → History → maybe.Option (maybe.Option Slot) → ℕ → ℕ → ℕ → ℕ
     → RequestState → Type 0
-IsRequested setup h home toggle told plan seat Idle =
-    ((x : Slot) × (home ≡ maybe.some (maybe.some x))) × (told ≡ toggle) × (plan ≡ toggle)
-IsRequested setup h home toggle told plan seat Fetched = (told ≡ toggle) × (plan ≡ toggle)
-IsRequested setup h home toggle told plan seat (Posted p) =
+IsRequested setup h home toggle told known seat Idle =
+    ((x : Slot) × (home ≡ maybe.some (maybe.some x))) × (told ≡ toggle) × (known ≡ toggle)
+IsRequested setup h home toggle told known seat Fetched = (told ≡ toggle) × (known ≡ toggle)
+IsRequested setup h home toggle told known seat (Posted p) =
     ((x : Slot) × (home ≡ maybe.some (maybe.some x)) × HasRequest p x)
-    × CanBe setup p × (told ≢ toggle) × (plan ≢ toggle)
-IsRequested setup h home toggle told plan seat (Taken p) =
-    CanBe setup p × (told ≢ toggle) × (plan ≢ toggle)
-IsRequested setup h home toggle told plan seat (Answered b p) =
+    × CanBe setup p × (told ≢ toggle) × (known ≢ toggle)
+IsRequested setup h home toggle told known seat (Taken p) =
+    CanBe setup p × (told ≢ toggle) × (known ≢ toggle)
+IsRequested setup h home toggle told known seat (Answered b p) =
     ((x : Slot) × (home ≡ maybe.some (maybe.some x)) × HasAnswer setup b p x)
-    × IsMadeAt h seat b p × (told ≡ toggle) × (plan ≡ toggle)
-IsRequested setup h home toggle told plan seat (SentBack p) =
-    ((x : Slot) × (home ≡ maybe.some (maybe.some x)) × HasRequest p x) × (plan ≡ toggle)
+    × IsMadeAt h seat b p × (told ≡ toggle) × (known ≡ toggle)
+IsRequested setup h home toggle told known seat (SentBack p) =
+    ((x : Slot) × (home ≡ maybe.some (maybe.some x)) × HasRequest p x)
+    × (told ≡ toggle) × (known ≡ toggle)
+IsRequested setup h home toggle told known seat (Leaving p) =
+    ((x : Slot) × (home ≡ maybe.some (maybe.some x)) × HasRequest p x)
+    × CanBe setup p × (told ≡ toggle)
+IsRequested setup h home toggle told known seat (LeavingTaken p) =
+    CanBe setup p × (told ≡ toggle) × (known ≢ toggle)
+IsRequested setup h home toggle told known seat Left =
+    ((x : Slot) × (home ≡ maybe.some (maybe.some x))) × (told ≡ toggle)
+IsRequested setup h home toggle told known seat (LeftTaken p) =
+    CanBe setup p × (told ≡ toggle) × (known ≢ toggle)
 
--- A seat's request word is its toggle, and what is asked for it fits.
+-- A seat's request word is its toggle, with the flag if it has left, and what is asked for it fits.
 pub record RequestFits (setup : Setup) (g : SharedState) (words : List ℕ)
     (homes : List (maybe.Option Slot)) (seat : ℕ) : Type 0 where
-  pub toggle : slice_index words (request_word seat) ≡ g.toggle_of seat
+  pub toggle : slice_index words (request_word seat)
+      ≡ flagged_toggle (g.toggle_of seat) (g.request_of seat)
   pub small : g.toggle_of seat < 2
   pub says : IsRequested setup g.history (get_elem? homes (request_slot seat)) (g.toggle_of seat)
-      (answer_bit g.head seat) (answer_bit g.plan seat) seat (g.request_of seat)
+      (answer_bit g.head seat) (answer_bit g.known seat) seat (g.request_of seat)
 
 -- how often a seat is among those whose request slots the writer has
 abbrev pub times : ℕ → List Collected → ℕ
 times seat xs = sum_by (λ (x : Collected). one_if (x.seat == seat)) xs
 
+-- the writer has collected this Add, whether its seat waits for it or has left
+abbrev pub IsTaken : RequestState → UnappliedAdd → Type 0
+IsTaken Idle p = ⊥
+IsTaken Fetched p = ⊥
+IsTaken (Posted q) p = ⊥
+IsTaken (Taken q) p = q ≡ p
+IsTaken (Answered b q) p = ⊥
+IsTaken (SentBack q) p = ⊥
+IsTaken (Leaving q) p = ⊥
+IsTaken (LeavingTaken q) p = q ≡ p
+IsTaken Left p = ⊥
+IsTaken (LeftTaken q) p = q ≡ p
+
 -- The writer has the request slots of these seats, each once, and of no others.
 pub record CollectedFits (seats : ℕ) (request_of : ℕ → RequestState) (collected : List Collected)
     : Type 0 where
   pub listed : (at : ℕ) (x : Collected) → get_elem? collected at ≡ maybe.some x
-      → (x.seat < seats) × (request_of x.seat ≡ Taken x.add)
+      → (x.seat < seats) × IsTaken (request_of x.seat) x.add
   pub each : (seat : ℕ) → times seat collected ≡ in_hand (request_of seat)
 
 -- entries are those of some Adds, whoever made them
@@ -365,8 +449,8 @@ HandleLags setup h lagging (Some handle) = LagsBy setup h lagging (arc_value han
 abbrev pub LaidState : Type 0
 LaidState = Box WriterState Global
 
--- What the writer works with is after a history, and says what HEAD is: the active copy stands for
--- the history's state, and the standby copy may lag.
+-- What the writer works with is after a history, and says what is known of HEAD: the active copy
+-- stands for the history's state, and the standby copy may lag.
 pub record IsAfter (setup : Setup) (h : History) (head : ℕ) (state : WriterState) : Type 0 where
   pub stands : IsState setup h (arc_value state.active)
   pub behind : HandleLags setup h (late_adds state.lagging) state.standby
@@ -374,9 +458,9 @@ pub record IsAfter (setup : Setup) (h : History) (head : ℕ) (state : WriterSta
   pub head_is : state.head ≡ head
 
 -- There is one history, legal and within the limit. What each participant knows fits, and each seat
--- has one state. Where the lock is free, nobody holds it, and nothing is cleared or collected. Each
--- seat was told then what came back, and the writer's slot has what is after that history. Else one
--- seat holds the lock.
+-- has one state. Where the lock is free, nobody holds it, and nothing is cleared or collected. The
+-- writer's slot has then what is after that history, and what is known of HEAD. Else one seat holds
+-- the lock.
 pub record LeftRightRule (setup : Setup) (s : State Slot Knowledge) : Type 0 where
   pub g : SharedState
   pub legal : IsLegal setup.config setup.seats g.history
@@ -385,7 +469,7 @@ pub record LeftRightRule (setup : Setup) (s : State Slot Knowledge) : Type 0 whe
   pub deep : length s.homes ≡ slot_count setup.seats
   pub word_is : slice_index s.words 0 ≡ g.word
   pub head_is : slice_index s.words head_word ≡ g.head
-  pub side : active_side g.plan ≡ active_side g.head
+  pub side : active_side g.known ≡ active_side g.head
   pub seats : (seat : ℕ) → seat < setup.seats → SeatFits setup g s.words s.homes seat
   pub requests : (seat : ℕ) → seat < setup.seats → RequestFits setup g s.words s.homes seat
   pub collected : CollectedFits setup.seats g.request_of g.collected
@@ -396,4 +480,4 @@ pub record LeftRightRule (setup : Setup) (s : State Slot Knowledge) : Type 0 whe
   pub idle : g.word ≡ 0 → (g.cleared ≡ 0) × (g.collected ≡ [])
   pub free : g.word ≡ 0 → (state : LaidState)
       × (get_elem? s.homes 0 ≡ maybe.some (maybe.some (Writer state)))
-      × IsAfter setup g.history g.head state.value × (g.plan ≡ g.head)
+      × IsAfter setup g.history g.known state.value

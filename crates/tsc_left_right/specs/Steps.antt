@@ -110,7 +110,6 @@ acquired p h head = record p {
   seen = seen_then p.request p.seen h;
   history = h;
   head = head;
-  plan = head;
   collected = [];
   cleared = 0;
   watched = None;
@@ -141,7 +140,6 @@ released p = record p {
   holds = false;
   history = [];
   head = 0;
-  plan = 0;
   collected = [];
   cleared = 0;
   watched = None;
@@ -186,7 +184,7 @@ answered_head head (x ∷ xs) = answered_head (turned_answer head x.seat) xs
 
 -- HEAD once the writer has published
 abbrev pub flipped_head : ℕ → List Collected → ℕ
-flipped_head plan xs = bit_xor (answered_head plan xs) 1
+flipped_head head xs = bit_xor (answered_head head xs) 1
 
 -- a history with the writer's own Add, where it makes one
 abbrev pub with_own : SeatState → Option UnappliedAdd → History
@@ -212,8 +210,7 @@ flipped p own = record p {
   seen = seen_own p own;
   count = count_own p own;
   history = published p own;
-  head = flipped_head p.plan p.collected;
-  plan = flipped_head p.plan p.collected;
+  head = flipped_head p.head p.collected;
   cleared = 0;
   watched = None;
   collected = [];
@@ -241,11 +238,21 @@ behind_replies ((k, Handle handle) ∷ xs) = behind_replies xs
 behind_replies ((k, Request add) ∷ xs) = (k, Request add) ∷ xs
 behind_replies ((k, Answer reply) ∷ xs) = behind_replies xs
 
--- The own Add and all that was collected are in the history from now on, and on the active copy.
--- The handles and the replies are at home, and the writer's slot stays in hand.
+-- the writer once it has published: the handles and the replies are at home, and its own slot is
+-- in its hand
+abbrev pub after_flip : At → At
+after_flip me = (with_state me.0 (flipped (state_in me.0) (own_in me.1)), behind_replies me.1)
+
+-- Where HEAD is what the writer knows, its own Add and all that it has collected come into the
+-- history, and on the active copy. Else nothing changes: a seat has left.
 abbrev pub publishes : Step Slot → At → ℕ → At → Type 0
-publishes st me stored me' =
-    me' ≡ (with_state me.0 (flipped (state_in me.0) (own_in me.1)), behind_replies me.1)
+publishes st me found me' =
+    (found ≡ (state_in me.0).head → me' ≡ after_flip me)
+    × (found ≢ (state_in me.0).head → me' ≡ me)
+
+-- A writer that has collected nothing always publishes its own Add.
+abbrev pub publishes_alone : Step Slot → At → ℕ → At → Type 0
+publishes_alone st me found me' = me' ≡ after_flip me
 
 -- a seat at a stage
 abbrev pub staged : SeatState → ℕ → SeatState

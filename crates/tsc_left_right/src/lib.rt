@@ -2,7 +2,7 @@
 //! the Adds of others. It is for `tsc_combining`, which keeps what these functions ask for.
 //!
 //! It is *left-right* (Ramalhete and Correia): readers read the active copy, a writer changes the
-//! standby copy, and one store of HEAD swaps the two.
+//! standby copy, and one step on HEAD swaps the two.
 //!
 //! ```text
 //!  seat 0: epoch, request word | two handles, request slot    writer lock    writer's state
@@ -12,17 +12,20 @@
 //!  reader: pin (epoch odd), read HEAD, read by the handle on side HEAD % 2, unpin (epoch even)
 //!  writer: lock, wait for readers of the other side, change that copy, install handles on it,
 //!          lay replies into request slots, HEAD with the other side and answer bits, unlock
-//!  others: request into the own slot, toggle the own word, wait until the bit of HEAD is equal
+//!  others: request into the own slot, toggle the own word, wait until the bit of HEAD is equal,
+//!          or set that bit oneself, which withdraws the request
 //! ```
 //!
-//! It departs from the paper in four ways:
+//! It departs from the paper in five ways:
 //!
 //! - Each seat has handles of its own, so a reader writes nothing that another one reads.
-//! - HEAD is both indexes of the paper at once. Its lowest bit is the active side, and the store
+//! - HEAD is both indexes of the paper at once. Its lowest bit is the active side, and the step
 //!   that turns it is the linearization point of all Adds of a batch.
 //! - The writer changes one copy a batch. The other one catches up before the next batch.
-//! - The writer makes what other seats ask for, as in *flat combining*, and the same store of HEAD
-//!   gives all of them their replies.
+//! - The writer makes what other seats ask for, as in *flat combining*, and the same step gives all
+//!   of them their replies.
+//! - A seat that asks can leave in a few steps of its own. The writer publishes only if HEAD is as
+//!   it knows it. Else it sends all requests back, and then publishes its own Add alone.
 //!
 //! What the functions are for:
 //!
@@ -32,12 +35,13 @@
 //! - [`acquire`] tries to acquire the writer lock. [`clear`] looks whether the next reader has left
 //!   the standby copy.
 //! - The writer then changes the standby copy. [`install_handles`] lays handles on it, and
-//!   [`publish`] swaps the copies. [`release`] releases the lock where nothing is published.
-//! - [`fetch`], [`post`], [`hear`] and [`rest`] ask for an Add, and [`withdraw`] takes a request
-//!   back.
-//! - [`collect`] takes a request, and [`send_back`] leaves it to its seat. [`tell`] says so where
-//!   nothing is published. By [`answer_bit`] a seat that acquires the lock sees whether its own
-//!   request was answered.
+//!   [`publish`] swaps the copies, unless a seat has left. [`publish_alone`] always does, where
+//!   nothing is collected. [`release`] releases the lock where nothing is published.
+//! - [`fetch`], [`post`], [`hear`] and [`rest`] ask for an Add, and [`leave`] withdraws it.
+//!   [`withdraw`] takes back a request of the writer's own.
+//! - [`collect`] takes a request, or lets a seat ask again that has left. [`send_back`] and
+//!   [`send_all_back`] return requests. By [`answer_bit`] a seat that acquires the lock
+//!   sees whether its own request was answered.
 //! - [`new_front`] says what a seat has seen. By [`catch_up`] and [`see_newest`] a seat sees more.
 //!
 //! What holds between any two steps of any threads is one rule (`specs/Rule.antt`), and each step
@@ -60,10 +64,10 @@ pub use fronts::{catch_up, new_front, see_newest};
 pub use opening::{new_replicas, split_off};
 pub use places::answer_bit;
 pub use reading::{read_figures, read_floor, read_max};
-pub use requesting::{Heard, fetch, hear, post, rest, withdraw};
-pub use serving::{collect, send_back, tell};
+pub use requesting::{Heard, fetch, hear, leave, post, rest, withdraw};
+pub use serving::{Found, collect, send_all_back, send_back};
 pub use table::{
     Collected, Knowledge, Lagging, LeftRight, MadeAdd, MarkList, Participant, ReadHandle, Replicas,
     Reply, SeatState, Setup, SharedReplicas, Slot, UnappliedAdd, WriterState,
 };
-pub use writing::{acquire, clear, install_handles, publish, release};
+pub use writing::{acquire, clear, install_handles, publish, publish_alone, release};

@@ -1,20 +1,41 @@
 //! Where the words and the slots are.
-ghost use Rattle.std.specs.Prelude.{◌≡◌, ℕ, ◌+◌, ◌/◌, ◌<◌, ◌≤◌};
+ghost use Rattle.std.specs.Prelude.{◌≡◌, ℕ, ◌+◌, ◌/◌, ◌<◌, ◌≤◌, ◌^◌};
 ghost use Rattle.tsc_left_right.specs.declared.places.TheConstants.{HEAD};
 ghost use Rattle.tsc_left_right.specs.Rule.{epoch_word, request_word, side_slot, request_slot};
 ghost use Rattle.tsc_left_right.specs.Rule.{word_count, slot_count, turned_answer, answer_bit};
+ghost use Rattle.tsc_left_right.specs.Rule.{with_answer};
 ghost use Rattle.tsc_left_right.specs.Steps.{has_left};
 
 /// The word with the side of the active copy, and a bit for each of the first 63 seats, which is
 /// its toggle once its request is answered.
 pub(crate) const HEAD: usize = 16;
 
+/// HEAD with the bit of a seat alone.
+pub(crate) fn seat_bit(seat: u32) -> u64
+    requires { seat < 63 }
+    ensures { result ≡ 2 ^ (seat + 1) }
+{
+    1 << (seat + 1)
+}
+
 /// HEAD with the bit of a seat turned.
 pub(crate) fn turned_answer(head: u64, seat: u32) -> u64
     requires { seat < 63 }
     ensures { result ≡ turned_answer head seat }
 {
-    head ^ 1 << (seat + 1)
+    head ^ seat_bit(seat)
+}
+
+/// HEAD with the bit of a seat as this toggle.
+pub(crate) fn with_answer(head: u64, seat: u32, toggle: u64) -> u64
+    requires { seat < 63 }
+    ensures { result ≡ with_answer head seat toggle }
+{
+    if answer_bit(head, seat) == toggle {
+        head
+    } else {
+        turned_answer(head, seat)
+    }
 }
 
 /// HEAD's bit of a seat.

@@ -30,13 +30,23 @@ impl Play<Slot, Knowledge> for Clear {
 }
 
 /// The writer makes its own Add and those that it has collected, the copies are swapped, and each
-/// seat whose Add was made has its reply.
+/// seat whose Add was made has its reply: unless some seat has left that the writer does not know
+/// of.
 pub(crate) struct Publish;
 
 impl Play<Slot, Knowledge> for Publish {
     ghost use Rattle.tsc_left_right.specs.Steps.{publishes};
 
     ghost then = { publishes };
+}
+
+/// The writer makes its own Add, and the copies are swapped.
+pub(crate) struct PublishAlone;
+
+impl Play<Slot, Knowledge> for PublishAlone {
+    ghost use Rattle.tsc_left_right.specs.Steps.{publishes_alone};
+
+    ghost then = { publishes_alone };
 }
 
 /// A seat is pinned.
@@ -75,7 +85,7 @@ impl Play<Slot, Knowledge> for CatchUp {
     ghost then = { catches_up };
 }
 
-/// A seat takes its request slot.
+/// A seat takes its request slot, unless it has left a request that is still to be cleared.
 pub(crate) struct Fetch;
 
 impl Play<Slot, Knowledge> for Fetch {
@@ -129,7 +139,16 @@ impl Play<Slot, Knowledge> for Collect {
     ghost then = { collects };
 }
 
-/// The writer lays back the slot of a request.
+/// The writer lets a seat ask again that had left.
+pub(crate) struct Readmit;
+
+impl Play<Slot, Knowledge> for Readmit {
+    ghost use Rattle.tsc_left_right.specs.RequestSteps.{readmits};
+
+    ghost then = { readmits };
+}
+
+/// The writer lays back the slot of a request, and its seat hears that.
 pub(crate) struct PutBack;
 
 impl Play<Slot, Knowledge> for PutBack {
@@ -138,13 +157,22 @@ impl Play<Slot, Knowledge> for PutBack {
     ghost then = { puts_back };
 }
 
-/// The writer tells all seats whose slots it has laid back.
-pub(crate) struct Tell;
+/// A seat withdraws its request, unless it was answered.
+pub(crate) struct Leave;
 
-impl Play<Slot, Knowledge> for Tell {
-    ghost use Rattle.tsc_left_right.specs.RequestSteps.{tells};
+impl Play<Slot, Knowledge> for Leave {
+    ghost use Rattle.tsc_left_right.specs.RequestSteps.{leaves};
 
-    ghost then = { tells };
+    ghost then = { leaves };
+}
+
+/// A seat that has left says that its request slot may be in a writer's hand.
+pub(crate) struct Flag;
+
+impl Play<Slot, Knowledge> for Flag {
+    ghost use Rattle.tsc_left_right.specs.RequestSteps.{flags};
+
+    ghost then = { flags };
 }
 
 /// The first state goes to a participant of its own.

@@ -58,7 +58,7 @@ pub struct WriterState {
     pub lagging: Lagging,
     /// How many Adds there were.
     pub length: u64,
-    /// What HEAD is, or is to be once seats are told that their requests came back.
+    /// What writers know of HEAD, which may lack the bits by which seats have left.
     pub head: u64,
 }
 
@@ -104,26 +104,27 @@ pub struct SeatState {
     pub holds: bool,
     /// 0 unpinned, 1 pinned, and 2 more than a side while it has its slot of that side in hand.
     pub stage: u64,
-    /// Its request word, what it asks for, and whether its request slot is in its hand.
+    /// Its toggle, what it asks for, whether its request slot is in its hand, and whether it has
+    /// withdrawn what it asked for and is to flag its request word.
     pub toggle: u64,
     pub request: Option<UnappliedAdd>,
     pub fetched: bool,
+    pub leaving: bool,
     /// Of the writer: how many seats it has cleared, and the epoch at which it watched the next
     /// one.
     pub cleared: u64,
     pub watched: Option<u64>,
-    /// Of the writer: the whole history, HEAD, what HEAD is to be once seats are told that their
-    /// requests came back, and which requests it has collected.
+    /// Of the writer: the whole history, what it knows of HEAD, and which requests it has
+    /// collected.
     pub history: LinkedList<Entry>,
     pub head: u64,
-    pub plan: u64,
     pub collected: LinkedList<Collected>,
 }
 
 /// What a participant knows: the states of the seats that it keeps, and the history that its front
 /// says. No value of it is made.
 pub struct Knowledge {
-    /// No longer once it was joined to another.
+    /// Whether it was joined to no other.
     pub live: bool,
     pub setup: Setup,
     pub states: LinkedList<SeatState>,
@@ -150,7 +151,9 @@ impl TableRule<Slot, Knowledge, Setup> for LeftRight {
 /// and so are fewer than eight slots (`places.rt`).
 ///
 /// The lowest bit of HEAD is the side of the active copy, and bit s + 1 is the toggle of seat s
-/// once its request is answered.
+/// once its request is answered. A seat withdraws its request by that bit. A request word is the
+/// toggle of its seat, and 2 more is the flag of a seat that has left: its request slot may be in a
+/// writer's hand.
 pub type Replicas = Table<Slot, Knowledge, Setup, LeftRight, Global>;
 
 /// The same as threads share them.

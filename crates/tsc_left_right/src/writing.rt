@@ -6,6 +6,8 @@ ghost use Rattle.std.specs.Prelude.{◌≡◌, [], ◌+◌, length, None, Some, 
 ghost use Rattle.std.specs.Prelude.{IfNone, true, List};
 ghost use Rattle.tsc_cache.specs.History.{History};
 ghost use Rattle.tsc_left_right.specs.declared.table.Setup.{Setup};
+ghost use Rattle.tsc_left_right.specs.declared.table.Knowledge.{Knowledge};
+ghost use Rattle.tsc_left_right.specs.declared.table.WriterState.{WriterState};
 ghost use Rattle.tsc_left_right.specs.declared.table.Collected.{Collected};
 ghost use Rattle.std.specs.Arc.{arc_value};
 ghost use Rattle.tsc_left_right.specs.Rule.{standby_side};
@@ -13,11 +15,13 @@ ghost use Rattle.tsc_left_right.specs.Steps.{state_in, own_of, number_of, grown,
 ghost use Rattle.tsc_left_right.specs.Writing.{LaidAs, rotated, Hand, HasUnanswered, HasAnswered};
 ghost use Rattle.tsc_left_right.specs.Participating.{IsOf, IsFree, IsNext, IsWriting};
 ghost use Rattle.tsc_left_right.specs.Participating.{HasAcquired, HasInstalled, IsReady};
-ghost use Rattle.tsc_left_right.specs.Participating.{MayRelease};
+ghost use Rattle.tsc_left_right.specs.Participating.{MayRelease, IsCalledOff};
+ghost use Rattle.tsc_left_right.specs.Writing.{MayCallOff};
 ghost use Rattle.tsc_left_right.specs.Participating.{published_in, released_in};
 
 use crate::places::{HEAD, epoch_word, has_left, request_slot, side_slot, turned_answer};
-use crate::steps::{Acquire, Clear, Publish, Release};
+use crate::serving::send_all_back;
+use crate::steps::{Acquire, Clear, Publish, PublishAlone, Release};
 use crate::table::{MadeAdd, Participant, ReadHandle, Reply, SharedReplicas, Slot, WriterState};
 use std::sync::Arc;
 use tsc_cache::Cache;
@@ -125,13 +129,13 @@ pub fn install_handles(
 }
 
 /// Lays a reply into the slot of each request whose Add was made, the last first. `adds` counts all
-/// Adds then. The result is `plan` with the bit of each of these seats turned.
+/// Adds then. The result is `known` with the bit of each of these seats turned.
 fn lay_replies(
     shared: &SharedReplicas,
     who: &mut Participant,
     others: &[MadeAdd],
     adds: u64,
-    plan: u64,
+    known: u64,
 ) -> u64
     requires of { IsOf who.old shared.now.table_id }
     requires made { (t : Setup) × (h : History) × (xs : List Collected) × (others' : Hand)
@@ -140,9 +144,9 @@ fn lay_replies(
     ensures answered { (t : Setup) (h : History) (xs : List Collected) (others' : Hand)
         → HasUnanswered t h xs others' who.old.me others.now → adds ≡ length (grown h xs)
         → HasAnswered t h xs others' who.old.me.0 who.new.me
-        × (result ≡ answered_head plan xs) }
+        × (result ≡ answered_head known xs) }
 {
-    let mut head = plan;
+    let mut head = known;
     for done in 0..others.len() {
         let made = &others[others.len() - 1 - done];
         let place = adds - 1 - done as u64;
@@ -157,25 +161,89 @@ fn lay_replies(
     head
 }
 
-/// Makes the writer's own Add, if there is one, and then all that it has collected, in that order.
-/// It then releases the writer lock. Lookups read the copy on which the handles are, and each seat
-/// whose Add was made has its reply.
-pub fn publish(shared: &SharedReplicas, who: &mut Participant, state: Box<WriterState>)
+/// Publishes the writer's own Add, if there is one, and then all that it has collected, and
+/// releases the writer lock. Lookups read the copy on which the handles are, and each seat whose
+/// Add was made has its reply. `seats` counts the seats of the table.
+///
+/// If HEAD is not what the writer knows, a seat has left, and nothing is published. All that was
+/// collected is sent back, and the writer keeps the lock. The result is what it works with. Lookups
+/// still read its standby copy, and its active copy has the Adds that were not published.
+pub fn publish(
+    shared: &SharedReplicas,
+    who: &mut Participant,
+    state: Box<WriterState>,
+    seats: u32,
+) -> Option<Box<WriterState>>
+    requires of { IsOf who.old shared.now.table_id }
+    requires installed { HasInstalled who.old.me.0 who.old.me (arc_value state.value.active)
+        state.value.length seats }
+    requires ready { IsReady who.old.me.0 state.value × (seats ≡ who.old.me.0.setup.seats) }
+    ensures table { who.new.table_id ≡ who.old.table_id }
+    ensures published { IfNone result (who.new.me
+        ≡ (released_in (published_in who.old.me.0 (own_of state.value)), [])) }
+    ensures called_off { IfSome result (λ new.
+        IsCalledOff who.old.me.0 state.value who.new.me new.value) }
+{
+    let mut state = state;
+    let known = state.head;
+    let others = state.lagging.others.as_slice();
+    let head = lay_replies(shared, who, others, state.length, known) ^ 1;
+    let count = others.len();
+    state.head = head;
+    shared.exchange(who, 0, Slot::Writer(state));
+    who.turn();
+    if shared.compare_exchange::<Publish>(who, HEAD, known, head) == known {
+        shared.store::<Release>(who, 0, 0);
+        return None;
+    }
+    Some(call_off(shared, who, seats as usize, count, known))
+}
+
+/// Takes what the writer works with out of its slot, behind so many handles and so many replies,
+/// and sends back all that was collected.
+fn call_off(
+    shared: &SharedReplicas,
+    who: &mut Participant,
+    seats: usize,
+    count: usize,
+    head: u64,
+) -> Box<WriterState>
+    requires of { IsOf who.old shared.now.table_id }
+    requires may { (v : Knowledge) × (old : WriterState)
+        × MayCallOff v old seats count head who.old.me }
+    ensures table { who.new.table_id ≡ who.old.table_id }
+    ensures called_off { (v : Knowledge) (old : WriterState)
+        → MayCallOff v old seats count head who.old.me
+        → IsCalledOff v old who.new.me result.value }
+{
+    turn_past(who, seats);
+    turn_past(who, count);
+    let Slot::Writer(mut state) = shared.exchange(who, 0, Slot::Empty) else {
+        unreachable!()
+    };
+    who.turn();
+    turn_past(who, seats);
+    state.head = send_all_back(shared, who, &mut state.lagging.others, head);
+    state
+}
+
+/// Makes the writer's own Add, if there is one, where it has collected nothing. It then releases
+/// the writer lock. Lookups read the copy on which the handles are.
+pub fn publish_alone(shared: &SharedReplicas, who: &mut Participant, state: Box<WriterState>)
     requires of { IsOf who.old shared.now.table_id }
     requires installed { HasInstalled who.old.me.0 who.old.me (arc_value state.value.active)
         state.value.length who.old.me.0.setup.seats }
     requires ready { IsReady who.old.me.0 state.value }
+    requires none { (state_in who.old.me.0).collected ≡ [] }
     ensures table { who.new.table_id ≡ who.old.table_id }
     ensures published { who.new.me
         ≡ (released_in (published_in who.old.me.0 (own_of state.value)), []) }
 {
     let mut state = state;
-    let others = state.lagging.others.as_slice();
-    let head = lay_replies(shared, who, others, state.length, state.head) ^ 1;
-    state.head = head;
+    state.head ^= 1;
     shared.exchange(who, 0, Slot::Writer(state));
     who.turn();
-    shared.store::<Publish>(who, HEAD, head);
+    shared.fetch_xor::<PublishAlone>(who, HEAD, 1);
     shared.store::<Release>(who, 0, 0);
 }
 

@@ -20,18 +20,18 @@ returns-clause-serving c = λ v h s.
       | else-len-round w ↦ below c.len.result c.args.round.room
           (sym w.has_room-is ∙ c.if-has_room.true) long
     ] in
-    serves_made v h c.args.round.room c.args.seat c.args.round.plan c.args.who.now.me
+    serves_made v h c.args.round.room c.args.seat c.args.round.head c.args.who.now.me
     c.collect.new.who.me c.args.others.now.items c.push_reserved.new.self.items
     c.args.cache.now c.make.new.cache
-    (record { seat = c.args.seat; kept = c.in-Some-make.kept; add = c.in-Some.add })
-    c.in-Some-make.kept s c.in-Some.ensures.collected
+    (record { seat = c.args.seat; kept = c.in-Some.kept; add = c.in-Asked.add })
+    c.in-Some.kept s c.in-Asked.ensures.found
     (subst (λ (p : UnappliedAdd). IsMadeIn c.args.cache.now c.make.new.cache p
-    c.in-Some-make.kept) c.deref.ensures c.in-Some-make.ensures.made) refl refl c.requires.seat.1
+    c.in-Some.kept) c.deref.ensures c.in-Some.ensures.made) refl refl c.requires.seat.1
     few c.push_reserved.ensures.items
 
 pub send_back-requires-clause-may : goal.send_back-requires-clause-may
 send_back-requires-clause-may c =
     let r = c.requires.serving in
-    may_send_taken r.0 r.1 c.args.round.room c.args.seat c.args.round.plan c.args.who.now.me
-    c.collect.new.who.me c.args.others.now.items c.args.cache.now (Request c.in-Some.add)
-    c.in-Some.add.value r.2 c.in-Some.ensures.collected refl
+    may_send_taken r.0 r.1 c.args.round.room c.args.seat c.args.round.head c.args.who.now.me
+    c.collect.new.who.me c.args.others.now.items c.args.cache.now (Request c.in-Asked.add)
+    c.in-Asked.add.value r.2 c.in-Asked.ensures.found refl

@@ -1,35 +1,37 @@
 -- Proves the contract of `prepare`. Prepares an Add that is to be published, and those that others
 -- ask for beside it.
-use Rattle.std.proofs.Common.{◌∙◌, refl, sym, ap, ◌+◌, ◌-◌, arith}
+use Rattle.std.proofs.Common.{◌∙◌, refl, sym, ap, ◌+◌, ◌-◌, ◌∷◌, arith}
 use Rattle.tsc_left_right.specs.declared.table.WriterState.{WriterState}
+use Rattle.tsc_left_right.specs.declared.table.Slot.TheVariants.{Empty}
 use Rattle.tsc_left_right.specs.Rule.{standby_side}
 use Rattle.tsc_left_right.proofs.Calls.{still_of}
-use Rattle.tsc_combining.proofs.Outcomes.{held_leaves, own_added, can_serve, served, served_head}
+use Rattle.tsc_combining.proofs.Outcomes.{held_leaves, own_added, can_serve, served, served_side}
 use Rattle.tsc_combining.proofs.Outcomes.{served_requests, served_writes, back_batch, back_leaves}
-use Rattle.tsc_combining.proofs.Outcomes.{prepared}
+use Rattle.tsc_combining.proofs.Outcomes.{prepared, served_alone}
+use Rattle.tsc_combining.proofs.Making.{may_send_all, sent_all, batch_head}
 use Rattle.tsc_combining.proofs.writing.prepare.Goals as goal
 
 pub returns-in-Err-clause-left : goal.returns-in-Err-clause-left
 returns-in-Err-clause-left c =
     held_leaves c.args.who.now.me c.args.context.now.setup.now.seats c.args.state.now
-    c.take_next.new.state c.requires.state c.in-Err.ensures.same.1
+    c.take_next.new.state c.requires.may.holds c.in-Err.ensures.same.1
 
-pub serve_all-plan-requires-clause-serving : goal.serve_all-plan-requires-clause-serving
-serve_all-plan-requires-clause-serving c =
+pub serve_all-head-requires-clause-serving : goal.serve_all-head-requires-clause-serving
+serve_all-head-requires-clause-serving c =
     let me = c.args.who.now.me in
     let add = c.args.add in (
       me.0,
       own_added me.0 add,
       can_serve me c.args.context.now.setup.now c.args.state.now c.take_next.new.state add
-          c.in-Ok.next.added c.in-Ok.next.cache c.requires.seat.setup c.requires.state
-          c.requires.make c.in-Ok.ensures.taken c.in-Ok.ensures.made,
+          c.in-Ok.next.added c.in-Ok.next.cache c.requires.may.seat.setup c.requires.may.holds
+          c.requires.may.make c.in-Ok.ensures.taken c.in-Ok.ensures.made,
     )
 
 pub overflow_add-adds : goal.overflow_add-adds
 overflow_add-adds c =
     let t = c.in-Ok.ensures.taken in
-    let limit = ap (λ t. t.limit) c.requires.seat.setup in
-    omega (arith, t.0.length, c.requires.make.room, limit)
+    let limit = ap (λ t. t.limit) c.requires.may.seat.setup in
+    omega (arith, t.0.length, c.requires.may.make.room, limit)
 
 pub overflow_add-adds-2 : goal.overflow_add-adds-2
 overflow_add-adds-2 c =
@@ -38,17 +40,18 @@ overflow_add-adds-2 c =
     let setup = c.args.context.now.setup.now in
     let first = c.take_next.new.state in
     let room = setup.limit - first.length - 1 in
-    let me1 = c.serve_all-plan.new.who.me in
-    let items = c.serve_all-plan.new.others.items in
-    let plan = c.serve_all-plan.result in
-    let next = c.serve_all-plan.new.next in
-    let s = served me me1 setup c.args.state.now first add c.in-Ok.next.added plan items
-    c.in-Ok.next.cache next c.requires.seat.setup c.requires.state c.requires.make
-    c.in-Ok.ensures.taken c.in-Ok.ensures.made c.serve_all-plan.ensures.serving in
+    let seats = c.served-seats.result in
+    let me1 = c.serve_all-head.new.who.me in
+    let items = c.serve_all-head.new.others.items in
+    let head = c.serve_all-head.result in
+    let next = c.serve_all-head.new.next in
+    let s = served me me1 setup c.args.state.now first add c.in-Ok.next.added seats head items
+    c.in-Ok.next.cache next c.requires.may.seat.setup c.requires.may.holds c.requires.may.make
+    c.in-Ok.ensures.taken c.in-Ok.ensures.made c.serve_all-head.ensures.serving in
     let t = c.in-Ok.ensures.taken in
-    let limit = ap (λ t. t.limit) c.requires.seat.setup in
-    let made = c.len-made.ensures ∙ c.serve_all-plan.new.others.ok.0 in
-    omega (arith, s.1.few, made, t.0.length, c.requires.make.room, limit)
+    let limit = ap (λ t. t.limit) c.requires.may.seat.setup in
+    let made = c.len-made.ensures ∙ c.serve_all-head.new.others.ok.0 in
+    omega (arith, s.2.few, made, t.0.length, c.requires.may.make.room, limit)
 
 pub install_handles-requires-clause-of : goal.install_handles-requires-clause-of
 install_handles-requires-clause-of c =
@@ -57,15 +60,16 @@ install_handles-requires-clause-of c =
     let setup = c.args.context.now.setup.now in
     let first = c.take_next.new.state in
     let room = setup.limit - first.length - 1 in
-    let me1 = c.serve_all-plan.new.who.me in
-    let items = c.serve_all-plan.new.others.items in
-    let plan = c.serve_all-plan.result in
-    let next = c.serve_all-plan.new.next in
-    let s = served me me1 setup c.args.state.now first add c.in-Ok.next.added plan items
-    c.in-Ok.next.cache next c.requires.seat.setup c.requires.state c.requires.make
-    c.in-Ok.ensures.taken c.in-Ok.ensures.made c.serve_all-plan.ensures.serving in
-    still_of c.args.who.now c.serve_all-plan.new.who c.args.context.now.shared.now.table_id
-    c.requires.seat.of c.serve_all-plan.ensures.table (ap (λ v. v.setup) s.1.batch.is)
+    let seats = c.served-seats.result in
+    let me1 = c.serve_all-head.new.who.me in
+    let items = c.serve_all-head.new.others.items in
+    let head = c.serve_all-head.result in
+    let next = c.serve_all-head.new.next in
+    let s = served me me1 setup c.args.state.now first add c.in-Ok.next.added seats head items
+    c.in-Ok.next.cache next c.requires.may.seat.setup c.requires.may.holds c.requires.may.make
+    c.in-Ok.ensures.taken c.in-Ok.ensures.made c.serve_all-head.ensures.serving in
+    still_of c.args.who.now c.serve_all-head.new.who c.args.context.now.shared.now.table_id
+    c.requires.may.seat.of c.serve_all-head.ensures.table (ap (λ v. v.setup) s.2.batch.is)
 
 pub install_handles-requires-clause-cleared : goal.install_handles-requires-clause-cleared
 install_handles-requires-clause-cleared c =
@@ -74,15 +78,16 @@ install_handles-requires-clause-cleared c =
     let setup = c.args.context.now.setup.now in
     let first = c.take_next.new.state in
     let room = setup.limit - first.length - 1 in
-    let me1 = c.serve_all-plan.new.who.me in
-    let items = c.serve_all-plan.new.others.items in
-    let plan = c.serve_all-plan.result in
-    let next = c.serve_all-plan.new.next in
-    let s = served me me1 setup c.args.state.now first add c.in-Ok.next.added plan items
-    c.in-Ok.next.cache next c.requires.seat.setup c.requires.state c.requires.make
-    c.in-Ok.ensures.taken c.in-Ok.ensures.made c.serve_all-plan.ensures.serving in
-    let all = ap (λ t. t.seats) c.requires.seat.setup in
-    served_writes me me1 setup.seats add room plan items next all s
+    let seats = c.served-seats.result in
+    let me1 = c.serve_all-head.new.who.me in
+    let items = c.serve_all-head.new.others.items in
+    let head = c.serve_all-head.result in
+    let next = c.serve_all-head.new.next in
+    let s = served me me1 setup c.args.state.now first add c.in-Ok.next.added seats head items
+    c.in-Ok.next.cache next c.requires.may.seat.setup c.requires.may.holds c.requires.may.make
+    c.in-Ok.ensures.taken c.in-Ok.ensures.made c.serve_all-head.ensures.serving in
+    let all = ap (λ t. t.seats) c.requires.may.seat.setup in
+    served_writes me me1 setup.seats add seats room head items next all s
 
 pub install_handles-requires-clause-counts : goal.install_handles-requires-clause-counts
 install_handles-requires-clause-counts c =
@@ -91,18 +96,19 @@ install_handles-requires-clause-counts c =
     let setup = c.args.context.now.setup.now in
     let first = c.take_next.new.state in
     let room = setup.limit - first.length - 1 in
-    let me1 = c.serve_all-plan.new.who.me in
-    let items = c.serve_all-plan.new.others.items in
-    let plan = c.serve_all-plan.result in
-    let next = c.serve_all-plan.new.next in
-    let s = served me me1 setup c.args.state.now first add c.in-Ok.next.added plan items
-    c.in-Ok.next.cache next c.requires.seat.setup c.requires.state c.requires.make
-    c.in-Ok.ensures.taken c.in-Ok.ensures.made c.serve_all-plan.ensures.serving in
-    let made = c.len-made.ensures ∙ c.serve_all-plan.new.others.ok.0 in (
-      c.standby_side-standby.ensures ∙ ap standby_side (c.in-Ok.ensures.taken.0.head
-          ∙ sym (served_head me me1 setup.seats c.args.state.now add room plan items next
-          c.requires.state s)),
-      made ∙ served_requests me me1 add room plan items next s,
+    let seats = c.served-seats.result in
+    let me1 = c.serve_all-head.new.who.me in
+    let items = c.serve_all-head.new.others.items in
+    let head = c.serve_all-head.result in
+    let next = c.serve_all-head.new.next in
+    let s = served me me1 setup c.args.state.now first add c.in-Ok.next.added seats head items
+    c.in-Ok.next.cache next c.requires.may.seat.setup c.requires.may.holds c.requires.may.make
+    c.in-Ok.ensures.taken c.in-Ok.ensures.made c.serve_all-head.ensures.serving in
+    let made = c.len-made.ensures ∙ c.serve_all-head.new.others.ok.0 in (
+      c.standby_side-standby.ensures ∙ ap standby_side c.in-Ok.ensures.taken.0.head
+          ∙ sym (served_side me me1 setup.seats c.args.state.now add seats room head items next
+          c.requires.may.holds s),
+      made ∙ served_requests me me1 add seats room head items next s,
     )
 
 pub send_all_back-state-requires-clause-of : goal.send_all_back-state-requires-clause-of
@@ -112,17 +118,18 @@ send_all_back-state-requires-clause-of c =
     let setup = c.args.context.now.setup.now in
     let first = c.take_next.new.state in
     let room = setup.limit - first.length - 1 in
-    let me1 = c.serve_all-plan.new.who.me in
-    let items = c.serve_all-plan.new.others.items in
-    let plan = c.serve_all-plan.result in
-    let next = c.serve_all-plan.new.next in
-    let s = served me me1 setup c.args.state.now first add c.in-Ok.next.added plan items
-    c.in-Ok.next.cache next c.requires.seat.setup c.requires.state c.requires.make
-    c.in-Ok.ensures.taken c.in-Ok.ensures.made c.serve_all-plan.ensures.serving in
-    still_of c.serve_all-plan.new.who c.install_handles.new.who
+    let seats = c.served-seats.result in
+    let me1 = c.serve_all-head.new.who.me in
+    let items = c.serve_all-head.new.others.items in
+    let head = c.serve_all-head.result in
+    let next = c.serve_all-head.new.next in
+    let s = served me me1 setup c.args.state.now first add c.in-Ok.next.added seats head items
+    c.in-Ok.next.cache next c.requires.may.seat.setup c.requires.may.holds c.requires.may.make
+    c.in-Ok.ensures.taken c.in-Ok.ensures.made c.serve_all-head.ensures.serving in
+    still_of c.serve_all-head.new.who c.install_handles.new.who
     c.args.context.now.shared.now.table_id
-    (still_of c.args.who.now c.serve_all-plan.new.who c.args.context.now.shared.now.table_id
-    c.requires.seat.of c.serve_all-plan.ensures.table (ap (λ v. v.setup) s.1.batch.is))
+    (still_of c.args.who.now c.serve_all-head.new.who c.args.context.now.shared.now.table_id
+    c.requires.may.seat.of c.serve_all-head.ensures.table (ap (λ v. v.setup) s.2.batch.is))
     c.install_handles.ensures.table (ap (λ m. m.0.setup) c.install_handles.ensures.cleared.is)
 
 pub send_all_back-state-requires-clause-made : goal.send_all_back-state-requires-clause-made
@@ -132,17 +139,23 @@ send_all_back-state-requires-clause-made c =
     let setup = c.args.context.now.setup.now in
     let first = c.take_next.new.state in
     let room = setup.limit - first.length - 1 in
-    let me1 = c.serve_all-plan.new.who.me in
-    let items = c.serve_all-plan.new.others.items in
-    let plan = c.serve_all-plan.result in
-    let next = c.serve_all-plan.new.next in
-    let s = served me me1 setup c.args.state.now first add c.in-Ok.next.added plan items
-    c.in-Ok.next.cache next c.requires.seat.setup c.requires.state c.requires.make
-    c.in-Ok.ensures.taken c.in-Ok.ensures.made c.serve_all-plan.ensures.serving in
-    let all = ap (λ t. t.seats) c.requires.seat.setup in
-    let b = back_batch me me1 c.install_handles.new.who.me setup.seats add room plan items next
-    all s c.install_handles.ensures.cleared in
-    (me.0, own_added me.0 add, s.1.collected, setup.seats, b)
+    let seats = c.served-seats.result in
+    let me1 = c.serve_all-head.new.who.me in
+    let items = c.serve_all-head.new.others.items in
+    let head = c.serve_all-head.result in
+    let next = c.serve_all-head.new.next in
+    let s = served me me1 setup c.args.state.now first add c.in-Ok.next.added seats head items
+    c.in-Ok.next.cache next c.requires.may.seat.setup c.requires.may.holds c.requires.may.make
+    c.in-Ok.ensures.taken c.in-Ok.ensures.made c.serve_all-head.ensures.serving in
+    let all = ap (λ t. t.seats) c.requires.may.seat.setup in
+    let b = back_batch me me1 c.install_handles.new.who.me setup.seats add seats room head items
+    next all s c.install_handles.ensures.cleared in (
+      me.0.setup,
+      own_added me.0 add,
+      (0, Empty) ∷ b.writing.slots,
+      may_send_all me.0 (own_added me.0 add) s.2.collected setup.seats head
+          c.install_handles.new.who.me items b,
+    )
 
 pub returns-then-not-install_handles-clause-left : goal.returns-then-not-install_handles-clause-left
 returns-then-not-install_handles-clause-left c =
@@ -151,21 +164,25 @@ returns-then-not-install_handles-clause-left c =
     let setup = c.args.context.now.setup.now in
     let first = c.take_next.new.state in
     let room = setup.limit - first.length - 1 in
-    let me1 = c.serve_all-plan.new.who.me in
-    let items = c.serve_all-plan.new.others.items in
-    let plan = c.serve_all-plan.result in
-    let next = c.serve_all-plan.new.next in
-    let s = served me me1 setup c.args.state.now first add c.in-Ok.next.added plan items
-    c.in-Ok.next.cache next c.requires.seat.setup c.requires.state c.requires.make
-    c.in-Ok.ensures.taken c.in-Ok.ensures.made c.serve_all-plan.ensures.serving in
-    let all = ap (λ t. t.seats) c.requires.seat.setup in
+    let seats = c.served-seats.result in
+    let me1 = c.serve_all-head.new.who.me in
+    let items = c.serve_all-head.new.others.items in
+    let head = c.serve_all-head.result in
+    let next = c.serve_all-head.new.next in
+    let s = served me me1 setup c.args.state.now first add c.in-Ok.next.added seats head items
+    c.in-Ok.next.cache next c.requires.may.seat.setup c.requires.may.holds c.requires.may.make
+    c.in-Ok.ensures.taken c.in-Ok.ensures.made c.serve_all-head.ensures.serving in
+    let all = ap (λ t. t.seats) c.requires.may.seat.setup in
     let t = c.in-Ok.ensures.taken in
-    let b = back_batch me me1 c.install_handles.new.who.me setup.seats add room plan items next
-    all s c.install_handles.ensures.cleared in
-    back_leaves me c.send_all_back-state.new.who.me setup.seats c.args.state.now _ setup.seats
-    c.send_all_back-state.result c.requires.state
-    (c.send_all_back-state.ensures.back me.0 (own_added me.0 add) s.1.collected setup.seats b)
-    t.0.active t.2 t.0.length refl
+    let b = back_batch me me1 c.install_handles.new.who.me setup.seats add seats room head items
+    next all s c.install_handles.ensures.cleared in
+    let h = own_added me.0 add in
+    let sent = sent_all me.0 h s.2.collected setup.seats head c.send_all_back-state.result
+    c.install_handles.new.who.me c.send_all_back-state.new.who.me items b
+    (c.send_all_back-state.ensures.back me.0.setup h ((0, Empty) ∷ b.writing.slots)
+    (may_send_all me.0 h s.2.collected setup.seats head c.install_handles.new.who.me items b)) in
+    back_leaves me c.send_all_back-state.new.who.me h setup.seats c.args.state.now _ setup.seats
+    c.send_all_back-state.result c.requires.may.holds sent t.0.active t.2 t.0.length refl
 
 pub swap-requires : goal.swap-requires
 swap-requires c =
@@ -174,17 +191,18 @@ swap-requires c =
     let setup = c.args.context.now.setup.now in
     let first = c.take_next.new.state in
     let room = setup.limit - first.length - 1 in
-    let me1 = c.serve_all-plan.new.who.me in
-    let items = c.serve_all-plan.new.others.items in
-    let plan = c.serve_all-plan.result in
-    let next = c.serve_all-plan.new.next in
-    let s = served me me1 setup c.args.state.now first add c.in-Ok.next.added plan items
-    c.in-Ok.next.cache next c.requires.seat.setup c.requires.state c.requires.make
-    c.in-Ok.ensures.taken c.in-Ok.ensures.made c.serve_all-plan.ensures.serving in
+    let seats = c.served-seats.result in
+    let me1 = c.serve_all-head.new.who.me in
+    let items = c.serve_all-head.new.others.items in
+    let head = c.serve_all-head.result in
+    let next = c.serve_all-head.new.next in
+    let s = served me me1 setup c.args.state.now first add c.in-Ok.next.added seats head items
+    c.in-Ok.next.cache next c.requires.may.seat.setup c.requires.may.holds c.requires.may.make
+    c.in-Ok.ensures.taken c.in-Ok.ensures.made c.serve_all-head.ensures.serving in
     let t = c.in-Ok.ensures.taken in
-    let limit = ap (λ t. t.limit) c.requires.seat.setup in
-    let made = c.len-made.ensures ∙ c.serve_all-plan.new.others.ok.0 in
-    omega (arith, s.1.few, made, t.0.length, c.requires.make.room, limit)
+    let limit = ap (λ t. t.limit) c.requires.may.seat.setup in
+    let made = c.len-made.ensures ∙ c.serve_all-head.new.others.ok.0 in
+    omega (arith, s.2.few, made, t.0.length, c.requires.may.make.room, limit)
 
 pub returns-clause-made : goal.returns-clause-made
 returns-clause-made c =
@@ -193,26 +211,67 @@ returns-clause-made c =
     let setup = c.args.context.now.setup.now in
     let first = c.take_next.new.state in
     let room = setup.limit - first.length - 1 in
-    let me1 = c.serve_all-plan.new.who.me in
-    let items = c.serve_all-plan.new.others.items in
-    let plan = c.serve_all-plan.result in
-    let next = c.serve_all-plan.new.next in
-    let s = served me me1 setup c.args.state.now first add c.in-Ok.next.added plan items
-    c.in-Ok.next.cache next c.requires.seat.setup c.requires.state c.requires.make
-    c.in-Ok.ensures.taken c.in-Ok.ensures.made c.serve_all-plan.ensures.serving in
-    let all = ap (λ t. t.seats) c.requires.seat.setup in
+    let seats = c.served-seats.result in
+    let me1 = c.serve_all-head.new.who.me in
+    let items = c.serve_all-head.new.others.items in
+    let head = c.serve_all-head.result in
+    let next = c.serve_all-head.new.next in
+    let s = served me me1 setup c.args.state.now first add c.in-Ok.next.added seats head items
+    c.in-Ok.next.cache next c.requires.may.seat.setup c.requires.may.holds c.requires.may.make
+    c.in-Ok.ensures.taken c.in-Ok.ensures.made c.serve_all-head.ensures.serving in
+    let all = ap (λ t. t.seats) c.requires.may.seat.setup in
     let t = c.in-Ok.ensures.taken in
-    let made = c.len-made.ensures ∙ c.serve_all-plan.new.others.ok.0 in
+    let made = c.len-made.ensures ∙ c.serve_all-head.new.others.ok.0 in
     let between : WriterState = record {
       active = first.active;
       standby = first.standby;
-      lagging = record { own = first.lagging.own; others = c.serve_all-plan.new.others };
+      lagging = record { own = first.lagging.own; others = c.serve_all-head.new.others };
       length = first.length;
-      head = plan;
+      head = head;
     } in
     prepared me me1 c.install_handles.new.who.me setup.seats c.args.state.now between
-    c.swap.new.state add c.in-Ok.next.added room plan (first.length + 1 + c.len-made.result)
-    c.len-made.result items next all c.requires.state c.requires.make s made
+    c.swap.new.state add c.in-Ok.next.added seats room head (first.length + 1 + c.len-made.result)
+    c.len-made.result items next all c.requires.may.holds c.requires.may.make s made
     (c.install_handles.ensures.installed c.if-not-install_handles.false)
     (ap (λ n. n + 1 + c.len-made.result) t.0.length) t.0.active t.0.length refl refl
     c.swap.ensures c.in-Ok.ensures.made.tells
+
+pub returns-clause-alone : goal.returns-clause-alone
+returns-clause-alone c = λ no.
+    let me = c.args.who.now.me in
+    let add = c.args.add in
+    let setup = c.args.context.now.setup.now in
+    let first = c.take_next.new.state in
+    let room = setup.limit - first.length - 1 in
+    let seats = c.served-seats.result in
+    let me1 = c.serve_all-head.new.who.me in
+    let items = c.serve_all-head.new.others.items in
+    let head = c.serve_all-head.result in
+    let next = c.serve_all-head.new.next in
+    let s = served me me1 setup c.args.state.now first add c.in-Ok.next.added seats head items
+    c.in-Ok.next.cache next c.requires.may.seat.setup c.requires.may.holds c.requires.may.make
+    c.in-Ok.ensures.taken c.in-Ok.ensures.made c.serve_all-head.ensures.serving in
+    let all = ap (λ t. t.seats) c.requires.may.seat.setup in
+    served_alone me me1 c.install_handles.new.who.me setup.seats add seats room head items next all
+    s (ap (λ m. m.0) c.install_handles.ensures.cleared.is) (c.served-seats.ensures.none no)
+
+pub send_all_back-state-requires-clause-head : goal.send_all_back-state-requires-clause-head
+send_all_back-state-requires-clause-head c =
+    let me = c.args.who.now.me in
+    let add = c.args.add in
+    let setup = c.args.context.now.setup.now in
+    let first = c.take_next.new.state in
+    let room = setup.limit - first.length - 1 in
+    let seats = c.served-seats.result in
+    let me1 = c.serve_all-head.new.who.me in
+    let items = c.serve_all-head.new.others.items in
+    let head = c.serve_all-head.result in
+    let next = c.serve_all-head.new.next in
+    let s = served me me1 setup c.args.state.now first add c.in-Ok.next.added seats head items
+    c.in-Ok.next.cache next c.requires.may.seat.setup c.requires.may.holds c.requires.may.make
+    c.in-Ok.ensures.taken c.in-Ok.ensures.made c.serve_all-head.ensures.serving in
+    let all = ap (λ t. t.seats) c.requires.may.seat.setup in
+    let b = back_batch me me1 c.install_handles.new.who.me setup.seats add seats room head items
+    next all s c.install_handles.ensures.cleared in
+    batch_head me.0 (own_added me.0 add) s.2.collected setup.seats head
+    c.install_handles.new.who.me items b

@@ -1,10 +1,10 @@
 -- Proves the contract of `prepare_copy`. Prepares an Add by a copy of it, which may have been
 -- refused.
-use Rattle.std.proofs.Common.{sym, ap, subst, arith, IfOk, None}
+use Rattle.std.proofs.Common.{ap, subst, arith, IfOk, None}
 use Rattle.tsc_left_right.specs.Rule.{CanBe}
-use Rattle.tsc_combining.specs.Writing.{HoldsState, MayMake}
+use Rattle.tsc_left_right.specs.Participating.{released_in}
 use Rattle.tsc_combining.proofs.Seating.{seat_cleared}
-use Rattle.tsc_combining.proofs.Outcomes.{leaves_at, new_writes, holds_state, may_make}
+use Rattle.tsc_combining.proofs.Outcomes.{leaves_at, new_writes, holds_state, may_make, left_for}
 use Rattle.tsc_combining.proofs.writing.prepare_copy.Goals as goal
 
 pub returns-then-deref-setup-clause-left : goal.returns-then-deref-setup-clause-left
@@ -57,29 +57,27 @@ returns-then-not-wait_for_readers-clause-left g c =
       );
     }
 
-pub prepare-requires-clause-seat : goal.prepare-requires-clause-seat
-prepare-requires-clause-seat g c =
-    seat_cleared c.args.context.now c.args.who.now c.wait_for_readers.new.who
-    c.args.context.now.setup.now.seats c.requires.writer.0 c.wait_for_readers.ensures.table
-    (c.wait_for_readers.ensures.cleared c.if-not-wait_for_readers.false)
-
-pub prepare-requires-clause-state : goal.prepare-requires-clause-state
-prepare-requires-clause-state g c =
-    let me = c.args.who.now.me in
-    subst (HoldsState c.wait_for_readers.new.who.me c.args.context.now.setup.now.seats)
-    (sym c.deref_mut.ensures.value)
-    (holds_state me c.wait_for_readers.new.who.me c.args.context.now.setup.now.seats
-    c.args.state.value c.requires.writer.1
-    (c.wait_for_readers.ensures.cleared c.if-not-wait_for_readers.false))
-
-pub prepare-requires-clause-make : goal.prepare-requires-clause-make
-prepare-requires-clause-make g c =
+pub prepare_boxed-requires : goal.prepare_boxed-requires
+prepare_boxed-requires g c =
     let me = c.args.who.now.me in
     let state = c.args.state.value in
     let setup = c.args.context.now.setup.now in
-    subst (λ s. MayMake c.wait_for_readers.new.who.me s c.in-Ok.add)
-    (sym c.deref_mut.ensures.value)
-    (may_make me c.wait_for_readers.new.who.me setup state c.in-Ok.add setup.seats
-    c.requires.writer.1 (c.wait_for_readers.ensures.cleared c.if-not-wait_for_readers.false)
-    c.requires.writer.0.setup (subst (λ r. IfOk r (CanBe setup)) c.in-Ok.is c.requires.make)
-    (omega (arith, c.if-deref-setup.false, ap (λ s. s.length) c.deref.ensures)))
+    let cleared = c.wait_for_readers.ensures.cleared c.if-not-wait_for_readers.false in record {
+      may = record {
+        seat = seat_cleared c.args.context.now c.args.who.now c.wait_for_readers.new.who
+            setup.seats c.requires.writer.0 c.wait_for_readers.ensures.table cleared;
+        holds = holds_state me c.wait_for_readers.new.who.me setup.seats state c.requires.writer.1
+            cleared;
+        make = may_make me c.wait_for_readers.new.who.me setup state c.in-Ok.add setup.seats
+            c.requires.writer.1 cleared c.requires.writer.0.setup
+            (subst (λ r. IfOk r (CanBe setup)) c.in-Ok.is c.requires.make)
+            (omega (arith, c.if-deref-setup.false, ap (λ s. s.length) c.deref.ensures));
+      };
+    }
+
+pub returns-clause-left : goal.returns-clause-left
+returns-clause-left g c =
+    let w = c.wait_for_readers.ensures.cleared c.if-not-wait_for_readers.false in
+    left_for (g.P.WaitPolicy.tries c.args.policy.now) c.wait_for_readers.new.who.me.0
+    c.args.who.now.me.0 c.prepare_boxed.new.who.me c.prepare_boxed.result
+    (ap (λ m. released_in m.0) w.is) c.prepare_boxed.ensures.left

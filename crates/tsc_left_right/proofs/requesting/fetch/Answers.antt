@@ -5,8 +5,8 @@ use Rattle.atomic_table.specs.Table.{step}
 use Rattle.tsc_left_right.proofs.RequestCalls.{fetch_at}
 use Rattle.tsc_left_right.proofs.requesting.fetch.Goals as goal
 
-pub load-requires : goal.load-requires
-load-requires c = (
+pub load-word-requires : goal.load-word-requires
+load-word-requires c = (
   c.requires.of.table,
   omega (arith, c.requires.of.sized.words, c.request_word.ensures.value, c.requires.number.1),
   fetch_at c.args.shared.now.key c.args.shared.now.table_id.slots

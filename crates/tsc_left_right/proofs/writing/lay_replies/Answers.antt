@@ -8,7 +8,7 @@ use Rattle.tsc_left_right.proofs.writing.lay_replies.Goals as goal
 pub loop-done-init : goal.loop-done-init
 loop-done-init c = (
   refl,
-  none_answered c.args.who.now.me c.args.others.now c.args.adds c.args.plan
+  none_answered c.args.who.now.me c.args.others.now c.args.adds c.args.known
       (length c.args.others.now - 0) (omega arith),
 )
 
@@ -20,7 +20,7 @@ overflow_sub-place c =
     let is = last_left c.args.others.now c.loop-done.done made c.loop-done-test.true
     (sym c.index-others-others.is) in
     let small = last_small r.0 r.1 r.2 r.3 c.args.who.now.me.0 c.loop-done.who.me _ _ made
-    c.args.adds c.loop-done.done c.args.plan c.loop-done.head l is in
+    c.args.adds c.loop-done.done c.args.known c.loop-done.head l is in
     omega (arith, small.1)
 
 pub overflow_sub-place-in-loop-done : goal.overflow_sub-place-in-loop-done
@@ -31,7 +31,7 @@ overflow_sub-place-in-loop-done c =
     let is = last_left c.args.others.now c.loop-done.done made c.loop-done-test.true
     (sym c.index-others-others.is) in
     let small = last_small r.0 r.1 r.2 r.3 c.args.who.now.me.0 c.loop-done.who.me _ _ made
-    c.args.adds c.loop-done.done c.args.plan c.loop-done.head l is in
+    c.args.adds c.loop-done.done c.args.known c.loop-done.head l is in
     omega (arith, small.1)
 
 pub exchange-requires : goal.exchange-requires
@@ -43,7 +43,7 @@ exchange-requires c =
     (sym c.index-others-others.is) in (
       c.loop-done.invariant.0 ∙ c.requires.of.table,
       last_first r.0 r.1 r.2 r.3 c.args.who.now.me.0 c.loop-done.who.me _ _ made c.args.adds
-          c.loop-done.done c.args.plan c.loop-done.head c.request_slot.result l is
+          c.loop-done.done c.args.known c.loop-done.head c.request_slot.result l is
           c.request_slot.ensures.value,
     )
 
@@ -55,7 +55,7 @@ turned_answer-head-requires c =
     let is = last_left c.args.others.now c.loop-done.done made c.loop-done-test.true
     (sym c.index-others-others.is) in
     (last_small r.0 r.1 r.2 r.3 c.args.who.now.me.0 c.loop-done.who.me _ _ made c.args.adds
-    c.loop-done.done c.args.plan c.loop-done.head l is).0
+    c.loop-done.done c.args.known c.loop-done.head l is).0
 
 pub loop-done-preserved : goal.loop-done-preserved
 loop-done-preserved c =
@@ -65,7 +65,7 @@ loop-done-preserved c =
       c.turn.ensures.0 ∙ c.exchange.ensures.0 ∙ c.loop-done.invariant.0,
       (λ t h xs others u so_many. one_answered t h xs others c.args.who.now.me.0
           c.loop-done.who.me c.exchange.new.seat.me c.turn.new.self.me _ _ made c.args.adds
-          c.loop-done.done c.args.plan c.loop-done.head c.turned_answer-head.result
+          c.loop-done.done c.args.known c.loop-done.head c.turned_answer-head.result
           c.request_slot.result
           (record { place = c.args.adds - 1 - c.loop-done.done; kept = made.kept })
           (c.loop-done.invariant.1 t h xs others u so_many) is c.request_slot.ensures.value refl
@@ -75,7 +75,7 @@ loop-done-preserved c =
 pub returns-clause-answered : goal.returns-clause-answered
 returns-clause-answered c = λ t h xs others u so_many.
     all_answered t h xs others c.args.who.now.me.0 c.loop-done.who.me _ c.args.adds
-    c.loop-done.done c.args.plan c.loop-done.head
+    c.loop-done.done c.args.known c.loop-done.head
     (c.loop-done.invariant.1 t h xs others u so_many)
     (let ms = c.args.others.now in
     let none : length ms - c.loop-done.done ≡ 0 = omega (arith, c.loop-done-test.false) in

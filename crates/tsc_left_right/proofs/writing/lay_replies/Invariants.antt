@@ -7,5 +7,5 @@ use Rattle.tsc_left_right.proofs.writing.lay_replies.Given as goal
 -- Those before the last ones are to be answered still.
 abbrev pub invariant-loop-done : goal.invariant-loop-done
 invariant-loop-done l = (l.who.table_id ≡ l.fn.who.table_id)
-    × Answers l.fn.who.me l.others l.fn.adds l.fn.plan l.who.me
+    × Answers l.fn.who.me l.others l.fn.adds l.fn.known l.who.me
     (take (length l.others - l.done) l.others) l.done l.head

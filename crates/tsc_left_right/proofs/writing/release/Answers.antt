@@ -5,7 +5,7 @@ use Rattle.atomic_table.specs.Table.{step}
 use Rattle.tsc_left_right.specs.declared.table.Slot.TheVariants.{Empty, Writer}
 use Rattle.tsc_left_right.specs.Participating.{cleared_in}
 use Rattle.tsc_left_right.proofs.Calls.{first_in}
-use Rattle.tsc_left_right.proofs.WriterCalls.{none_collected, release_at, releases_hand}
+use Rattle.tsc_left_right.proofs.WriterCalls.{none_collected, release_at, laid_back}
 use Rattle.tsc_left_right.proofs.WriterCalls.{released_then}
 use Rattle.tsc_left_right.proofs.writing.release.Goals as goal
 
@@ -28,9 +28,10 @@ store-requires c =
       release_at c.args.shared.now.key c.args.shared.now.table_id.slots
           (step c.args.shared.now.table_id.slots 0 0 0 maybe.none) c.turn.new.self.id me.0
           c.turn.new.self.me lock.0 lock.1 lock.2.slots c.args.state
-          (releases_hand me c.exchange.new.seat.me c.turn.new.self.me lock c.args.state
+          (laid_back (cleared_in me.0 lock.0 lock.1) me c.exchange.new.seat.me c.turn.new.self.me
+          lock.2.slots c.args.state
           (none_collected me lock c.requires.may.none) c.exchange.ensures.3 c.turn.ensures.2)
-          lock.2.holds c.requires.may.none c.requires.may.is_told lock.2.filled
+          lock.2.holds c.requires.may.none lock.2.filled
           c.requires.may.is_after,
     )
 
@@ -40,6 +41,7 @@ returns-clause-released c =
     let lock = c.requires.may.lock in
     released_then c.turn.new.self.me c.store.new.seat.me (cleared_in me.0 lock.0 lock.1)
     (lock.2.slots ++ (0, Writer c.args.state) ∷ [])
-    (releases_hand me c.exchange.new.seat.me c.turn.new.self.me lock c.args.state
+    (laid_back (cleared_in me.0 lock.0 lock.1) me c.exchange.new.seat.me c.turn.new.self.me
+    lock.2.slots c.args.state
     (none_collected me lock c.requires.may.none) c.exchange.ensures.3 c.turn.ensures.2)
     c.store.ensures.2
