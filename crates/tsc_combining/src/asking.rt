@@ -48,8 +48,8 @@ const PATIENT_PAUSES: u32 = 30;
 const PAUSES: u32 = 200;
 
 /// Asks for an Add, with a copy of it in a box. The result is the seat's toggle. The seat cannot
-/// ask, and has its Add back, if memory is refused, or if it has left a request that no writer has
-/// cleared.
+/// ask, and has its Add back, if memory is refused, or if it has left a request and no writer has
+/// readmitted it.
 fn post_boxed(
     context: &AddContext<'_>,
     who: &mut Participant,

@@ -8,9 +8,9 @@
 //! allow: the seat that asked makes that by itself.
 //!
 //! A seat whose tries come to their end leaves: it withdraws what it asked for, whatever the writer
-//! does. A writer that has made the Add of such a seat sends back all that it has made for others,
-//! and makes its own Add anew, alone, which nobody keeps it from publishing. So a seat that waits
-//! may wait for one that has the lock, and nobody waits for one that asks.
+//! does. A writer that has made Adds for others by then, and not published them, sends all of them
+//! back. It makes its own Add anew, alone, which nobody keeps it from publishing. So a seat that
+//! waits may wait for one that has the lock, and nobody waits for one that asks.
 //!
 //! - [`add_by`] makes an Add, and says what became of it ([`Outcome`]).
 //! - A [`WaitPolicy`] says how a seat waits: for ever ([`Blocking`]), or for so many tries

@@ -322,8 +322,8 @@ fn add_only_own<G: Gate>(
     }
 }
 
-/// Makes an Add by itself, at this place, which could not be published beside those of others: a
-/// seat had left that asked for one of them.
+/// Makes an Add by itself, at this place, which could not be published beside those of others: some
+/// seat had left meanwhile.
 fn add_again<G: Gate>(
     context: &AddContext<'_>,
     who: &mut Participant,
@@ -347,8 +347,9 @@ fn add_again<G: Gate>(
     outcome
 }
 
-/// Publishes an Add that is prepared, at this place, and what is made for others beside it. Where a
-/// seat has left that asked for that, it is sent back, and the Add is made by itself.
+/// Publishes an Add that is prepared, at this place, and what is made for others beside it. Where
+/// any seat has left meanwhile, all that was made for others is sent back, and the Add is made by
+/// itself.
 ///
 /// The gate is told once nothing can refuse the Add: that is after it is published, if
 /// something is made for others beside it.

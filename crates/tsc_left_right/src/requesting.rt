@@ -29,7 +29,7 @@ pub enum Heard {
 }
 
 /// The seat takes its request slot. The result is its toggle, or `None` if it has left a request
-/// that no writer has cleared since.
+/// and no writer has readmitted it since.
 pub fn fetch(shared: &SharedReplicas, who: &mut Participant, number: u32) -> Option<u64>
     requires of { IsOf who.old shared.now.table_id }
     requires may { MayFetch who.old.me }
