@@ -8,9 +8,9 @@ use Rattle.tsc_time.specs.Time.{zero_time}
 use Rattle.tsc_time.specs.OwnedTime.{unowned}
 use Rattle.std.proofs.lemmas.Bool.{cases_Bool}
 use Rattle.std.proofs.lemmas.List.{get_or_default}
-use Rattle.tsc_span.specs.Span.{KeyBytes, key_cmp, Cut, before, after, last, between, overlaps}
-use Rattle.tsc_page_nodes.specs.Nodes.{Node, next_cut, node_stretches, IsSorted, HasKeysBelow, StandsAt, FallsAt, IsFoundAt, IsPlaceOf, LiesFrom, key_above, first_gap, index_of, HoldsKeysOn, HoldsGapsOn}
-use Rattle.tsc_page_nodes.proofs.CutOrder.{Lt, Le, Meet, Lt-or_Le, Lt-not_Le, Lt-chain, Le-chain, Le_Lt-chain, Lt_Le-chain, Le-from_Lt, Le-itself, before-after, after-before, below_last, none_above_last, overlaps-from, overlaps-tells}
+use Rattle.tsc_span.specs.Span.{KeyBytes, Cut, before, after, last, between, overlaps}
+use Rattle.tsc_page_nodes.specs.Nodes.{Node, next_cut, node_stretches, IsSorted, HasKeysBelow, StandsAt, FallsAt, IsPlaceOf, key_above, first_gap, index_of, HoldsKeysOn, HoldsGapsOn}
+use Rattle.tsc_page_nodes.proofs.CutOrder.{Lt, Le, Meet, Lt-not_Le, Lt-chain, Le-chain, Le_Lt-chain, Lt_Le-chain, Le-from_Lt, Le-itself, before-after, below_last, none_above_last, overlaps-from, overlaps-tells}
 
 -- each way that two of them may stand
 abbrev pub before_or_past : (a b : ℕ) → (a < b) ⊎ (b ≤ a)
@@ -63,17 +63,6 @@ next_past (n ∷ []) zero h = refl
 next_past (n ∷ []) (suc i) h = refl
 next_past (n ∷ m ∷ ms) zero h = absurd (omega arith)
 next_past (n ∷ m ∷ ms) (suc i) h = next_past (m ∷ ms) i (omega arith)
-
--- a key below one that is not above another is below that other
-below_later : (j k m : KeyBytes) → Lt (after j) (before k) → Lt (before k) (after m) →
-    Lt (after j) (before m)
-below_later j k m low up = elim (Lt-or_Le (after j) (before m)) [
-  | inl h ↦ h
-  | inr h ↦ absurd (Lt-not_Le (before k) (after m) up
-      (Le-from_Lt (after m) (before k)
-      (after-before m k (is_less (key_cmp m k)
-      (Le_Lt-chain (before m) (after j) (before k) h low)))))
-]
 
 -- The keys that lie wholly below a cut stand before a place.
 record StartsKeys (ns : List Node) (from : Cut) (start : ℕ) : Type 0 where
@@ -434,43 +423,3 @@ module _ (ns : List Node) (sorted : IsSorted ns) where
           keys_between (key_above low from) (key_above high to) first.0 past.0 bounds.0,
           gaps_between (first_gap low) (index_of high) first.1 past.1 bounds.1,
         )
-
-    -- the keys before the place of the lower cut are below the key of the other
-    before_place : (k : KeyBytes) (place : Result ℕ ℕ) → IsFoundAt ns k place →
-        HasKeysBelow ns k (index_of place)
-    before_place k (Ok p) at = record {
-      bound = omega (arith, at.bound);
-      below = λ i d h. subst (λ (m : KeyBytes). Lt (after (get_or ns i d).key) (before m))
-          (at.key d) (sorted_at ns sorted i p d h at.bound);
-    }
-    before_place k (Err p) at = at.low
-
-    below_both : (k m : KeyBytes) (place : Result ℕ ℕ) → Le (before k) from → Le to (after m) →
-        IsFoundAt ns k place → HasKeysBelow ns m (index_of place)
-    below_both k m place low high at =
-        let smaller = before_place k place at in
-        let up = Lt_Le-chain (before k) to (after m) (Le_Lt-chain (before k) from to low upright)
-        high in
-        record {
-          bound = smaller.bound;
-          below = λ i d h. below_later (get_or ns i d).key k m (smaller.below i d h) up;
-        }
-
-module _ (ns : List Node) (sorted : IsSorted ns) where
-  pub goes_from : (from to : Cut) → Lt from to → (place : Result ℕ ℕ) → IsPlaceOf ns from place →
-      LiesFrom ns to (index_of place)
-  goes_from last to up place at = absurd (Lt-not_Le last to up (none_above_last to))
-  goes_from (before k) last up place at = tt
-  goes_from (after k) last up place at = tt
-  goes_from (before k) (before m) up place at =
-      below_both ns sorted (before k) (before m) up k m place (before_low ns sorted k)
-      (before_high ns sorted m) at
-  goes_from (before k) (after m) up place at =
-      below_both ns sorted (before k) (after m) up k m place (before_low ns sorted k)
-      (after_high ns sorted m) at
-  goes_from (after k) (before m) up place at =
-      below_both ns sorted (after k) (before m) up k m place (before_high ns sorted k)
-      (before_high ns sorted m) at
-  goes_from (after k) (after m) up place at =
-      below_both ns sorted (after k) (after m) up k m place (before_high ns sorted k)
-      (after_high ns sorted m) at

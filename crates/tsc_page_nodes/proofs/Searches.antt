@@ -3,7 +3,7 @@ use Rattle.std.proofs.Common.{◌≡◌, ◌∙◌, refl, sym, ap, subst, true, 
 use mathlib.Core.Bool.{true≢false}
 use Rattle.std.specs.declared.cmp.Ordering.{Ordering}
 use Rattle.std.specs.declared.cmp.Ordering.TheVariants.{Less, Equal, Greater}
-use Rattle.std.specs.Ordering.{is_lt, is_le, is_eq, ordering_reverse, ordering_then}
+use Rattle.std.specs.Ordering.{is_lt, is_le, is_gt, is_eq, ordering_reverse, ordering_then}
 use Rattle.std.specs.Prelude.{Some, None, is_err, not}
 use Rattle.std.specs.Str.{bytes_eq}
 use Rattle.std.proofs.lemmas.Cmp.{nat_list_cmp_total}
@@ -144,6 +144,11 @@ lies_behind ns (after k) n h e = absurd (clash h)
     clash : None ≡ Some k → ⊥
     clash g = cc
 lies_behind ns last n h e = ap Err e
+
+pub is_greater : (o : Ordering) → is_gt o ≡ true → o ≡ Greater
+is_greater Less h = absurd (true≢false (sym h))
+is_greater Equal h = absurd (true≢false (sym h))
+is_greater Greater h = refl
 
 pub is_equal : (o : Ordering) → is_eq o ≡ true → o ≡ Equal
 is_equal Less h = absurd (true≢false (sym h))

@@ -153,12 +153,6 @@ IsPlaceOf nodes (before k) place = IsFoundAt nodes k place
 IsPlaceOf nodes (after k) place = IsFoundAt nodes k place
 IsPlaceOf nodes last place = place ≡ Err (length nodes)
 
--- the keys before a place are below that of a cut
-abbrev pub LiesFrom : List Node → Cut → ℕ → Type 0
-LiesFrom nodes (before k) place = HasKeysBelow nodes k place
-LiesFrom nodes (after k) place = HasKeysBelow nodes k place
-LiesFrom nodes last place = Unit {0}
-
 -- the place of a node at which a cut lies, or before which it does
 abbrev pub index_of : Result ℕ ℕ → ℕ
 index_of (Ok i) = i

@@ -18,11 +18,13 @@ mod interval_page;
 pub mod laws;
 mod nodes;
 mod prefix;
+mod prefix_search;
 
 pub use insertion::{KeyInsertion, PrefixedInsertion, SearchKey};
 pub use interval_page::IntervalPage;
 pub use nodes::{Growth, Nodes};
 pub use prefix::{KeyPrefix, PrefixedCut, PrefixedKey};
+pub use prefix_search::{Prefixed, lesser_prefixes};
 
 /// How many bytes a page may have at the least.
 pub const LEAST_SIZE: u32 = 64;

@@ -11,10 +11,11 @@ ghost use Rattle.tsc_page_nodes.specs.PageView.{is_new_among};
 ghost use Rattle.tsc_page_nodes.specs.KeyAdds.{IsKeyTold};
 ghost use Rattle.tsc_page_nodes.specs.Insertions.{IsTold, IsBothTold, AreReady, HaveRoom};
 ghost use Rattle.tsc_page_nodes.specs.KeysAbove.{first_above};
-ghost use Rattle.tsc_page_nodes.specs.Nodes.{paired, IsSorted, FitsAt, FallsAt, IsFoundAt, IsPlaceOf, IsPlaceTold, BothStandWhereTold, HasKeysBelow, StandsAt, LiesFrom, index_of, key_above, first_gap, IsNewKey, FitsIn, with_new, IsInOrder, HasNodes, MakesNodes, new_count, found_cost, new_cost, HoldsKeysOn, HoldsGapsOn, node_keys, answer_of, raise_nodes, node_in_gap, gap_value, next_cut, node_stretches};
+ghost use Rattle.tsc_page_nodes.specs.Nodes.{paired, IsSorted, FitsAt, FallsAt, IsFoundAt, IsPlaceOf, IsPlaceTold, BothStandWhereTold, HasKeysBelow, StandsAt, index_of, key_above, first_gap, IsNewKey, FitsIn, with_new, IsInOrder, HasNodes, MakesNodes, new_count, found_cost, new_cost, HoldsKeysOn, HoldsGapsOn, node_keys, answer_of, raise_nodes, node_in_gap, gap_value, next_cut, node_stretches};
 
 use crate::insertion::{KeyInsertion, PrefixedInsertion, SearchKey};
 use crate::prefix::{KeyPrefix, PrefixedBytes, PrefixedCut, PrefixedKey};
+use crate::prefix_search::lesser_prefixes;
 use std::alloc::{AllocError, Global};
 use std::cmp::Ordering;
 use std::marker::Model;
@@ -152,9 +153,8 @@ impl Nodes {
         }
     }
 
-    /// The joint value of the keys and gaps between two cuts. It costs a search for the first cut,
-    /// a look at one key after another from there to the second, and a step for each node between
-    /// them.
+    /// The joint value of the keys and gaps between two cuts. It costs a search for each cut, and a
+    /// step for each node between them.
     pub fn join_between(&self, from: &PrefixedCut<'_>, to: &PrefixedCut<'_>) -> Value
         requires order { is_below from.now to.now ≡ true }
         ensures { result ≡ answer_of self.now (between from.now to.now) }
@@ -445,13 +445,40 @@ impl<'a> Model for Lists<'a> {
 }
 
 impl<'a> Lists<'a> {
-    /// Where a key stands, or else the place for it. It looks at every eighth key, and from the
-    /// last of these that isn't above on at one after another. No look has to wait for what another
-    /// one reads, as in a binary search, so the processor reads ahead.
+    /// Where a key stands, or else the place for it: where a hint tells, or by a search. This looks
+    /// at every eighth key, and from the last of these that isn't above on at one after another.
     fn find(&self, key: &PrefixedBytes<'_>) -> Result<usize, usize>
         ensures { IsFoundAt self.now key.now result }
     {
-        self.find_from(self.stride_before(key), key)
+        match lesser_prefixes(self.keys, &key.prefix()) {
+            Some(hint) if self.stands_at(hint, key) => Ok(hint),
+            Some(hint) if self.keys_below(hint, key) && self.keys_above(hint, key) => Err(hint),
+            _ => self.find_from(self.stride_before(key), key),
+        }
+    }
+
+    /// Whether all keys before a place lie below a key, by a look at the last of them.
+    fn keys_below(&self, place: usize, key: &PrefixedBytes<'_>) -> bool
+        ensures { IsTrue result → HasKeysBelow self.now key.now place }
+    {
+        let Some(before) = place.checked_sub(1) else {
+            return true
+        };
+        match self.keys.get(before) {
+            Some(other) => key.compare(other).is_lt(),
+            None => false,
+        }
+    }
+
+    /// Whether all keys from a place on lie above a key, by a look at the first of them.
+    fn keys_above(&self, place: usize, key: &PrefixedBytes<'_>) -> bool
+        ensures { IsTrue result → HasKeysBelow self.now key.now place →
+            FallsAt self.now key.now place }
+    {
+        match self.keys.get(place) {
+            Some(other) => key.compare(other).is_gt(),
+            None => true,
+        }
     }
 
     /// The last of every eighth place, from the first one on, before which all keys lie below a
@@ -510,23 +537,6 @@ impl<'a> Lists<'a> {
         }
     }
 
-    /// The same, where no place is told by a look from a place on before which all keys are below
-    /// the cut's.
-    fn place_from(
-        &self,
-        cut: &PrefixedCut<'_>,
-        place: usize,
-        hint: Option<usize>,
-    ) -> Result<usize, usize>
-        requires low { LiesFrom self.now cut.now place }
-        ensures { IsPlaceOf self.now cut.now result }
-    {
-        match cut.key() {
-            Some(key) if hint.is_none() => self.find_from(place, &key),
-            _ => self.place_of(cut, hint),
-        }
-    }
-
     /// The place of the first key above a cut, by where the cut lies.
     fn key_above(&self, place: Result<usize, usize>, cut: Cut<'_>) -> usize
         requires { IsPlaceOf self.now (cut_of cut) place }
@@ -542,8 +552,8 @@ impl<'a> Lists<'a> {
     }
 
     /// The places of the nodes whose keys lie between two cuts, and of those whose gaps overlap
-    /// what does. The keys of the cuts may stand at places that are told; else the first is
-    /// searched for, and the second looked for from there on.
+    /// what does. The keys of the cuts may stand at places that are told; else they are searched
+    /// for.
     fn places_between(
         &self,
         from: &PrefixedCut<'_>,
@@ -557,7 +567,7 @@ impl<'a> Lists<'a> {
         // A field is read so that the proof has the invariant: the keys are in order.
         let _keys = self.keys;
         let low = self.place_of(from, hint.0);
-        let high = self.place_from(to, index_of(low), hint.1);
+        let high = self.place_of(to, hint.1);
         let keys = self.key_above(low, from.cut())..self.key_above(high, to.cut());
         (keys, first_gap(low)..index_of(high))
     }

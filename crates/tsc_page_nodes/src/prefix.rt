@@ -4,6 +4,7 @@ ghost use Rattle.tsc_span.specs.Span.{key_cmp, key_cost, before, after, last, is
 ghost use Rattle.tsc_span.specs.Cuts.{cut_of};
 ghost use Rattle.tsc_page_nodes.specs.Prefixes.{spelled, IsPrefixOf, IsKeyAt, AreTied, TellsBelow, TellsAbove};
 
+use crate::prefix_search::Prefixed;
 use std::alloc::{AllocError, Global};
 use std::cmp::Ordering;
 use std::marker::Model;
@@ -21,9 +22,9 @@ const WORD_BYTES: usize = 8;
 /// weighs most.
 #[derive(Clone, Copy, Debug)]
 pub struct KeyPrefix {
-    first: u64,
-    second: u64,
-    third: u64,
+    pub(crate) first: u64,
+    pub(crate) second: u64,
+    pub(crate) third: u64,
 }
 
 impl Model for KeyPrefix {
@@ -149,6 +150,12 @@ impl PrefixedKey {
     }
 }
 
+impl Prefixed for PrefixedKey {
+    fn prefix(&self) -> &KeyPrefix {
+        &self.prefix
+    }
+}
+
 /// A clone shares the key, and takes no memory.
 impl Clone for PrefixedKey {
     ghost is_clone = { λ key copy. copy ≡ key };
@@ -267,6 +274,12 @@ impl<'a> PrefixedCut<'a> {
             }),
             Cut::Last => None,
         }
+    }
+
+    /// Its prefix.
+    #[inline]
+    pub fn prefix(&self) -> &KeyPrefix {
+        &self.prefix
     }
 
     /// Whether the cut lies below those of a prefix; `None` where that is its own prefix.

@@ -1,5 +1,5 @@
 -- Nodes of the end keys of a span, of which each comes in behind the first node of a subtree.
-use Rattle.std.proofs.Common.{◌≡◌, inr, ◌∙◌, refl, sym, ap, subst, Bool, true, false, cond, ℕ, ◌≤◌, ◌+◌, List, [], ◌∷◌, ◌++◌, length, arith}
+use Rattle.std.proofs.Common.{◌≡◌, inr, ◌∙◌, refl, sym, ap, subst, Bool, true, false, cond, ℕ, ◌≤◌, List, [], ◌∷◌, ◌++◌, length, arith}
 use Rattle.std.specs.Prelude.{Option, Some, None}
 use Rattle.std.proofs.Math.Bool.{or-true}
 use Rattle.std.proofs.lemmas.List.{length-append}

@@ -1,14 +1,13 @@
 -- When a leaf and a branch are whole.
-use Rattle.std.proofs.Common.{◌≡◌, ◌∙◌, refl, sym, ap, subst, ℕ, ◌+◌, ◌≤◌, List, [], ◌∷◌, length, map, arith}
+use Rattle.std.proofs.Common.{◌≡◌, ◌∙◌, sym, ap, subst, ℕ, ◌+◌, ◌≤◌, List, [], ◌∷◌, length, map, arith}
 use mathlib.Core.Bool.{true≢false}
 use Rattle.std.specs.Prelude.{Option, Some, None, Result, Ok, Err, OnErr, slice_get}
 use Rattle.tsc_page_nodes.specs.PageView.{AreLeafSizes}
-use Rattle.std.specs.Result.{IfOk, IsErr, result_ok}
+use Rattle.std.specs.Result.{IsErr, result_ok}
 use Rattle.std.specs.Option.{IfSome}
 use Rattle.tsc_time.specs.OwnedTime.{OwnedTime}
-use Rattle.tsc_span.specs.Span.{between}
 use Rattle.tsc_page_nodes.specs.declared.nodes.Growth.{Growth}
-use Rattle.tsc_page_nodes.specs.Nodes.{Node, IsSorted, AddsNodes, GrowsBy}
+use Rattle.tsc_page_nodes.specs.Nodes.{Node, IsSorted}
 use Rattle.tsc_page_nodes.specs.Insertions.{InsertionView}
 use Rattle.tsc_page_nodes.specs.Insertions as insertions
 use Rattle.tsc_page_tree.specs.Leaves.{nodes_of, IsLeaf, AreSubtrees}

@@ -2,7 +2,7 @@
 use Rattle.std.specs.Prelude.{◌≡◌, List, [], ◌∷◌, ◌++◌, ℕ, ◌≤◌, ◌+◌, length, Bool, Option, Some, None, Result, Ok, Err, slice_get, sum, if◌then◌else◌}
 use Rattle.tsc_time.specs.OwnedTime.{OwnedTime}
 use Rattle.tsc_time.specs.Joint.{joint}
-use Rattle.tsc_span.specs.Span.{KeyBytes, Cut, before, last, Interval, between}
+use Rattle.tsc_span.specs.Span.{before, last, Interval, between}
 use Rattle.tsc_page_nodes.specs.PageView.{AreLeafSizes}
 use Rattle.tsc_page_nodes.specs.Prefixes.{IsCutPrefix}
 use Rattle.tsc_page_nodes.specs.Nodes.{Node, AddsNodes, GrowsBy, answer_of, raise_nodes}

@@ -39,15 +39,15 @@ fn raise_ends<P: Subtree>(
     ensures high { KeepsSizes P.sizes P.IsWhole high.old high.new (is_some result) }
 {
     if stops {
-        P::raise_across(low, high, &add.before_second(), room)
+        P::add_across(low, high, &add.before_second(), room)
     } else {
-        P::raise_across(low, high, add, room)
+        P::add_across(low, high, add, room)
     }
 }
 
 /// Adds in place over two lists of subtrees: from the subtree of the first one in which the span
 /// starts up to that of the second one in which it stops. Tells what came in, as
-/// [`Subtree::raise_across`]; else nothing changes.
+/// [`Subtree::add_across`]; else nothing changes.
 pub(crate) fn raise_two<P: Subtree>(
     low: &mut [P],
     high: &mut [P],
@@ -76,7 +76,7 @@ pub(crate) fn raise_two<P: Subtree>(
 }
 
 /// Adds in place over several subtrees of one list, from the one in which the span starts. Tells
-/// what came in, as [`Subtree::raise_across`]; else nothing changes.
+/// what came in, as [`Subtree::add_across`]; else nothing changes.
 pub(crate) fn raise_over<P: Subtree>(
     subtrees: &mut [P],
     first: usize,

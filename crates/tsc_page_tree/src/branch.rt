@@ -10,7 +10,9 @@ use crate::subtrees::Subtree;
 use crate::{across, subtrees};
 use std::alloc::{AllocError, Global};
 use std::sync::Arc;
-use tsc_page_nodes::{Growth, KeyInsertion, KeyPrefix, PrefixedCut, PrefixedInsertion, SearchKey};
+use tsc_page_nodes::{
+    Growth, KeyInsertion, KeyPrefix, Prefixed, PrefixedCut, PrefixedInsertion, SearchKey,
+};
 use tsc_span::{Cut, Key, KeyRef};
 use tsc_time::{NoMemory, Value};
 
@@ -91,6 +93,12 @@ impl<P: Drop> Clone for Branch<P> {
             aggregate: self.aggregate,
             subtrees: Arc::try_clone(&self.subtrees)?,
         })
+    }
+}
+
+impl<P: Subtree> Prefixed for Branch<P> {
+    fn prefix(&self) -> &KeyPrefix {
+        &self.aggregate.start
     }
 }
 
@@ -197,7 +205,7 @@ impl<P: Subtree> Subtree for Branch<P> {
         made
     }
 
-    fn raise_across(
+    fn add_across(
         low: &mut Branch<P>,
         high: &mut Branch<P>,
         add: &PrefixedInsertion<'_>,

@@ -12,7 +12,7 @@ use crate::subtrees::Subtree;
 use std::alloc::{AllocError, Global};
 use std::sync::Arc;
 use tsc_page_nodes::{
-    Growth, KeyInsertion, KeyPrefix, Nodes, PrefixedCut, PrefixedInsertion, SearchKey,
+    Growth, KeyInsertion, KeyPrefix, Nodes, Prefixed, PrefixedCut, PrefixedInsertion, SearchKey,
 };
 use tsc_span::{Cut, Key, KeyRef};
 use tsc_time::{NoMemory, Value};
@@ -51,6 +51,12 @@ impl Clone for Leaf {
             aggregate: self.aggregate,
             nodes: Arc::try_clone(&self.nodes)?,
         })
+    }
+}
+
+impl Prefixed for Leaf {
+    fn prefix(&self) -> &KeyPrefix {
+        &self.aggregate.start
     }
 }
 
@@ -165,7 +171,7 @@ impl Subtree for Leaf {
         made
     }
 
-    fn raise_across(
+    fn add_across(
         low: &mut Leaf,
         high: &mut Leaf,
         add: &PrefixedInsertion<'_>,

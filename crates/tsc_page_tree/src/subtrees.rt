@@ -1,4 +1,4 @@
-ghost use Rattle.std.specs.Prelude.{◌≡◌, ℕ, List, ◌≤◌, ◌<◌, ◌+◌, ◌++◌, ◌∷◌, [], ◌||◌, suc, map, length, drop, slice_index_or, option_map, option_to_list, is_some, OnOk, IfOk, IfSome, not, true, false};
+ghost use Rattle.std.specs.Prelude.{IsTrue, ◌≡◌, ℕ, List, ◌≤◌, ◌<◌, ◌+◌, ◌-◌, ◌++◌, ◌∷◌, [], ◌||◌, suc, map, length, drop, slice_index_or, option_map, option_to_list, is_some, OnOk, IfOk, IfSome, not, true, false};
 ghost use Rattle.std.specs.List.{All};
 ghost use Rattle.tsc_time.specs.Joint.{joint};
 ghost use Rattle.tsc_span.specs.Span.{before, last, is_below, between, point};
@@ -15,7 +15,10 @@ ghost use Rattle.tsc_page_tree.specs.KeyAdds.{IsKeyAddTold};
 
 use crate::across;
 use std::alloc::Global;
-use tsc_page_nodes::{Growth, KeyInsertion, KeyPrefix, PrefixedCut, PrefixedInsertion, SearchKey};
+use tsc_page_nodes::{
+    Growth, KeyInsertion, KeyPrefix, Prefixed, PrefixedCut, PrefixedInsertion, SearchKey,
+    lesser_prefixes,
+};
 use tsc_span::{Cut, Key, KeyRef};
 use tsc_time::{NoMemory, Timestamp, Value, ratchet};
 
@@ -23,7 +26,7 @@ use tsc_time::{NoMemory, Timestamp, Value, ratchet};
 const STRIDE: usize = 8;
 
 /// Nodes that stand in a list with others of their kind, one after another.
-pub trait Subtree: Clone + Drop {
+pub trait Subtree: Clone + Drop + Prefixed {
     ghost nodes: { Self → List Node };
 
     ghost sizes: { Self → List ℕ };
@@ -106,7 +109,7 @@ pub trait Subtree: Clone + Drop {
 
     /// Adds in place, and tells what came in: where the span lies in one leaf, which need not be
     /// cut, and what comes in costs no more than `room`; or in two leaves, as
-    /// [`raise_across`](Subtree::raise_across) tells of these. Else nothing changes, nor where
+    /// [`add_across`](Subtree::add_across) tells of these. Else nothing changes, nor where
     /// memory is refused. What others hold on the way down is copied first, as far as one subtree
     /// has all of the span, and stays as it is for them.
     fn add_within(
@@ -136,7 +139,7 @@ pub trait Subtree: Clone + Drop {
     /// be cut, both have lists of keys of their own, and what comes in costs no more than `room`.
     /// Else nothing changes. It takes memory for new keys alone, before the first change, and where
     /// this is refused nothing changes either.
-    fn raise_across(
+    fn add_across(
         low: &mut Self,
         high: &mut Self,
         add: &PrefixedInsertion<'_>,
@@ -157,10 +160,49 @@ pub trait Subtree: Clone + Drop {
     ghost copied: { (p q : Self) → Self.is_clone p q → IsSameAs nodes sizes IsWhole p q };
 }
 
-/// The place of the subtree in which a cut falls. It looks at every eighth subtree, and from the
-/// last of these that doesn't begin above the cut on at one after another. No look has to wait for
-/// what another one reads, as in a binary search, so the processor reads ahead.
+/// The place of the subtree in which a cut falls: where a hint says, or by a search.
 pub(crate) fn subtree_at<P: Subtree>(subtrees: &[P], cut: &PrefixedCut<'_>) -> usize
+    requires whole { All P.IsWhole subtrees.now }
+    ensures { IsLeafAt (map P.nodes subtrees.now) cut.now result }
+{
+    let Some(lesser) = lesser_prefixes(subtrees, cut.prefix()) else {
+        return search(subtrees, cut)
+    };
+    let next = lesser.max(1);
+    if is_not_above(subtrees, next - 1, cut) && is_above(subtrees, next, cut) {
+        next - 1
+    } else {
+        search(subtrees, cut)
+    }
+}
+
+/// Whether a subtree at a place begins at a cut or below it, or is the first one.
+fn is_not_above<P: Subtree>(subtrees: &[P], place: usize, cut: &PrefixedCut<'_>) -> bool
+    requires whole { All P.IsWhole subtrees.now }
+    ensures { IsTrue result → IsNotAbove (map P.nodes subtrees.now) cut.now place }
+{
+    match subtrees.get(place) {
+        Some(subtree) => place == 0 || !subtree.starts_above(cut),
+        None => false,
+    }
+}
+
+/// Whether a subtree at a place begins above a cut, or there is none.
+fn is_above<P: Subtree>(subtrees: &[P], place: usize, cut: &PrefixedCut<'_>) -> bool
+    requires whole { All P.IsWhole subtrees.now }
+    requires some { 1 ≤ place }
+    ensures { IsTrue result → IsNotAbove (map P.nodes subtrees.now) cut.now (place - 1) →
+        IsLeafAt (map P.nodes subtrees.now) cut.now (place - 1) }
+{
+    match subtrees.get(place) {
+        Some(subtree) => subtree.starts_above(cut),
+        None => true,
+    }
+}
+
+/// The same as `subtree_at`, by a look at every eighth subtree, and from the last of these that
+/// doesn't begin above the cut on at one after another.
+fn search<P: Subtree>(subtrees: &[P], cut: &PrefixedCut<'_>) -> usize
     requires whole { All P.IsWhole subtrees.now }
     ensures { IsLeafAt (map P.nodes subtrees.now) cut.now result }
 {
@@ -534,7 +576,7 @@ pub fn leaf_len<P: Subtree>(subtrees: &[P], place: usize) -> Result<usize, usize
 }
 
 /// Adds in place to the subtree in which the span lies, or over several subtrees, as
-/// [`Subtree::raise_across`] tells.
+/// [`Subtree::add_across`] tells.
 pub fn add_within<P: Subtree>(
     subtrees: &mut [P],
     add: &PrefixedInsertion<'_>,

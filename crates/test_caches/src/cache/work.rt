@@ -1,5 +1,6 @@
 //! Fixed calls to a cache of one large page, whose instructions `scripts/count-steps` counts. Each
 //! test makes the same cache and the same spans, so what it counts above `nothing` its calls took.
+//! Keys may begin with 8, 16 or 32 bytes that are the same, so that other bytes tell them apart.
 use super::player::{Limits, config};
 use crate::words::{at, ends, value};
 use std::alloc::Global;
@@ -14,10 +15,20 @@ const NUMBERS: u32 = 8192;
 /// How many calls are made.
 const CALLS: u32 = 512;
 
-/// The key of a number, which may be a multiple of four and so many more.
-fn key(alloc: Global, number: u32, more: u32) -> Result<Key, Fail> {
-    let bytes = number.saturating_mul(4).saturating_add(more).to_be_bytes();
-    Ok(Key::new(alloc, &bytes)?)
+/// Keys of numbers, which begin with so many bytes that are the same.
+#[derive(Clone, Copy)]
+struct Keys {
+    alloc: Global,
+    alike: usize,
+}
+
+impl Keys {
+    /// The key of a number, which may be a multiple of four and so many more.
+    fn key(self, number: u32, more: u32) -> Result<Key, Fail> {
+        let mut bytes = vec![in self.alloc; b'k'; self.alike]?;
+        bytes.extend_from_slice(&number.saturating_mul(4).saturating_add(more).to_be_bytes())?;
+        Ok(Key::new(self.alloc, &bytes)?)
+    }
 }
 
 /// The number of the key at which the span of a call begins.
@@ -26,21 +37,21 @@ fn first_of(call: u32) -> u32 {
 }
 
 /// The span of a call: over so many keys, or of a new one where these are none.
-fn span(alloc: Global, call: u32, keys: u32) -> Result<Span, Fail> {
+fn span(all: Keys, call: u32, keys: u32) -> Result<Span, Fail> {
     let number = first_of(call);
-    let from = key(alloc, number, u32::from(keys == 0))?;
+    let from = all.key(number, u32::from(keys == 0))?;
     if keys < 2 {
         return Ok(Span::point(from));
     }
-    let to = key(alloc, number.saturating_add(keys), 0)?;
+    let to = all.key(number.saturating_add(keys), 0)?;
     Ok(Span::for_lookup(from, to, ends("[)")))
 }
 
 /// The spans of all calls.
-fn spans(alloc: Global, keys: u32) -> Result<Vec<Span>, Fail> {
-    let mut spans = Vec::new(alloc);
+fn spans(all: Keys, keys: u32) -> Result<Vec<Span>, Fail> {
+    let mut spans = Vec::new(all.alloc);
     for call in 0..CALLS {
-        spans.push(span(alloc, call, keys)?)?;
+        spans.push(span(all, call, keys)?)?;
     }
     Ok(spans)
 }
@@ -51,20 +62,20 @@ fn time_of(number: u32) -> u64 {
 }
 
 /// Adds the key of a number.
-fn add_key(alloc: Global, cache: &mut Cache, number: u32) -> Result<(), Fail> {
+fn add_key(all: Keys, cache: &mut Cache, number: u32) -> Result<(), Fail> {
     let value = Value::unowned(at(time_of(number), 0));
-    cache.add(&Span::point(key(alloc, number, 0)?), value, value.time())?;
+    cache.add(&Span::point(all.key(number, 0)?), value, value.time())?;
     Ok(())
 }
 
 /// Adds all keys. Those of even numbers make leaves of 32 keys, and the others come between them.
-fn fill(alloc: Global, cache: &mut Cache) -> Result<(), Fail> {
+fn fill(all: Keys, cache: &mut Cache) -> Result<(), Fail> {
     for number in (0..NUMBERS).step_by(2) {
-        add_key(alloc, cache, number)?;
+        add_key(all, cache, number)?;
     }
     for number in (1..NUMBERS).step_by(2) {
         if number % 8 != 7 {
-            add_key(alloc, cache, number)?;
+            add_key(all, cache, number)?;
         }
     }
     Ok(())
@@ -95,10 +106,15 @@ fn add(cache: &mut Cache, spans: &[Span], value: Value) -> Result<bool, Fail> {
 /// Does nothing, looks up or adds with spans over so many keys, and says whether all comes to what
 /// it has to.
 fn works(alloc: Global, does: &str, keys: u32) -> Result<bool, Fail> {
-    let mut cache = Cache::new(alloc, config(LIMITS)?)?;
-    fill(alloc, &mut cache)?;
-    let (one, new) = (spans(alloc, 1)?, spans(alloc, 0)?);
-    let (near, far) = (spans(alloc, 16)?, spans(alloc, 1000)?);
+    works_behind(Keys { alloc, alike: 0 }, does, keys)
+}
+
+/// The same, of keys that may begin alike.
+fn works_behind(all: Keys, does: &str, keys: u32) -> Result<bool, Fail> {
+    let mut cache = Cache::new(all.alloc, config(LIMITS)?)?;
+    fill(all, &mut cache)?;
+    let (one, new) = (spans(all, 1)?, spans(all, 0)?);
+    let (near, far) = (spans(all, 16)?, spans(all, 1000)?);
     let spans = match keys {
         0 => &new,
         1 => &one,
@@ -157,5 +173,47 @@ fn adds_of_16_keys(rt: HostRuntime) -> Result<(), Fail> {
 #[test]
 fn adds_of_1000_keys(rt: HostRuntime) -> Result<(), Fail> {
     assert!(rt; works(rt.alloc(), "add", 1000)?);
+    Ok(())
+}
+
+#[test]
+fn nothing_behind_8(rt: HostRuntime) -> Result<(), Fail> {
+    let alloc = rt.alloc();
+    assert!(rt; works_behind(Keys { alloc, alike: 8 }, "nothing", 1)?);
+    Ok(())
+}
+
+#[test]
+fn lookups_of_keys_behind_8(rt: HostRuntime) -> Result<(), Fail> {
+    let alloc = rt.alloc();
+    assert!(rt; works_behind(Keys { alloc, alike: 8 }, "look_up", 1)?);
+    Ok(())
+}
+
+#[test]
+fn nothing_behind_16(rt: HostRuntime) -> Result<(), Fail> {
+    let alloc = rt.alloc();
+    assert!(rt; works_behind(Keys { alloc, alike: 16 }, "nothing", 1)?);
+    Ok(())
+}
+
+#[test]
+fn lookups_of_keys_behind_16(rt: HostRuntime) -> Result<(), Fail> {
+    let alloc = rt.alloc();
+    assert!(rt; works_behind(Keys { alloc, alike: 16 }, "look_up", 1)?);
+    Ok(())
+}
+
+#[test]
+fn nothing_behind_32(rt: HostRuntime) -> Result<(), Fail> {
+    let alloc = rt.alloc();
+    assert!(rt; works_behind(Keys { alloc, alike: 32 }, "nothing", 1)?);
+    Ok(())
+}
+
+#[test]
+fn lookups_of_keys_behind_32(rt: HostRuntime) -> Result<(), Fail> {
+    let alloc = rt.alloc();
+    assert!(rt; works_behind(Keys { alloc, alike: 32 }, "look_up", 1)?);
     Ok(())
 }

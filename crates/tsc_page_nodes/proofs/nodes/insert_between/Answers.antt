@@ -1,5 +1,5 @@
 -- Both new keys have nodes before the value is ratcheted in.
-use Rattle.std.proofs.Common.{◌≡◌, ◌∙◌, ap, sym, subst, List, arith}
+use Rattle.std.proofs.Common.{◌∙◌, ap, sym, subst, List, arith}
 use Rattle.tsc_span.specs.Span.{between}
 use Rattle.tsc_page_nodes.specs.Nodes.{Node, IsSorted, FitsIn, paired, with_new, raise_nodes}
 use Rattle.tsc_page_nodes.specs.Insertions.{InsertionView}

@@ -1,5 +1,5 @@
 -- Each leaf gets the node of its key below the lazy value, and is raised there.
-use Rattle.std.proofs.Common.{◌∙◌, ◌∷◌, [], sym, ap, subst, true, false, List, ◌<◌, length, arith}
+use Rattle.std.proofs.Common.{◌∙◌, ◌∷◌, [], sym, ap, subst, List, ◌<◌, length, arith}
 use mathlib.Core.Bool.{true≢false}
 use Rattle.std.specs.Prelude.{Option, Some, None, option_map}
 use Rattle.std.specs.Arc.{arc_value}

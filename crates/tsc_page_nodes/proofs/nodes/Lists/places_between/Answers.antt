@@ -1,20 +1,9 @@
 -- Where the two cuts lie tells which keys and gaps are between them.
 use Rattle.std.proofs.Common.{◌≡◌, ◌∙◌, ap, sym, subst, ℕ, List, Result}
 use Rattle.tsc_span.specs.Span.{Cut, between}
-use Rattle.tsc_page_nodes.specs.Nodes.{Node, LiesFrom, key_above, first_gap, HoldsKeysOn, HoldsGapsOn, IsSorted}
-use Rattle.tsc_page_nodes.proofs.Places.{places_found, goes_from}
+use Rattle.tsc_page_nodes.specs.Nodes.{Node, key_above, first_gap, HoldsKeysOn, HoldsGapsOn, IsSorted}
+use Rattle.tsc_page_nodes.proofs.Places.{places_found}
 use Rattle.tsc_page_nodes.proofs.nodes.Lists.places_between.Goals as goal
-
-pub place_from-high-requires : goal.place_from-high-requires
-place_from-high-requires c =
-    let nodes : List Node = c.args.self.now in
-    let from : Cut = c.args.from.now in
-    let to : Cut = c.args.to.now in
-    record {
-      low = subst (LiesFrom nodes to) (sym c.index_of.ensures)
-          (goes_from nodes (subst IsSorted c.self.view_is c.self.invariant.sorted) from to c.requires.order c.place_of-low.result
-          c.place_of-low.ensures);
-    }
 
 pub returns-clause-keys : goal.returns-clause-keys
 returns-clause-keys c =
@@ -22,9 +11,9 @@ returns-clause-keys c =
     let from : Cut = c.args.from.now in
     let to : Cut = c.args.to.now in
     let low : Result ℕ ℕ = c.place_of-low.result in
-    let high : Result ℕ ℕ = c.place_from-high.result in
+    let high : Result ℕ ℕ = c.place_of-high.result in
     let found = places_found nodes (subst IsSorted c.self.view_is c.self.invariant.sorted) from to c.requires.order low high
-    c.place_of-low.ensures c.place_from-high.ensures in
+    c.place_of-low.ensures c.place_of-high.ensures in
     let start : c.key_above.result ≡ key_above low from = c.key_above.ensures ∙
     ap (key_above low) c.cut.ensures in
     let end : c.key_above-2.result ≡ key_above high to = c.key_above-2.ensures ∙
@@ -38,9 +27,9 @@ returns-clause-gaps c =
     let from : Cut = c.args.from.now in
     let to : Cut = c.args.to.now in
     let low : Result ℕ ℕ = c.place_of-low.result in
-    let high : Result ℕ ℕ = c.place_from-high.result in
+    let high : Result ℕ ℕ = c.place_of-high.result in
     let found = places_found nodes (subst IsSorted c.self.view_is c.self.invariant.sorted) from to c.requires.order low high
-    c.place_of-low.ensures c.place_from-high.ensures in
-    subst (λ (i : ℕ). HoldsGapsOn nodes (between from to) i c.index_of-2.result)
+    c.place_of-low.ensures c.place_of-high.ensures in
+    subst (λ (i : ℕ). HoldsGapsOn nodes (between from to) i c.index_of.result)
     (sym c.first_gap.ensures)
-    (subst (HoldsGapsOn nodes (between from to) (first_gap low)) (sym c.index_of-2.ensures) found.1)
+    (subst (HoldsGapsOn nodes (between from to) (first_gap low)) (sym c.index_of.ensures) found.1)

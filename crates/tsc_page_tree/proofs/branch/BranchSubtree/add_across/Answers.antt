@@ -17,7 +17,7 @@ use Rattle.tsc_page_nodes.proofs.CutOrder.{Lt}
 use Rattle.tsc_page_tree.proofs.Lazy.{lazy-start}
 use Rattle.tsc_page_tree.proofs.TreeAcross.{across_lazy, told_across_low, told_across_high}
 use Rattle.tsc_page_tree.proofs.Wholes.{branch_whole, branch_subtrees, told_as}
-use Rattle.tsc_page_tree.proofs.branch.BranchSubtree.raise_across.Goals as goal
+use Rattle.tsc_page_tree.proofs.branch.BranchSubtree.add_across.Goals as goal
 
 pub raise_two-made-requires-clause-low : goal.raise_two-made-requires-clause-low
 raise_two-made-requires-clause-low g c =

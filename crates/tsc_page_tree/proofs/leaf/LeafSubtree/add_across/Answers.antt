@@ -6,7 +6,7 @@ use Rattle.tsc_page_tree.specs.Leaves.{start_of}
 use Rattle.tsc_page_tree.specs.Trees.{leaf_nodes}
 use Rattle.tsc_page_tree.specs.Across.{IsAcrossTold}
 use Rattle.tsc_page_tree.proofs.EndLeaves.{known_across}
-use Rattle.tsc_page_tree.proofs.leaf.LeafSubtree.raise_across.Goals as goal
+use Rattle.tsc_page_tree.proofs.leaf.LeafSubtree.add_across.Goals as goal
 
 pub returns-then-raise_known-clause-told : goal.returns-then-raise_known-clause-told
 returns-then-raise_known-clause-told c =

@@ -1,7 +1,7 @@
--- Proves the loop invariants of `subtree_at`. The place of the subtree in which a cut falls.
+-- Proves the loop invariants of `search`. The place of the subtree in which a cut falls.
 use Rattle.std.proofs.Common.{◌≤◌, ◌-◌, map}
 use Rattle.tsc_page_tree.specs.Leaves.{IsNotAbove}
-use Rattle.tsc_page_tree.proofs.subtrees.subtree_at.Given as goal
+use Rattle.tsc_page_tree.proofs.subtrees.search.Given as goal
 
 -- the subtree before the next one doesn't begin above the cut
 abbrev pub invariant-loop-next : goal.invariant-loop-next

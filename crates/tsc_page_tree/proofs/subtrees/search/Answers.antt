@@ -3,7 +3,7 @@ use Rattle.std.proofs.Common.{◌∙◌, sym, ap}
 use Rattle.tsc_span.specs.Span.{is_below}
 use Rattle.tsc_page_tree.specs.Leaves.{start_of}
 use Rattle.tsc_page_tree.proofs.SubtreeLoops.{falls_before_next}
-use Rattle.tsc_page_tree.proofs.subtrees.subtree_at.Goals as goal
+use Rattle.tsc_page_tree.proofs.subtrees.search.Goals as goal
 
 pub returns-then-starts_above : goal.returns-then-starts_above
 returns-then-starts_above g c =
