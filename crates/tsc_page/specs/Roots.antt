@@ -24,7 +24,7 @@ two_sizes = branch_sizes leaf_sizes
 abbrev pub IsWholeTwo : Branch Leaf → Type 0
 IsWholeTwo = IsWholeBranch leaf_nodes leaf_sizes IsWholeLeaf
 
--- branches of these
+-- branches of branches of leaves
 abbrev pub three_nodes : Branch (Branch Leaf) → List Node
 three_nodes = branch_nodes two_nodes
 
@@ -102,7 +102,7 @@ abbrev pub IsInsertionOf : Interval → OwnedTime → Option InsertionView → T
 IsInsertionOf span v (Some a) = (between a.from a.to ≡ span) × (a.value ≡ v)
 IsInsertionOf span v None = is_empty_span span ≡ true
 
--- What inserting makes of a tree, whose keys then cost no more than so many bytes.
+-- What inserting makes of a tree, whose keys then cost no more than `most` bytes.
 pub record Inserts (old new : TreeView) (a : InsertionView) (most : ℕ) : Type 0 where
   pub order : is_below a.from a.to ≡ true
   pub adds : AddsTo old.nodes new.nodes (between a.from a.to) a.value
@@ -120,14 +120,14 @@ IsInsertTold old new a most (Ok true) = Inserts old new a most
 IsInsertTold old new a most (Ok false) = IsFullFor old a most × (new ≡ old)
 IsInsertTold old new a most (Err e) = new ≡ old
 
--- what one tells that may leave all as it is where there is room too
+-- what a call tells that inserts, or may leave all as it is where there is room too
 abbrev pub IsTryTold : {E : Type 0} → (old new : TreeView) → InsertionView → ℕ →
     Result Bool E → Type 0
 IsTryTold old new a most (Ok true) = Inserts old new a most
 IsTryTold old new a most (Ok false) = new ≡ old
 IsTryTold old new a most (Err e) = new ≡ old
 
--- and what one tells that makes another tree
+-- what a call tells that makes another tree where there is room, and else none
 abbrev pub IsInsertedTold : {E : Type 0} → TreeView → InsertionView → ℕ →
     Result (Option TreeView) E → Type 0
 IsInsertedTold old a most (Ok (Some new)) = Inserts old new a most

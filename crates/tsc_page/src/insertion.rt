@@ -49,7 +49,7 @@ impl<'a> Model for Insertion<'a> {
 }
 
 impl<'a> Insertion<'a> {
-    /// That of a span and a value; `None` for the empty span.
+    /// The insertion of a span and a value; `None` for the empty span.
     pub(crate) fn new(span: &'a AddSpan<'a>, value: Value) -> Option<Insertion<'a>>
         ensures { IsInsertionOf span.now value result }
     {

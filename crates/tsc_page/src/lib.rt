@@ -17,11 +17,12 @@
 //! value is ratcheted into each key and each gap within the span. So a lookup joins the values of
 //! the keys and gaps that its span overlaps, however many spans were added there.
 //!
-//! It restates `sklPage` of CockroachDB's `pkg/kv/kvserver/tscache/interval_skl.go`, whose nodes
-//! stand in a skiplist: there `addNode` makes a node, `ratchetValueSet` raises its two values,
-//! `lookupTimestampRange` looks a span up, and `ratchetMaxTimestamp` raises the page's top.
+//! The crate restates `sklPage` of CockroachDB's `pkg/kv/kvserver/tscache/interval_skl.go`, whose
+//! nodes stand in a skiplist. In that file `addNode` makes a node, and `ratchetValueSet` raises its
+//! two values. `lookupTimestampRange` looks a span up, and `ratchetMaxTimestamp` raises the page's
+//! top.
 //!
-//! A [`PlainPage`] is the same thing as the list of what was added: slow, and easy to believe.
+//! A [`PlainPage`] is a page that keeps the list of what was added: slow, and easy to believe.
 #![tactic(auto)]
 
 mod branches;

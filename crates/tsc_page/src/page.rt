@@ -71,21 +71,24 @@ impl IntervalPage for Page {
     }
 
     /// Adds a span with its value. The span is not empty, and the page has room for it. Where
-    /// memory is refused the page is as before, and so are its leaves.
+    /// memory is refused the page and its leaves are as before.
     ///
-    /// It is made in place where the span lies in one leaf that would not come to have 65 nodes, or
-    /// both its end keys have nodes and no copy of the page shares the way to the leaves in which
-    /// it starts and stops. That costs a search in each subtree on the way and one for each end
-    /// key, a copy of each end key that is new to the page, a move of a leaf's nodes above a new
-    /// one, and a step for each node within the span in the leaves in which it starts and stops,
-    /// and for each subtree between these. Each list on the way and the leaf are copied first where
-    /// a copy of the page shares them, and so is a leaf's list of keys that gets a new one. Where
-    /// none does, a span whose end keys the page holds already takes no memory. Lazy values on the
-    /// way are ratcheted into the subtrees below, but for a single key, which needs one search on
-    /// each level and leaves them. Any other Add copies the list at the top and the way to each
-    /// leaf that it changes; a leaf that comes to have 65 nodes is cut into its first 32 and its
-    /// last 33, and so is a branch of 65 subtrees. Where there may be no room for both end keys,
-    /// each is searched for once more.
+    /// The Add is made in place where the span lies in one leaf that would not come to have 65
+    /// nodes. It is made in place too where both end keys have nodes and no copy of the page shares
+    /// the way to the leaves at the span's ends.
+    ///
+    /// An Add in place costs a search in each subtree on the way and one for each end key. Each end
+    /// key that is new to the page is copied, and a leaf's nodes above it move. A step is taken for
+    /// each node within the span in the leaves at its ends, and for each subtree between these.
+    /// Each list on the way and the leaf are copied first where a copy of the page shares them. If
+    /// the leaf gets a new key, its list of keys is copied too. Where no copy shares any of these,
+    /// a span whose end keys the page holds already takes no memory. Lazy values on the way are
+    /// ratcheted into the subtrees below, but for a single key, which needs one search on each
+    /// level and leaves them.
+    ///
+    /// Any other Add copies the list at the top and the way to each leaf that it changes. A leaf
+    /// that comes to have 65 nodes is cut into its first 32 and its last 33, as is a branch of 65
+    /// subtrees. Where there may be no room for both end keys, each is searched for once more.
     fn add(&mut self, span: &Span, value: Value) -> Result<(), NoMemory> {
         self.try_add(span, value)?;
         Ok(())
@@ -97,10 +100,10 @@ impl IntervalPage for Page {
     }
 
     /// The joint value of time zero without an owner and of all that was added and overlaps the
-    /// span. It costs a search in each subtree on the way to the leaves in which the span starts
-    /// and stops, a step for each node within it there, and one for each subtree between these. A
+    /// span. It costs a search in each subtree on the way to the leaves at the span's ends. A step
+    /// is taken for each node within the span there, and for each subtree between these leaves. A
     /// search compares keys by their first twenty-four bytes, and reads what is behind these only
-    /// where they are the same.
+    /// where these are equal.
     fn lookup(&self, span: &Span) -> Value {
         self.lookup_ref(&span.borrowed())
     }
@@ -128,8 +131,8 @@ impl Page {
     /// The page with one more span and its value, where it has room for that; `None` where it has
     /// not. The span is not empty, and this page stays as it is.
     ///
-    /// It is for a page that others go on to read: it copies the list at the top and the way to
-    /// each leaf that changes, shares all else, and never tries to add in place.
+    /// The call is for a page that others go on to read, and never tries to add in place. It copies
+    /// the list at the top and the way to each leaf that changes, and shares all else.
     pub fn added(&self, span: &Span, value: Value) -> Result<Option<Page>, NoMemory>
         requires not_empty { is_empty_span span.now ≡ false }
         ensures told { TellsMade self.now (record { span = span.now; value = value }) result }
@@ -175,8 +178,8 @@ impl Page {
     /// Adds a value at a single key in place, where its way in the tree allows that and there is
     /// room, and says whether it did. Else the page stays as it is, and where memory is refused.
     ///
-    /// It costs one search on each level. A key that the page holds is neither copied nor takes
-    /// memory, unless a copy of the page shares the way to it; a new one is copied once.
+    /// The Add costs one search on each level. A key that the page holds is neither copied nor
+    /// takes memory, unless a copy of the page shares the way to it; a new one is copied once.
     pub fn add_key(&mut self, key: &KeyRef<'_>, value: Value) -> Result<bool, NoMemory>
         ensures room { IfOk result
             (λ done. done ≡ true → has_room_for self.old (point key.now) ≡ true) }
@@ -213,11 +216,11 @@ impl Page {
     /// before it; `None` where none does. With the place right after it as the next cut, the page
     /// tells its end keys one after another in their order.
     ///
-    /// It costs a search in each subtree on the way to a leaf, and where the cut lies above all
-    /// keys of that leaf one more in the subtrees next to those. It takes no memory, and copies no
-    /// key.
+    /// The call costs a search in each subtree on the way to a leaf. Where the cut lies above all
+    /// keys of that leaf, it costs one more in the subtrees next to those. It takes no memory, and
+    /// copies no key.
     ///
-    /// It restates how `sklPage`'s skiplist is gone over from a key on, in CockroachDB's
+    /// The call restates how `sklPage`'s skiplist is gone over from a key on, in CockroachDB's
     /// `pkg/kv/kvserver/tscache/interval_skl.go`.
     pub fn key_above(&self, cut: Cut<'_>) -> Option<&Key>
         ensures value { IsLeastAbove (cut_of cut.entry) self.now.keys
@@ -229,8 +232,8 @@ impl Page {
     }
 
     /// How many nodes a leaf has, from the first one in the order of keys on; `None` past the last.
-    /// A page keeps its nodes in leaves, each of 1 to 64, and copies of a page share those that are
-    /// the same.
+    /// A page keeps its nodes in leaves, each of 1 to 64, and copies of a page share the leaves in
+    /// which they don't differ.
     pub fn leaf_nodes(&self, i: u32) -> Option<u32>
         ensures value { result ≡ slice_get self.now.leaves i }
         ensures sizes { AreLeafSizes self.now.leaves }

@@ -197,7 +197,7 @@ fn count_keys(marks: &[PlainMark]) -> usize
     count
 }
 
-/// What they cost together.
+/// What the keys of marks cost together.
 fn cost_keys(marks: &[PlainMark]) -> u32
     requires { cost_distinct (marked_keys marks.now) ≤ most_size }
     ensures { result ≡ cost_distinct (marked_keys marks.now) }

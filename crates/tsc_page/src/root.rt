@@ -109,7 +109,7 @@ impl Root {
         }
     }
 
-    /// The same root once more, which shares all below the list.
+    /// A copy of the root, which has a list of its own and shares all below that.
     pub(crate) fn try_copy(&self) -> Result<Root, NoMemory>
         ensures { IfOk result (λ copy. IsSameAs root_nodes root_sizes IsWholeRoot self.now copy) }
     {
@@ -218,9 +218,9 @@ impl Root {
         }
     }
 
-    /// Does the same as [`add_key`](Root::add_key), for a caller that has a key and no
-    /// [`Insertion`]. The body stands here once more, so that either is compiled into the one call
-    /// that it has, which takes a tenth off an Add of a known key.
+    /// Adds as [`add_key`](Root::add_key) does, for a caller that has a key and no [`Insertion`].
+    /// The body stands here once more, so that either is compiled into the one call that it has,
+    /// which takes a tenth off an Add of a known key.
     pub(crate) fn add_borrowed_key(
         &mut self,
         add: &KeyInsertion<'_>,

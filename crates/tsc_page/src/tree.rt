@@ -142,7 +142,7 @@ impl Tree {
         self.root.key_above(&PrefixedCut::new(cut))
     }
 
-    /// The same tree once more, which shares all below the root.
+    /// A copy of the tree, which shares all below the root.
     pub(crate) fn try_copy(&self) -> Result<Tree, NoMemory>
         ensures { IfOk result (λ copy. copy ≡ self.now) }
     {
@@ -192,7 +192,7 @@ impl Tree {
         Ok(Some(Tree { root, count, bytes }))
     }
 
-    /// The same in place, as [`Root::insert`] tells, where there is room. Says whether it did; else
+    /// Inserts in place, as [`Root::insert`] tells, where there is room. Says whether it did; else
     /// nothing changes, nor where memory is refused.
     fn insert_in_place(&mut self, add: &Insertion<'_>, most: u32) -> Result<bool, NoMemory>
         requires within { self.old.bytes ≤ most }

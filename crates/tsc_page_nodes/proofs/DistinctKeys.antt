@@ -1,4 +1,4 @@
--- What the different keys of a list weigh, and so how many they are, depends only on which keys are
+-- What the different keys of a list weigh, and how many there are, depends only on which keys are
 -- in it.
 use Rattle.std.proofs.Common.{◌≡◌, ◌∙◌, refl, sym, ap, ℕ, suc, ◌+◌, ◌*◌, ◌≤◌, Bool, true, false, ◌||◌, cond, ◌⊎◌, inl, inr, List, [], ◌∷◌, ◌++◌, length, arith}
 use Rattle.std.specs.List.{sum_by}

@@ -20,7 +20,7 @@ pub record InsertionView : Type 0 where
   pub to : Cut
   pub value : OwnedTime
 
--- the same for nodes before those that begin at the second key
+-- what is added without its second key, for nodes before those that begin at that key
 abbrev pub before_second : InsertionView → InsertionView
 before_second a = record {
   first = a.first;
@@ -30,7 +30,7 @@ before_second a = record {
   value = a.value;
 }
 
--- the cuts are in order, and so are the keys, which lie at them
+-- the cuts are in order, as are the keys, which lie at them
 abbrev pub IsInsertionView : InsertionView → Type 0
 IsInsertionView a = (is_below a.from a.to ≡ true) × LiesAt a.first a.from × LiesAt a.second a.to ×
     IsInOrder a.first a.second
@@ -73,7 +73,7 @@ pub record AreReady (nodes : List Node) (lower upper : Option (ℕ × KeyBytes))
   pub first : FitsIn (with_new nodes upper) lower
   pub sorted : IsSorted (with_new (with_new nodes upper) lower)
 
--- Two lists with room for so many more.
+-- Two lists, each with room for `more` items more.
 pub record HaveRoom {K V Z : Type 0} (keys : Vec K Z) (values : Vec V Z) (more : ℕ) : Type 0 where
   pub key_room : vec_len keys + more ≤ vec_capacity keys
   pub value_room : vec_len values + more ≤ vec_capacity values

@@ -19,7 +19,7 @@ pub record AddsAtKey (old new : List Node) (a : KeyInsertionView) (room more : G
   pub grown : GrowsBy old new more
   pub within : (more.nodes ≤ room.nodes) × (more.bytes ≤ room.bytes)
 
--- what a call tells that does so, or leaves all as it is
+-- what a call tells that adds at a key, or leaves all as it is
 abbrev pub IsKeyTold : {E : Type 0} → (old new : List Node) → KeyInsertionView → Growth →
     Result (Option Growth) E → Type 0
 IsKeyTold old new a room (Ok (Some more)) = AddsAtKey old new a room more

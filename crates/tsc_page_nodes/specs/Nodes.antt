@@ -253,7 +253,7 @@ new_cost lower upper = found_cost lower + found_cost upper
 abbrev pub nodes_cost : List Node → ℕ
 nodes_cost nodes = cost_of (node_keys nodes)
 
--- Nodes that are more by so many, and cost so much more.
+-- Nodes that are `more.nodes` more than the old ones, with keys that cost `more.bytes` more.
 pub record GrowsBy (old new : List Node) (more : Growth) : Type 0 where
   pub count : length new ≡ length old + more.nodes
   pub cost : nodes_cost new ≡ nodes_cost old + more.bytes

@@ -22,7 +22,8 @@ abbrev pub AreLeafSizes : List ℕ → Type 0
 AreLeafSizes [] = Unit {0}
 AreLeafSizes (n ∷ ns) = (1 ≤ n) × (n ≤ 64) × AreLeafSizes ns
 
--- what a page answers to a span: the joint value of those that overlap it, above time zero
+-- what a page answers to a span: the joint value of the page's spans that overlap it, above time
+-- zero
 abbrev pub answer : PageView → Interval → OwnedTime
 answer v span = joint_above zero_time (values_on span v.spans)
 

@@ -53,7 +53,7 @@ impl<'a> Model for PrefixedInsertion<'a> {
 }
 
 impl<'a> PrefixedInsertion<'a> {
-    /// The same for nodes before those that begin at the second key.
+    /// What is added without its second key, for nodes before those that begin at that key.
     pub fn before_second(&self) -> PrefixedInsertion<'a>
         ensures { result ≡ before_second self.now }
     {
@@ -96,21 +96,21 @@ impl<'a> SearchKey<'a> {
         }
     }
 
-    /// Its bytes with their prefix.
+    /// The bytes of the key, with their prefix.
     pub(crate) fn bytes(&self) -> &PrefixedBytes<'a>
         ensures { result.now ≡ self.now }
     {
         &self.bytes
     }
 
-    /// The place right before it.
+    /// The place right before the key.
     pub fn at(&self) -> &PrefixedCut<'a>
         ensures { result.now ≡ before self.now }
     {
         &self.at
     }
 
-    /// The place right after it.
+    /// The place right after the key.
     pub fn past(&self) -> PrefixedCut<'a>
         ensures { result ≡ after self.now }
     {

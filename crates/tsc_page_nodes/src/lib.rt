@@ -7,10 +7,11 @@
 //! cut beside the prefix that the first bytes of its key make, so that most keys are compared by
 //! prefixes.
 //!
-//! It restates, of CockroachDB's `pkg/kv/kvserver/tscache/interval_skl.go`, what a `sklPage` does
-//! with the nodes of its skiplist: `addNode` makes a node, with the value of the gap in which it
-//! falls, `ratchetValueSet` raises its two values, and `visitRange` goes over those that a span
-//! meets. The page itself is `Page` of `tsc_page`, which keeps such nodes in leaves.
+//! The crate restates what a `sklPage` does with the nodes of its skiplist, in CockroachDB's
+//! `pkg/kv/kvserver/tscache/interval_skl.go`. There `addNode` makes a node, with the value of the
+//! gap in which it falls. `ratchetValueSet` raises the node's two values, and `visitRange` goes
+//! over the nodes that a span meets. The page itself is `Page` of `tsc_page`, which keeps such
+//! nodes in leaves.
 #![tactic(auto)]
 
 mod insertion;

@@ -1,34 +1,31 @@
-ghost use Rattle.std.specs.Prelude.{◌≡◌, ℕ, ◌<◌, ◌≤◌, [], ◌∷◌, ◌↔◌, length, take, drop, true, false, IsTrue, Some, None, IsOk, IfOk, OnOk, OnErr, IfSome, is_some, ◌+◌, option_map, if◌then◌else◌};
-ghost use Rattle.std.specs.Vec.{vec_len, vec_capacity};
+ghost use Rattle.std.specs.Prelude.{◌≡◌, ◌≤◌, [], ◌∷◌, length, take, drop, true, Some, None, IsOk, IfOk, OnOk, option_map};
 ghost use Rattle.std.specs.Arc.{arc_value};
 ghost use Rattle.tsc_time.specs.Time.{zero_time};
 ghost use Rattle.tsc_time.specs.OwnedTime.{unowned};
-ghost use Rattle.tsc_time.specs.Joint.{joint};
 ghost use Rattle.tsc_span.specs.Span.{is_below, between, point};
-ghost use Rattle.tsc_span.specs.Cuts.{cut_of};
 ghost use Rattle.tsc_page_nodes.specs.Prefixes.{IsCutPrefix};
-ghost use Rattle.tsc_page_nodes.specs.PageView.{is_new_among};
 ghost use Rattle.tsc_page_nodes.specs.KeyAdds.{IsKeyTold};
-ghost use Rattle.tsc_page_nodes.specs.Insertions.{IsTold, IsBothTold, AreReady, HaveRoom};
+ghost use Rattle.tsc_page_nodes.specs.Insertions.{IsTold, IsBothTold};
 ghost use Rattle.tsc_page_nodes.specs.KeysAbove.{first_above};
-ghost use Rattle.tsc_page_nodes.specs.Nodes.{paired, IsSorted, FitsAt, FallsAt, IsFoundAt, IsPlaceOf, IsPlaceTold, BothStandWhereTold, HasKeysBelow, StandsAt, index_of, key_above, first_gap, IsNewKey, FitsIn, with_new, IsInOrder, HasNodes, MakesNodes, new_count, found_cost, new_cost, HoldsKeysOn, HoldsGapsOn, node_keys, answer_of, raise_nodes, node_in_gap, gap_value, next_cut, node_stretches};
+ghost use Rattle.tsc_page_nodes.specs.Nodes.{paired, FallsAt, IsFoundAt, BothStandWhereTold, IsNewKey, FitsIn, with_new, IsInOrder, HasNodes, MakesNodes, new_count, node_keys, answer_of, raise_nodes, node_in_gap, next_cut, node_stretches};
+
+mod changes;
+mod lists;
+mod new_keys;
 
 use crate::insertion::{KeyInsertion, PrefixedInsertion, SearchKey};
+use crate::nodes::changes::{insert, insert_between, own_keys, raise_values, reserve, split};
+use crate::nodes::lists::Lists;
+use crate::nodes::new_keys::{NewKeys, moved};
 use crate::prefix::{KeyPrefix, PrefixedBytes, PrefixedCut, PrefixedKey};
-use crate::prefix_search::lesser_prefixes;
 use std::alloc::{AllocError, Global};
-use std::cmp::Ordering;
 use std::marker::Model;
-use std::ops::Range;
 use std::sync::Arc;
-use tsc_span::{Cut, Key, KeyRef};
+use tsc_span::{Key, KeyRef};
 use tsc_time::{NoMemory, Timestamp, Value};
 
 /// How many nodes of a leaf that is cut stay in it.
 const LOWER_HALF: usize = 32;
-
-/// How far the keys stand from one another that a search looks at first.
-const STRIDE: usize = 8;
 
 /// How much nodes grow: how many come in, and what their keys cost together.
 #[derive(Clone, Copy, Debug)]
@@ -103,7 +100,7 @@ impl Nodes {
     }
 
     /// Whether a cut lies below where the nodes begin, which where there are none is the last cut.
-    /// It compares prefixes, and bytes only where these are the same.
+    /// The test compares prefixes, and bytes only where two prefixes are equal.
     pub fn starts_above(&self, cut: &PrefixedCut<'_>) -> bool
         ensures { result ≡ is_below cut.now (next_cut (node_stretches self.now)) }
     {
@@ -197,8 +194,8 @@ impl Nodes {
         self.raise_hinted(from, to, (None, None), value);
     }
 
-    /// The same, where the keys of the cuts may stand at places that are told: a look at such a
-    /// place takes the place of a search.
+    /// Ratchets a value as `raise_between` does, where the keys of the cuts may stand at the places
+    /// of `hint`. For a key that does, a look at its place replaces the search.
     pub fn raise_hinted(
         &mut self,
         from: &PrefixedCut<'_>,
@@ -311,9 +308,10 @@ impl Nodes {
         Ok(Some(made))
     }
 
-    /// The same over two lists of nodes, of which one stands behind the other, with a part of what
-    /// is added for each. Each gets a node more at the most. It asks for all memory before the
-    /// first change; where others hold the upper list of keys too, nothing changes either.
+    /// Adds to two lists of nodes as `insert_in_place` does to one: `starts` to `low`, and `stops`
+    /// to `high`, which stands behind it. Each gets a node more at the most. All memory is asked
+    /// for before the first change; where others hold the keys of `high` too, nothing changes
+    /// either.
     pub fn insert_across(
         low: &mut Nodes,
         high: &mut Nodes,
@@ -368,7 +366,7 @@ impl Nodes {
         }
     }
 
-    /// The same for a new key, by the place for it.
+    /// Adds a value at a new key as `add_key` does, by the place for the key.
     fn insert_key(
         &mut self,
         place: usize,
@@ -423,405 +421,5 @@ impl Clone for Nodes {
             keys: Arc::try_clone(&self.keys)?,
             values,
         })
-    }
-}
-
-/// Nodes to be read, as the list of their keys and that of their values.
-#[derive(Drop)]
-struct Lists<'a> {
-    keys: &'a [PrefixedKey],
-    values: &'a [Values],
-}
-
-impl<'a> Model for Lists<'a> {
-    ghost use Rattle.std.specs.Prelude.{List};
-    ghost use Rattle.tsc_page_nodes.specs.Nodes.{Node, ArePaired, paired};
-
-    ghost Value = { List Node };
-
-    ghost view = { λ l. paired l.keys.now l.values.now };
-
-    ghost invariant = { λ l. ArePaired l.keys.now l.values.now };
-}
-
-impl<'a> Lists<'a> {
-    /// Where a key stands, or else the place for it: where a hint tells, or by a search. This looks
-    /// at every eighth key, and from the last of these that isn't above on at one after another.
-    fn find(&self, key: &PrefixedBytes<'_>) -> Result<usize, usize>
-        ensures { IsFoundAt self.now key.now result }
-    {
-        match lesser_prefixes(self.keys, &key.prefix()) {
-            Some(hint) if self.stands_at(hint, key) => Ok(hint),
-            Some(hint) if self.keys_below(hint, key) && self.keys_above(hint, key) => Err(hint),
-            _ => self.find_from(self.stride_before(key), key),
-        }
-    }
-
-    /// Whether all keys before a place lie below a key, by a look at the last of them.
-    fn keys_below(&self, place: usize, key: &PrefixedBytes<'_>) -> bool
-        ensures { IsTrue result → HasKeysBelow self.now key.now place }
-    {
-        let Some(before) = place.checked_sub(1) else {
-            return true
-        };
-        match self.keys.get(before) {
-            Some(other) => key.compare(other).is_lt(),
-            None => false,
-        }
-    }
-
-    /// Whether all keys from a place on lie above a key, by a look at the first of them.
-    fn keys_above(&self, place: usize, key: &PrefixedBytes<'_>) -> bool
-        ensures { IsTrue result → HasKeysBelow self.now key.now place →
-            FallsAt self.now key.now place }
-    {
-        match self.keys.get(place) {
-            Some(other) => key.compare(other).is_gt(),
-            None => true,
-        }
-    }
-
-    /// The last of every eighth place, from the first one on, before which all keys lie below a
-    /// key.
-    fn stride_before(&self, key: &PrefixedBytes<'_>) -> usize
-        ensures { HasKeysBelow self.now key.now result }
-    {
-        let mut low = 0;
-        let mut place = STRIDE;
-        while place < self.keys.len() {
-            if key.compare(&self.keys[place]).is_le() {
-                low = place;
-            }
-            place += STRIDE;
-        }
-        low
-    }
-
-    /// The same as `find`, by a look at one key after another from a place on, before which all are
-    /// below.
-    fn find_from(&self, place: usize, key: &PrefixedBytes<'_>) -> Result<usize, usize>
-        requires low { HasKeysBelow self.now key.now place }
-        ensures { IsFoundAt self.now key.now result }
-    {
-        for i in place..self.keys.len() {
-            match key.compare(&self.keys[i]) {
-                Ordering::Less => {}
-                Ordering::Equal => return Ok(i),
-                Ordering::Greater => return Err(i),
-            }
-        }
-        Err(self.keys.len())
-    }
-
-    /// Whether a key stands at a place.
-    fn stands_at(&self, place: usize, key: &PrefixedBytes<'_>) -> bool
-        ensures { IsTrue result ↔ StandsAt self.now key.now place }
-    {
-        match self.keys.get(place) {
-            Some(other) => key.compare(other).is_eq(),
-            None => false,
-        }
-    }
-
-    /// Where a cut lies: where its key does, or behind all. The key may stand at a place that is
-    /// told.
-    fn place_of(&self, cut: &PrefixedCut<'_>, hint: Option<usize>) -> Result<usize, usize>
-        ensures { IsPlaceOf self.now cut.now result }
-    {
-        let Some(key) = cut.key() else {
-            return Err(self.keys.len())
-        };
-        match hint {
-            Some(place) if self.stands_at(place, &key) => Ok(place),
-            _ => self.find(&key),
-        }
-    }
-
-    /// The place of the first key above a cut, by where the cut lies.
-    fn key_above(&self, place: Result<usize, usize>, cut: Cut<'_>) -> usize
-        requires { IsPlaceOf self.now (cut_of cut) place }
-        ensures { result ≡ key_above place (cut_of cut.entry) }
-    {
-        match (place, cut) {
-            (Ok(at), Cut::After(_)) => {
-                prove!(at < self.keys.len());
-                at + 1
-            }
-            _ => index_of(place),
-        }
-    }
-
-    /// The places of the nodes whose keys lie between two cuts, and of those whose gaps overlap
-    /// what does. The keys of the cuts may stand at places that are told; else they are searched
-    /// for.
-    fn places_between(
-        &self,
-        from: &PrefixedCut<'_>,
-        to: &PrefixedCut<'_>,
-        hint: (Option<usize>, Option<usize>),
-    ) -> (Range<usize>, Range<usize>)
-        requires order { is_below from.now to.now ≡ true }
-        ensures keys { HoldsKeysOn self.now (between from.now to.now) result.0.start result.0.end }
-        ensures gaps { HoldsGapsOn self.now (between from.now to.now) result.1.start result.1.end }
-    {
-        // A field is read so that the proof has the invariant: the keys are in order.
-        let _keys = self.keys;
-        let low = self.place_of(from, hint.0);
-        let high = self.place_of(to, hint.1);
-        let keys = self.key_above(low, from.cut())..self.key_above(high, to.cut());
-        (keys, first_gap(low)..index_of(high))
-    }
-
-    /// The place of a key or for it, and where it has no node a copy with that place. For any other
-    /// key it takes no memory.
-    fn new_key(
-        &self,
-        alloc: Global,
-        key: Option<&KeyRef<'_>>,
-    ) -> Result<(Option<usize>, Option<(usize, PrefixedKey)>), NoMemory>
-        ensures value { IfOk result
-            (λ found. IsNewKey self.now (option_map (λ k. k.now) key.entry) found.1) }
-        ensures memory { is_new_among (node_keys self.now) (option_map (λ k. k.now) key.entry) ≡
-            false → IsOk result }
-        ensures place { IfOk result
-            (λ found. IsPlaceTold self.now (option_map (λ k. k.now) key.entry) found.1 found.0) }
-    {
-        // A field is read so that the proof has the invariant: the keys are in order.
-        let _keys = self.keys;
-        let Some(key) = key else {
-            return Ok((None, None))
-        };
-        match self.find(&PrefixedBytes::new(key.bytes())) {
-            Ok(place) => Ok((Some(place), None)),
-            Err(place) => {
-                let copy = PrefixedKey::copy_of(alloc, key)?;
-                Ok((Some(place), Some((place, copy))))
-            }
-        }
-    }
-}
-
-/// Puts a copy in the place of a list of keys that others hold too.
-fn own_keys(keys: &mut Arc<Vec<PrefixedKey>>) -> Result<(), NoMemory>
-    ensures { (arc_value keys.new).items ≡ (arc_value keys.old).items }
-{
-    if Arc::strong_count(keys) > 1 {
-        let alloc = *keys.allocator();
-        *keys = Arc::new(alloc, copy_of_keys(keys)?)?;
-    }
-    Ok(())
-}
-
-/// A copy of a list of keys, with room for two more. It shares the keys themselves.
-fn copy_of_keys(keys: &Vec<PrefixedKey>) -> Result<Vec<PrefixedKey>, NoMemory>
-    ensures { IfOk result (λ copy. copy.items ≡ keys.now.items) }
-{
-    let mut copy = Vec::with_capacity(*keys.allocator(), keys.len() + 2)?;
-    for key in keys {
-        copy.push(key.clone()?)?;
-    }
-    Ok(copy)
-}
-
-/// Makes room for nodes of new keys. Where memory is refused there are as many as before, and the
-/// list of values has not grown. Where there are no new keys no memory is asked for.
-fn reserve(
-    keys: &mut Vec<PrefixedKey>,
-    values: &mut Vec<Values>,
-    new: &NewKeys,
-) -> Result<(), NoMemory>
-    ensures keys { keys.new.items ≡ keys.old.items }
-    ensures values { values.new.items ≡ values.old.items }
-    ensures key_room { OnOk result
-        (vec_len keys.new + (new_count new.now.first new.now.second) ≤ vec_capacity keys.new) }
-    ensures value_room { OnOk result
-        (vec_len values.new + (new_count new.now.first new.now.second) ≤ vec_capacity values.new) }
-    ensures capacity { OnErr result (vec_capacity values.new ≡ vec_capacity values.old) }
-    ensures memory { new_count new.now.first new.now.second ≡ 0 → IsOk result }
-{
-    let new = new.len();
-    if new == 0 {
-        return Ok(());
-    }
-    keys.reserve(new)?;
-    Ok(values.reserve(new)?)
-}
-
-/// Makes a node of a new key, with the value of the gap in which it falls, or time zero without an
-/// owner below the first node. It takes no memory.
-fn split(keys: &mut Vec<PrefixedKey>, values: &mut Vec<Values>, new: Option<(usize, PrefixedKey)>)
-    requires same { length keys.old.items ≡ length values.old.items }
-    requires fits { FitsIn (paired keys.old.items values.old.items) new }
-    requires room { HaveRoom keys.old values.old (if is_some new then 1 else 0) }
-    ensures same { length keys.new.items ≡ length values.new.items }
-    ensures inserted { paired keys.new.items values.new.items ≡
-        with_new (paired keys.old.items values.old.items) new }
-    ensures room { (more : ℕ) → HaveRoom keys.old values.old (more + (if is_some new then 1 else 0))
-        → HaveRoom keys.new values.new more }
-{
-    let Some((place, key)) = new else { return };
-    let value = match place.checked_sub(1) {
-        Some(before) => values[before].gap,
-        None => Value::unowned(Timestamp::ZERO),
-    };
-    keys.insert(place, key).ok();
-    values.insert(place, Values { value, gap: value }).ok();
-}
-
-/// Ratchets a value into the keys and gaps between two cuts, whose keys may stand at places that
-/// are told.
-fn raise_values(
-    keys: &[PrefixedKey],
-    values: &mut Vec<Values>,
-    from: &PrefixedCut<'_>,
-    to: &PrefixedCut<'_>,
-    hint: (Option<usize>, Option<usize>),
-    value: Value,
-)
-    requires same { length keys.now ≡ length values.old.items }
-    requires sorted { IsSorted (paired keys.now values.old.items) }
-    requires order { is_below from.now to.now ≡ true }
-    ensures same { length keys.now ≡ length values.new.items }
-    ensures raised { paired keys.now values.new.items ≡ raise_nodes (between from.now to.now) value
-        (paired keys.now values.old.items) }
-{
-    let lists = Lists {
-        keys,
-        values: values.as_slice(),
-    };
-    let (raised_keys, raised_gaps) = lists.places_between(from, to, hint);
-    for place in raised_keys {
-        values[place].value.raise(&value);
-    }
-    for place in raised_gaps {
-        values[place].gap.raise(&value);
-    }
-}
-
-/// Makes nodes of new keys, of which the first is the smaller, and ratchets the value into the keys
-/// and gaps between the cuts. It takes no memory. It costs a move of what stands above each new
-/// node, and a step for each node between the cuts. A cut is searched for only where its key
-/// doesn't stand at the place that `new_keys` found.
-fn insert_between(
-    keys: &mut Vec<PrefixedKey>,
-    values: &mut Vec<Values>,
-    new: NewKeys,
-    add: &PrefixedInsertion<'_>,
-)
-    requires same { length keys.old.items ≡ length values.old.items }
-    requires ready { AreReady (paired keys.old.items values.old.items) new.first new.second }
-    requires room { HaveRoom keys.old values.old (new_count new.first new.second) }
-    ensures same { length keys.new.items ≡ length values.new.items }
-    ensures added { paired keys.new.items values.new.items ≡
-        raise_nodes (between add.now.from add.now.to) add.now.value
-        (with_new (with_new (paired keys.old.items values.old.items) new.second) new.first) }
-{
-    split(keys, values, new.second);
-    split(keys, values, new.first);
-    raise_values(
-        keys.as_slice(),
-        values,
-        add.from,
-        add.to,
-        new.hint,
-        add.value,
-    );
-}
-
-/// Makes a node of a new key at a place, and ratchets the value into it. Where memory is refused
-/// nothing changes.
-fn insert(
-    keys: &mut Vec<PrefixedKey>,
-    values: &mut Vec<Values>,
-    place: usize,
-    add: &KeyInsertion<'_>,
-) -> Result<(), NoMemory>
-    requires same { length keys.old.items ≡ length values.old.items }
-    requires sorted { IsSorted (paired keys.old.items values.old.items) }
-    requires falls { FallsAt (paired keys.old.items values.old.items) add.now.key place }
-    ensures same { length keys.new.items ≡ length values.new.items }
-    ensures added { OnOk result (paired keys.new.items values.new.items ≡
-        raise_nodes (point add.now.key) add.now.value
-        (with_new (paired keys.old.items values.old.items) (Some (place, add.now.key)))) }
-    ensures unchanged { OnErr result
-        (paired keys.new.items values.new.items ≡ paired keys.old.items values.old.items) }
-{
-    keys.reserve(1)?;
-    values.reserve(1)?;
-    let copy = add.copy_key(*keys.allocator())?;
-    split(keys, values, Some((place, copy)));
-    values[place].value.raise(&add.value());
-    Ok(())
-}
-
-/// A place, and where a node came in before it the next one.
-fn moved(place: Option<usize>, more: bool) -> Option<usize>
-    ensures none { place ≡ None → result ≡ None }
-    ensures moved { IfSome place (λ i. i < usize.MAX →
-        result ≡ Some (i + (if more then 1 else 0))) }
-{
-    Some(place?.saturating_add(usize::from(more)))
-}
-
-/// The place of a node at which a cut lies, or before which it does.
-fn index_of(place: Result<usize, usize>) -> usize
-    ensures { result ≡ index_of place }
-{
-    match place {
-        Ok(at) | Err(at) => at,
-    }
-}
-
-/// The place of the first gap that stops above a cut: a gap in which it lies is that of the node
-/// before.
-fn first_gap(place: Result<usize, usize>) -> usize
-    ensures { result ≡ first_gap place }
-{
-    match place {
-        Ok(at) => at,
-        Err(at) => at.saturating_sub(1),
-    }
-}
-
-/// Copies of up to two keys that have no node, of which the first is the smaller, with the places
-/// for them; and where both keys stand once they have nodes, as far as they are here.
-#[derive(Debug, Drop)]
-struct NewKeys {
-    /// The smaller key, with its place.
-    first: Option<(usize, PrefixedKey)>,
-    /// The greater key, with its place before the smaller one has a node.
-    second: Option<(usize, PrefixedKey)>,
-    /// Where both keys stand once they have nodes.
-    hint: (Option<usize>, Option<usize>),
-}
-
-impl NewKeys {
-    /// How many there are: up to two.
-    fn len(&self) -> usize
-        ensures { result ≡ new_count self.now.first self.now.second }
-    {
-        usize::from(self.first.is_some()) + usize::from(self.second.is_some())
-    }
-
-    /// How many there are, and what they cost together.
-    fn grown(&self) -> Growth
-        ensures nodes { result.nodes ≡ new_count self.now.first self.now.second }
-        ensures bytes { result.bytes ≡ new_cost self.now.first self.now.second }
-    {
-        Growth {
-            nodes: self.len(),
-            bytes: found_cost(&self.first) + found_cost(&self.second),
-        }
-    }
-}
-
-/// What a new key costs, where this is one.
-fn found_cost(new: &Option<(usize, PrefixedKey)>) -> u32
-    ensures value { result ≡ found_cost new.now }
-    ensures most { result ≤ 4128 }
-{
-    match new {
-        Some((_, key)) => key.cost(),
-        None => 0,
     }
 }

@@ -2,7 +2,7 @@ ghost use Rattle.std.specs.Prelude.{◌≡◌, ◌≤◌, ◌+◌, ◌-◌, ◌^
 ghost use Rattle.std.specs.Ordering.{nat_cmp};
 ghost use Rattle.tsc_span.specs.Span.{key_cmp, key_cost, before, after, last, is_below};
 ghost use Rattle.tsc_span.specs.Cuts.{cut_of};
-ghost use Rattle.tsc_page_nodes.specs.Prefixes.{spelled, IsPrefixOf, IsKeyAt, AreTied, TellsBelow, TellsAbove};
+ghost use Rattle.tsc_page_nodes.specs.Prefixes.{spelled, IsPrefixOf, IsKeyAt, AreTied, IsCutPrefix, TellsBelow, TellsAbove};
 
 use crate::prefix_search::Prefixed;
 use std::alloc::{AllocError, Global};
@@ -196,7 +196,7 @@ impl<'a> PrefixedBytes<'a> {
         }
     }
 
-    /// Their prefix.
+    /// The prefix of the bytes.
     pub(crate) fn prefix(&self) -> KeyPrefix
         ensures { IsPrefixOf result self.now }
     {
@@ -276,9 +276,11 @@ impl<'a> PrefixedCut<'a> {
         }
     }
 
-    /// Its prefix.
+    /// The prefix of the cut.
     #[inline]
-    pub fn prefix(&self) -> &KeyPrefix {
+    pub fn prefix(&self) -> &KeyPrefix
+        ensures { IsCutPrefix result.now self.now }
+    {
         &self.prefix
     }
 

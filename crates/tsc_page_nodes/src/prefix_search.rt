@@ -1,7 +1,7 @@
 use crate::prefix::KeyPrefix;
 
 /// How far the elements stand from one another that a search looks at first.
-const STRIDE: usize = 8;
+pub(crate) const STRIDE: usize = 8;
 
 /// What stands in a list by a prefix: that of its key, or of where it begins.
 pub trait Prefixed {
@@ -13,8 +13,8 @@ pub trait Prefixed {
 /// up to 64 elements; `None` where all of them have this prefix. That is a hint: nothing is
 /// promised of it, so its caller looks at what stands there.
 ///
-/// It compares one word of each prefix that it looks at: the first word in which the ends of the
-/// list and this prefix are not all the same. It looks at every eighth element, and then at the
+/// The search compares one word of each prefix that it looks at: the first word in which the ends
+/// of the list and this prefix are not all equal. It looks at every eighth element, and then at the
 /// eight from the last lesser one of these on. No branch hangs on what a look sees, so the
 /// processor guesses none wrong.
 pub fn lesser_prefixes<T: Prefixed>(list: &[T], prefix: &KeyPrefix) -> Option<usize> {
@@ -54,7 +54,7 @@ trait Word {
     /// The word.
     fn of(prefix: &KeyPrefix) -> u64;
 
-    /// Whether the words of three prefixes are not all the same.
+    /// Whether the words of three prefixes are not all equal.
     fn tells(first: &KeyPrefix, last: &KeyPrefix, prefix: &KeyPrefix) -> bool {
         Self::of(first) != Self::of(last) || Self::of(first) != Self::of(prefix)
     }

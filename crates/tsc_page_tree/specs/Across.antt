@@ -22,7 +22,7 @@ pub record AreRaisedKnown (low new_low high new_high : List Node) (a : Insertion
   pub raised_low : new_low ≡ raise_nodes (between a.from last) a.value low
   pub raised_high : new_high ≡ raise_nodes (between (before []) a.to) a.value high
 
--- or both stay
+-- two subtrees are raised, where the end keys have nodes, or both stay
 abbrev pub IsKnownTold : (low new_low high new_high : List Node) → InsertionView → Bool → Type 0
 IsKnownTold low new_low high new_high a true = AreRaisedKnown low new_low high new_high a
 IsKnownTold low new_low high new_high a false = (new_low ≡ low) × (new_high ≡ high)
@@ -62,7 +62,7 @@ pub record AreRaisedAcross (low new_low high new_high : List Node) (a : Insertio
   pub raised_high : new_high ≡ raise_nodes (between (before []) a.to) a.value mid_high
   pub grown : AreGrowths more_low more_high more
 
--- or both stay
+-- two subtrees are raised, with nodes of the end keys, or both stay
 abbrev pub IsAcrossTold : (low new_low high new_high : List Node) → InsertionView → ℕ →
     Option Growth → Type 0
 IsAcrossTold low new_low high new_high a room (Some more) =

@@ -4,7 +4,7 @@ use Rattle.std.specs.Prelude.{◌≡◌, ℕ, List, Bool, false, length, map}
 use Rattle.std.specs.List.{All}
 use Rattle.tsc_page_nodes.specs.Nodes.{Node}
 
--- A subtree stands for the same as another one.
+-- A subtree q stands for the nodes of a subtree p, in leaves of equal sizes.
 pub record IsSameAs {P : Type 0} (nodes_in : P → List Node) (sizes_in : P → List ℕ)
     (IsWhole : P → Type 0) (p q : P) : Type 0 where
   pub nodes : nodes_in q ≡ nodes_in p

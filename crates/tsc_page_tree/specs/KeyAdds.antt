@@ -25,7 +25,7 @@ pub record AddsKey (old new : List Node) (a : KeyInsertionView) (room : ℕ) (mo
   pub low : is_below (before a.key) (start_of old) ≡ false
   pub some : AddsSome old new (at_key a) room more
 
--- what a call tells that does so, or leaves all as it is
+-- what a call tells that adds at a key, or leaves all as it is
 abbrev pub IsKeyAddTold : {E : Type 0} → (old new : List Node) (was now : List ℕ) →
     KeyInsertionView → ℕ →
     Result (Option Growth) E → Type 0

@@ -33,8 +33,8 @@ abbrev pub seen_with : Option OwnedTime → Bool → OwnedTime → OwnedTime
 seen_with None reached w = w
 seen_with (Some v) reached w = if reached then joint w (v ∷ []) else w
 
--- What is told of nodes over which a value is held back: where they begin, and the joint value of
--- all.
+-- What an aggregate says of nodes over which a value is held back: where they begin, and the joint
+-- value of all.
 pub record IsToldOf (prefix : ℕ) (all : OwnedTime) (lazy : Option OwnedTime) (ns : List Node) :
     Type 0 where
   pub some : 1 ≤ length ns
@@ -46,7 +46,7 @@ abbrev pub sizes_of : List (List ℕ) → List ℕ
 sizes_of [] = []
 sizes_of (s ∷ ss) = s ++ sizes_of ss
 
--- Sizes of leaves that hold so many nodes.
+-- Sizes of leaves that add up to the number of the nodes.
 pub record AreSizesOf (sizes : List ℕ) (ns : List Node) : Type 0 where
   pub few : AreLeafSizes sizes
   pub total : sum sizes ≡ length ns

@@ -24,7 +24,7 @@ abbrev pub items_in : {P Z : Type 0} → Option (Vec P Z) → List P
 items_in None = []
 items_in (Some ps) = ps.items
 
--- what is told of nodes
+-- what an aggregate says of nodes
 abbrev pub IsTold : Aggregate → List Node → Type 0
 IsTold s ns = IsToldOf s.start s.joint s.lazy ns
 
@@ -86,7 +86,7 @@ IsWholeBranch nodes sizes IsWhole f = IsBranchOf nodes sizes IsWhole f.aggregate
 abbrev pub IsLeafCopy : Leaf → Leaf → Type 0
 IsLeafCopy l m = (m.aggregate ≡ l.aggregate) × (arc_value m.nodes ≡ arc_value l.nodes)
 
--- a leaf's copy stands for the same
+-- a leaf's copy stands for the leaf's nodes
 pub leaf_copied : (l m : Leaf) → IsLeafCopy l m → IsSameAs leaf_nodes leaf_sizes IsWholeLeaf l m
 leaf_copied l m same = record {
   nodes = ap (λ (s : Aggregate). with_lazy s.lazy (arc_value m.nodes)) same.0 ∙
@@ -101,7 +101,7 @@ abbrev pub IsBranchCopy : {P : Type 0} → Branch P → Branch P → Type 0
 IsBranchCopy f g = (g.aggregate ≡ f.aggregate) × ((arc_value g.subtrees).items ≡
     (arc_value f.subtrees).items)
 
--- a branch's copy stands for the same
+-- a branch's copy stands for the branch's nodes
 pub branch_copied : {P : Type 0} (nodes : P → List Node) (sizes : P → List ℕ) (IsWhole : P → Type 0)
     (f g : Branch P) → IsBranchCopy f g →
     IsSameAs (branch_nodes nodes) (branch_sizes sizes) (IsWholeBranch nodes sizes IsWhole) f g

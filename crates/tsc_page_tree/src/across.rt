@@ -5,7 +5,8 @@ ghost use Rattle.tsc_page_tree.specs.Leaves.{AreSubtrees, AreSomeSubtrees, GoesB
 ghost use Rattle.tsc_page_tree.specs.Copies.{KeepsSizes, AllKeepSizes};
 ghost use Rattle.tsc_page_tree.specs.Across.{IsAcrossTold, IsLastReached, IsOverTold};
 
-use crate::subtrees::{Subtree, raise_all, stops_at_next, subtree_at};
+use crate::subtrees::places::{stops_at_next, subtree_at};
+use crate::subtrees::{Subtree, raise_all};
 use tsc_page_nodes::{Growth, PrefixedCut, PrefixedInsertion};
 
 /// The last subtree that a span reaches which stops at a cut, or the first one.

@@ -64,7 +64,7 @@ impl<P: Subtree> Branch<P> {
 pub enum Siblings<P> {
     /// The subtrees themselves.
     Subtrees(Vec<P>),
-    /// Branches of them.
+    /// Branches of subtrees.
     Branches(Vec<Branch<P>>),
 }
 

@@ -1,29 +1,32 @@
-ghost use Rattle.std.specs.Prelude.{IsTrue, ◌≡◌, ℕ, List, ◌≤◌, ◌<◌, ◌+◌, ◌-◌, ◌++◌, ◌∷◌, [], ◌||◌, suc, map, length, drop, slice_index_or, option_map, option_to_list, is_some, OnOk, IfOk, IfSome, not, true, false};
+ghost use Rattle.std.specs.Prelude.{◌≡◌, ℕ, List, ◌≤◌, ◌<◌, ◌+◌, ◌-◌, ◌++◌, [], map, length, slice_index_or, option_map, option_to_list, is_some, OnOk, IfOk, IfSome, not, true};
 ghost use Rattle.std.specs.List.{All};
 ghost use Rattle.tsc_time.specs.Joint.{joint};
-ghost use Rattle.tsc_span.specs.Span.{before, last, is_below, between, point};
+ghost use Rattle.tsc_span.specs.Span.{is_below, between, point};
 ghost use Rattle.tsc_span.specs.Cuts.{cut_of};
 ghost use Rattle.tsc_page_nodes.specs.Prefixes.{IsCutPrefix};
 ghost use Rattle.tsc_page_nodes.specs.PageView.{is_in};
 ghost use Rattle.tsc_page_nodes.specs.KeysAbove.{first_above};
 ghost use Rattle.tsc_page_nodes.specs.Nodes.{Node, node_keys, answer_of, raise_nodes};
-ghost use Rattle.tsc_page_tree.specs.Leaves.{AreSubtrees, GoesBeyond, HasNode, IsLeafAt, IsNotAbove, IsSubtree, nodes_of, start_of};
+ghost use Rattle.tsc_page_tree.specs.Leaves.{AreSubtrees, GoesBeyond, HasNode, IsSubtree, nodes_of, start_of};
 ghost use Rattle.tsc_page_tree.specs.Lazy.{everything, all_joint, sizes_of, AreSizesOf, TellsSize, IsAddTold};
 ghost use Rattle.tsc_page_tree.specs.Copies.{IsSameAs, KeepsSizes};
 ghost use Rattle.tsc_page_tree.specs.Across.{IsAcrossTold};
 ghost use Rattle.tsc_page_tree.specs.KeyAdds.{IsKeyAddTold};
 
+mod joints;
+pub(crate) mod places;
+
 use crate::across;
+pub use crate::subtrees::joints::join_between;
+use crate::subtrees::joints::leaves_out;
+use crate::subtrees::places::{goes_on, stops_at_next, subtree_at};
+pub(crate) use crate::subtrees::places::{first_starts_above, first_starts_below};
 use std::alloc::Global;
 use tsc_page_nodes::{
     Growth, KeyInsertion, KeyPrefix, Prefixed, PrefixedCut, PrefixedInsertion, SearchKey,
-    lesser_prefixes,
 };
 use tsc_span::{Cut, Key, KeyRef};
-use tsc_time::{NoMemory, Timestamp, Value, ratchet};
-
-/// How far the subtrees stand from one another that a search looks at first.
-const STRIDE: usize = 8;
+use tsc_time::{NoMemory, Timestamp, Value};
 
 /// Nodes that stand in a list with others of their kind, one after another.
 pub trait Subtree: Clone + Drop + Prefixed {
@@ -160,218 +163,6 @@ pub trait Subtree: Clone + Drop + Prefixed {
     ghost copied: { (p q : Self) → Self.is_clone p q → IsSameAs nodes sizes IsWhole p q };
 }
 
-/// The place of the subtree in which a cut falls: where a hint says, or by a search.
-pub(crate) fn subtree_at<P: Subtree>(subtrees: &[P], cut: &PrefixedCut<'_>) -> usize
-    requires whole { All P.IsWhole subtrees.now }
-    ensures { IsLeafAt (map P.nodes subtrees.now) cut.now result }
-{
-    let Some(lesser) = lesser_prefixes(subtrees, cut.prefix()) else {
-        return search(subtrees, cut)
-    };
-    let next = lesser.max(1);
-    if is_not_above(subtrees, next - 1, cut) && is_above(subtrees, next, cut) {
-        next - 1
-    } else {
-        search(subtrees, cut)
-    }
-}
-
-/// Whether a subtree at a place begins at a cut or below it, or is the first one.
-fn is_not_above<P: Subtree>(subtrees: &[P], place: usize, cut: &PrefixedCut<'_>) -> bool
-    requires whole { All P.IsWhole subtrees.now }
-    ensures { IsTrue result → IsNotAbove (map P.nodes subtrees.now) cut.now place }
-{
-    match subtrees.get(place) {
-        Some(subtree) => place == 0 || !subtree.starts_above(cut),
-        None => false,
-    }
-}
-
-/// Whether a subtree at a place begins above a cut, or there is none.
-fn is_above<P: Subtree>(subtrees: &[P], place: usize, cut: &PrefixedCut<'_>) -> bool
-    requires whole { All P.IsWhole subtrees.now }
-    requires some { 1 ≤ place }
-    ensures { IsTrue result → IsNotAbove (map P.nodes subtrees.now) cut.now (place - 1) →
-        IsLeafAt (map P.nodes subtrees.now) cut.now (place - 1) }
-{
-    match subtrees.get(place) {
-        Some(subtree) => subtree.starts_above(cut),
-        None => true,
-    }
-}
-
-/// The same as `subtree_at`, by a look at every eighth subtree, and from the last of these that
-/// doesn't begin above the cut on at one after another.
-fn search<P: Subtree>(subtrees: &[P], cut: &PrefixedCut<'_>) -> usize
-    requires whole { All P.IsWhole subtrees.now }
-    ensures { IsLeafAt (map P.nodes subtrees.now) cut.now result }
-{
-    for next in stride_at(subtrees, cut) + 1..subtrees.len() {
-        if subtrees[next].starts_above(cut) {
-            return next - 1;
-        }
-    }
-    subtrees.len().saturating_sub(1)
-}
-
-/// The last of every eighth place, from the first one on, at which no subtree begins above a cut.
-fn stride_at<P: Subtree>(subtrees: &[P], cut: &PrefixedCut<'_>) -> usize
-    requires whole { All P.IsWhole subtrees.now }
-    ensures { IsNotAbove (map P.nodes subtrees.now) cut.now result }
-{
-    let mut low = 0;
-    let mut place = 0;
-    while subtrees.len() - place > STRIDE {
-        place += STRIDE;
-        if !subtrees[place].starts_above(cut) {
-            low = place;
-        }
-    }
-    low
-}
-
-/// Whether a cut lies below where subtrees begin.
-pub(crate) fn first_starts_above<P: Subtree>(subtrees: &[P], cut: &PrefixedCut<'_>) -> bool
-    requires whole { All P.IsWhole subtrees.now }
-    ensures { result ≡ is_below cut.now (start_of (nodes_of (map P.nodes subtrees.now))) }
-{
-    match subtrees.first() {
-        Some(first) => first.starts_above(cut),
-        None => cut.is_below_last(),
-    }
-}
-
-/// Whether a cut lies above where subtrees begin.
-pub(crate) fn first_starts_below<P: Subtree>(subtrees: &[P], cut: &PrefixedCut<'_>) -> bool
-    requires whole { All P.IsWhole subtrees.now }
-    ensures { result ≡ is_below (start_of (nodes_of (map P.nodes subtrees.now))) cut.now }
-{
-    match subtrees.first() {
-        Some(first) => first.starts_below(cut),
-        None => false,
-    }
-}
-
-/// Whether what stops at a cut goes on beyond a subtree.
-fn goes_on<P: Subtree>(subtrees: &[P], place: usize, to: &PrefixedCut<'_>) -> bool
-    requires whole { All P.IsWhole subtrees.now }
-    requires bound { place < length subtrees.now }
-    ensures { result ≡ is_below (start_of (nodes_of (drop (suc place) (map P.nodes subtrees.now))))
-        to.now }
-{
-    match subtrees.get(place + 1) {
-        Some(next) => next.starts_below(to),
-        None => false,
-    }
-}
-
-/// The joint value of the keys and gaps of subtrees between two cuts, which mostly is that of one
-/// subtree.
-pub fn join_between<P: Subtree>(
-    subtrees: &[P],
-    from: &PrefixedCut<'_>,
-    to: &PrefixedCut<'_>,
-) -> Value
-    requires subtrees { AreSubtrees P.nodes P.IsWhole subtrees.now }
-    requires order { is_below from.now to.now ≡ true }
-    ensures { result ≡ answer_of (nodes_of (map P.nodes subtrees.now)) (between from.now to.now) }
-{
-    let place = subtree_at(subtrees, from);
-    if place >= subtrees.len() {
-        return Value::unowned(Timestamp::ZERO);
-    }
-    if goes_on(subtrees, place, to) {
-        joint_beyond(subtrees, place, from, to)
-    } else {
-        subtrees[place].join_between(from, to)
-    }
-}
-
-/// The same, where the span goes on beyond the subtree in which it starts. The subtrees at its ends
-/// come last, and are looked into only where they can change what all others answer.
-fn joint_beyond<P: Subtree>(
-    subtrees: &[P],
-    first: usize,
-    from: &PrefixedCut<'_>,
-    to: &PrefixedCut<'_>,
-) -> Value
-    requires subtrees { AreSubtrees P.nodes P.IsWhole subtrees.now }
-    requires order { is_below from.now to.now ≡ true }
-    requires goes { GoesBeyond P.nodes subtrees.now from.now to.now first }
-    ensures { result ≡ answer_of (nodes_of (map P.nodes subtrees.now)) (between from.now to.now) }
-{
-    let last = PrefixedCut::new(Cut::Last);
-    let best = joint_below(subtrees, first + 1, to);
-    joined(best, &subtrees[first], from, &last)
-}
-
-/// The joint value of the keys and gaps below a cut of the subtrees from a place on.
-fn joint_below<P: Subtree>(subtrees: &[P], start: usize, to: &PrefixedCut<'_>) -> Value
-    requires subtrees { AreSubtrees P.nodes P.IsWhole subtrees.now }
-    requires order { is_below (before []) to.now ≡ true }
-    ensures { result ≡ answer_of (nodes_of (drop start (map P.nodes subtrees.now)))
-        (between (before []) to.now) }
-{
-    let least = PrefixedCut::new(Cut::Before(&[]));
-    let mut best = Value::unowned(Timestamp::ZERO);
-    for place in start..subtrees.len() {
-        if !goes_on(subtrees, place, to) {
-            return joined(best, &subtrees[place], &least, to);
-        }
-        best.raise(&subtrees[place].joint());
-    }
-    best
-}
-
-/// Joins the keys and gaps of a subtree between two cuts into the best so far. The subtree is
-/// looked into only where the joint value of all its keys and gaps would change that.
-fn joined<P: Subtree>(
-    best: Value,
-    subtree: &P,
-    from: &PrefixedCut<'_>,
-    to: &PrefixedCut<'_>,
-) -> Value
-    requires subtree { IsSubtree P.nodes P.IsWhole subtree.now }
-    requires order { is_below from.now to.now ≡ true }
-    ensures { result ≡ joint best (answer_of (P.nodes subtree.now) (between from.now to.now) ∷ []) }
-{
-    if changes(best, subtree.joint()) {
-        ratchet(best, seen_of(subtree, from, to)).0
-    } else {
-        best
-    }
-}
-
-/// Whether a value changes the best so far.
-fn changes(best: Value, value: Value) -> bool
-    ensures { result ≡ false → joint best (value ∷ []) ≡ best }
-{
-    ratchet(best, value).1
-}
-
-/// The joint value of the keys and gaps of a subtree between two cuts. Where these leave nothing
-/// out the subtree isn't looked into.
-fn seen_of<P: Subtree>(subtree: &P, from: &PrefixedCut<'_>, to: &PrefixedCut<'_>) -> Value
-    requires subtree { IsSubtree P.nodes P.IsWhole subtree.now }
-    requires order { is_below from.now to.now ≡ true }
-    ensures { result ≡ answer_of (P.nodes subtree.now) (between from.now to.now) }
-{
-    if leaves_out(subtree, from, to) {
-        subtree.join_between(from, to)
-    } else {
-        subtree.joint()
-    }
-}
-
-/// Whether some of a subtree may lie outside of two cuts.
-fn leaves_out<P: Subtree>(subtree: &P, from: &PrefixedCut<'_>, to: &PrefixedCut<'_>) -> bool
-    requires whole { P.IsWhole subtree.now }
-    ensures { result ≡ (is_below to.now last || is_below
-        (start_of (P.nodes subtree.now)) from.now) }
-{
-    to.is_below_last() || subtree.starts_below(from)
-}
-
 /// The joint value of what overlaps a key in subtrees, which is that of the subtree in which it
 /// falls.
 pub fn value_at<P: Subtree>(subtrees: &[P], key: &SearchKey<'_>) -> Value
@@ -450,8 +241,8 @@ pub fn raise_between<P: Subtree>(
     }
 }
 
-/// The same, where the span goes on beyond the subtree in which it starts. The subtrees that lie
-/// wholly within it are not looked into.
+/// Ratchets a value as `raise_between` does, where the span goes on beyond the subtree in which it
+/// starts. The subtrees that lie wholly within the span are not looked into.
 fn raise_beyond<P: Subtree>(
     subtrees: &mut [P],
     first: usize,
@@ -622,17 +413,4 @@ pub fn add_key<P: Subtree>(
         return Ok(None);
     }
     subtrees[place].add_key(add, room)
-}
-
-/// Whether what doesn't go on beyond a subtree stops right where the next one begins.
-pub(crate) fn stops_at_next<P: Subtree>(subtrees: &[P], place: usize, to: &PrefixedCut<'_>) -> bool
-    requires whole { All P.IsWhole subtrees.now }
-    requires bound { place < length subtrees.now }
-    ensures { result ≡ not (is_below to.now
-        (start_of (nodes_of (drop (suc place) (map P.nodes subtrees.now))))) }
-{
-    match subtrees.get(place + 1) {
-        Some(next) => !next.starts_above(to),
-        None => !to.is_below_last(),
-    }
 }

@@ -1,4 +1,4 @@
--- Proves the loop invariants of `cost_keys`. What they cost together.
+-- Proves the loop invariants of `cost_keys`.
 use Rattle.std.proofs.Common.{◌≡◌, ◌+◌, length}
 use Rattle.tsc_page_nodes.specs.Page.{marked_keys, cost_distinct}
 use Rattle.tsc_page.proofs.plain.cost_keys.Given as goal

@@ -1,5 +1,5 @@
--- Proves the loop invariants of `raise_beyond`. The same, where the span goes on beyond the subtree
--- in which it starts.
+-- Proves the loop invariants of `raise_beyond`. Ratchets a value as `raise_between` does, where the
+-- span goes on beyond the subtree in which it starts.
 use Rattle.std.proofs.Common.{[], map}
 use Rattle.std.specs.List.{All}
 use Rattle.tsc_span.specs.Span.{before}

@@ -1,4 +1,4 @@
--- And what they cost.
+-- A tree tells what its nodes cost.
 use Rattle.std.proofs.Common.{ap}
 use Rattle.tsc_page.specs.Roots.{TreeView}
 use Rattle.tsc_page.proofs.tree.Tree.bytes.Goals as goal

@@ -1,9 +1,0 @@
--- Proves the loop invariants of `search`. The place of the subtree in which a cut falls.
-use Rattle.std.proofs.Common.{◌≤◌, ◌-◌, map}
-use Rattle.tsc_page_tree.specs.Leaves.{IsNotAbove}
-use Rattle.tsc_page_tree.proofs.subtrees.search.Given as goal
-
--- the subtree before the next one doesn't begin above the cut
-abbrev pub invariant-loop-next : goal.invariant-loop-next
-invariant-loop-next g l = (1 ≤ l.next) × IsNotAbove (map g.P.Subtree.nodes l.subtrees)
-    l.cut (l.next - 1)
