@@ -18,7 +18,7 @@ use Rattle.tsc_left_right.specs.Rule.{late_adds, CanBe, IsState, HandleLags}
 use Rattle.tsc_left_right.specs.Steps.{At, state_in, seen_of, own_of, with_own}
 use Rattle.tsc_left_right.specs.Participating.{IsWriting, IsCalledOff, released_in}
 use Rattle.tsc_left_right.proofs.Replying.{none_made}
-use Rattle.tsc_combining.specs.declared.writing.Prepared.{Prepared}
+use Rattle.tsc_combining.specs.declared.preparing.Prepared.{Prepared}
 use Rattle.tsc_combining.specs.Writing.{HoldsState, MayMake, IsSwappedBack}
 use Rattle.tsc_combining.specs.Writing.{IsPrepared, HasBegun, MayPublish, MayAddAgain}
 use Rattle.tsc_combining.proofs.AddingUp.{can_fit}

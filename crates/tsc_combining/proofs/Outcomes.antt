@@ -40,11 +40,11 @@ use Rattle.tsc_left_right.proofs.Batches.{adds_of, lags_by}
 use Rattle.tsc_left_right.proofs.Composing.{is_writer}
 use Rattle.tsc_combining.proofs.AddingUp.{can_fit}
 use Rattle.tsc_combining.proofs.Making.{are_made_length, are_made_adds}
-use Rattle.tsc_combining.specs.declared.writing.NotAdded.{NotAdded}
+use Rattle.tsc_combining.specs.declared.preparing.NotAdded.{NotAdded}
 use Rattle.tsc_combining.specs.declared.writing.Outcome.{Outcome}
 use Rattle.tsc_combining.specs.declared.writing.Outcome.TheVariants.{Busy, Made, Refused}
-use Rattle.tsc_combining.specs.declared.writing.Prepared.{Prepared}
-use Rattle.tsc_combining.specs.declared.writing.Aborted.{Aborted}
+use Rattle.tsc_combining.specs.declared.preparing.Prepared.{Prepared}
+use Rattle.tsc_combining.specs.declared.preparing.Aborted.{Aborted}
 use Rattle.tsc_combining.specs.Asking.{resting, WasMade}
 use Rattle.tsc_combining.specs.Adding.{KeepsOthers, IsCaughtUp, IsNext}
 use Rattle.tsc_combining.specs.Serving.{HasBatch, HasMade, Serves}

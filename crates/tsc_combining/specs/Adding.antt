@@ -37,7 +37,8 @@ abbrev pub HandleFits : Option (Arc CacheView Global) → List UnappliedAdd → 
 HandleFits None late add = Unit {0}
 HandleFits (Some handle) late add = CanTake (arc_value handle) late add
 
--- An Add fits a page of either copy, and so do those that the standby copy has not had yet.
+-- An Add fits a page of either copy, and each Add that the standby copy has not had yet fits one of
+-- its pages.
 pub record AllFit (state : WriterState) (add : UnappliedAdd) : Type 0 where
   pub active : all_fit (arc_value state.active).settings (marks_in add.marks) ≡ true
   pub standby : HandleFits state.standby (late_adds state.lagging) add

@@ -22,9 +22,9 @@ IsMadeIn old new add kept =
     × TellsAddedAll old (marks_in add.marks) add.moment
     (record { kept = kept; rotated = false; evicted = 0 })
 
--- The writer, as it was in v, has cleared so many seats, and has these requests in hand. What it
--- has made for others after a history is that of these requests. What it knows of HEAD now leaves
--- the side as it was.
+-- The writer, as it was in v, has cleared `cleared` seats, and has these requests in hand. The Adds
+-- that it has made for others after a history are those of these requests. What it knows of HEAD
+-- now leaves the side as it was.
 pub record HasBatch (v : Knowledge) (h : History) (xs : List Collected) (cleared head : ℕ)
     (me : At) (items : List MadeAdd) : Type 0 where
   pub is : me.0 ≡ with_state v (serving (state_in v) xs head)
@@ -54,7 +54,7 @@ abbrev pub CanServe : ℕ → ℕ → At → List MadeAdd → Arc CacheView Glob
 CanServe room head me items next =
     (v : Knowledge) × (h : History) × Serves v h room 0 head me items (arc_value next)
 
--- It has looked at some of so many seats.
+-- A writer that serves still serves once it has looked at `seats` seats at the most.
 abbrev pub HasMade : ℕ → ℕ → ℕ → At → List MadeAdd → Arc CacheView Global → ℕ → At
     → List MadeAdd → Arc CacheView Global → Type 0
 HasMade seats room head me items next head' me' items' next' =

@@ -20,10 +20,10 @@ use Rattle.tsc_combining.specs.Waiting.{HasEnd}
 use Rattle.tsc_left_right.specs.Participating.{Participant, IsWriting, HasInstalled, IsReady, MayRelease}
 use Rattle.tsc_left_right.specs.Participating.{released_in}
 use Rattle.tsc_combining.specs.Asking.{resting}
-use Rattle.tsc_combining.specs.declared.writing.Prepared.{Prepared}
-use Rattle.tsc_combining.specs.declared.writing.Aborted.{Aborted}
-use Rattle.tsc_combining.specs.declared.writing.NotAdded.{NotAdded}
-use Rattle.tsc_combining.specs.declared.writing.NotAdded.TheVariants as not_added
+use Rattle.tsc_combining.specs.declared.preparing.Prepared.{Prepared}
+use Rattle.tsc_combining.specs.declared.preparing.Aborted.{Aborted}
+use Rattle.tsc_combining.specs.declared.preparing.NotAdded.{NotAdded}
+use Rattle.tsc_combining.specs.declared.preparing.NotAdded.TheVariants as not_added
 use Rattle.tsc_combining.specs.declared.writing.Outcome.{Outcome}
 use Rattle.tsc_combining.specs.declared.writing.Outcome.TheVariants.{Busy, Made, Refused}
 use Rattle.tsc_combining.specs.Adding.{AllFit}
@@ -31,7 +31,7 @@ use Rattle.tsc_combining.specs.Context.{IsSeatOf}
 use Rattle.tsc_combining.specs.declared.context.AddContext.{AddContext}
 
 -- A writer that has just acquired the lock: it has seen all, and nothing is cleared or collected.
--- What it works with is in its hand.
+-- What the writer works with is in its hand.
 pub record IsNewWriter (me : At) (state : WriterState) : Type 0 where
   pub head : ℕ
   pub is : me ≡ (
@@ -44,7 +44,8 @@ pub record IsNewWriter (me : At) (state : WriterState) : Type 0 where
   pub limit : length (seen_of me.0) ≤ me.0.setup.limit
   pub is_after : IsAfter me.0.setup (seen_of me.0) head state
 
--- The same writer when it has cleared so many seats.
+-- A writer that has seen all has cleared `cleared` seats, has collected nothing, and asks for
+-- nothing.
 pub record HoldsState (me : At) (cleared : ℕ) (state : WriterState) : Type 0 where
   pub writing : IsWriting me.0 me cleared None
   pub none : (state_in me.0).collected ≡ []
@@ -76,7 +77,7 @@ pub record IsSwapped (old : WriterState) (next : Arc CacheView Global) (add : Un
   pub length : new.length ≡ old.length + 1 + count
   pub head : new.head ≡ old.head
 
--- The copies are swapped back, when there were so many Adds.
+-- The copies are swapped back, and the writer's state counts `adds` Adds.
 pub record IsSwappedBack (old : WriterState) (adds : ℕ) (new : WriterState) (add : UnappliedAdd)
     : Type 0 where
   pub active : old.standby ≡ Some new.active
@@ -110,7 +111,7 @@ pub record IsPrepared (v : Knowledge) (me : At) (add : UnappliedAdd) (state : Wr
       (marks_in add.marks) add.moment).added
   pub before : StandsBefore v state
 
--- The writer of v has acquired the lock and has seen all, so many Adds.
+-- The writer of v has acquired the lock and has seen all `place` Adds.
 pub record IsBegun (v : Knowledge) (place : ℕ) : Type 0 where
   pub rests : released_in v ≡ resting v
   pub legal : IsLegal v.setup.config v.setup.seats (seen_of v)
@@ -119,18 +120,18 @@ pub record IsBegun (v : Knowledge) (place : ℕ) : Type 0 where
   pub low : number_of v < v.setup.seats
   pub place_is : place ≡ length (seen_of v)
 
--- It is still that writer.
+-- The participant is still the writer of v.
 pub record HasBegun (v : Knowledge) (me : At) (place : ℕ) : Type 0 where
   pub begun : IsBegun v place
   pub same : released_in me.0 ≡ released_in v
 
--- What it has prepared may be published.
+-- What the writer of v has prepared may be published.
 pub record MayPublish (v : Knowledge) (me : At) (add : UnappliedAdd) (place : ℕ) (made : Prepared)
     : Type 0 where
   pub begun : IsBegun v place
   pub prepared : IsPrepared v me add made.state.value made.added
 
--- It has sent back all that it had made for others, and published nothing.
+-- The writer of v has sent back all that it had made for others, and published nothing.
 pub record MayAddAgain (v : Knowledge) (me : At) (add : UnappliedAdd) (place : ℕ)
     (state : WriterState) : Type 0 where
   pub begun : IsBegun v place
@@ -157,8 +158,8 @@ pub record MayLeave (v : Knowledge) (me : At) (state : WriterState) : Type 0 whe
   pub same : released_in me.0 ≡ released_in v
   pub seen : (state_in me.0).history ≡ seen_of v
 
--- Why it does not make its Add: the history is full; or there was room, and memory was refused, or
--- the tries came to their end.
+-- Why a writer does not make its Add: the history is full; or there was room, and memory was
+-- refused, or the tries came to their end.
 abbrev pub IsHindered : Option ℕ → ℕ → ℕ → NotAdded → Type 0
 IsHindered tries length limit not_added.HistoryFull = limit ≤ length
 IsHindered tries length limit not_added.NoMemory = length < limit

@@ -174,7 +174,7 @@ fn renew(
 pub(crate) enum InPlace {
     /// The copy has had the Add, which brought no new page.
     Made(Added),
-    /// Nothing of the Add is in it, and it lacks what is still said to lag, or nothing.
+    /// The copy has nothing of the Add. It lacks nothing, or what is still said to lag.
     Untouched,
     /// The copy has a new page, or only a part of what it lacked: it is to be made anew.
     Spoiled,
@@ -314,8 +314,8 @@ fn take_new(
 }
 
 /// The standby copy, after an Add in place, or else one made anew from the active copy. If memory
-/// is refused, what the writer works with still stands for the same, and a standby copy that was
-/// spoiled is handed out.
+/// is refused, what the writer works with still stands for what it stood for, and a standby copy
+/// that was spoiled is handed out.
 pub(crate) fn take_next(
     alloc: Global,
     state: &mut WriterState,

@@ -35,7 +35,7 @@ pub enum Turn {
 pub(crate) enum Asked {
     /// Another seat has made the Add.
     Made(Reply),
-    /// Another seat has sent it back.
+    /// Another seat has sent the Add back.
     SentBack(Box<UnappliedAdd>),
     /// The seat has the lock, and has taken the request back.
     Acquired(Box<WriterState>, Box<UnappliedAdd>),
@@ -185,7 +185,7 @@ fn leave_request(
     }
 }
 
-/// Looks so many times whether the request was answered, and tries the lock as often. Then the seat
+/// Looks `tries` times whether the request was answered, and tries the lock as often. Then the seat
 /// withdraws the request: `None` if it was not answered.
 fn try_for_answer(
     tries: u32,
@@ -241,8 +241,8 @@ pub(crate) fn ask_and_wait<R: Wait>(
     turn_of(asked)
 }
 
-/// Asks for an Add, looks so many times what came of that, and then leaves. The seat has its Add
-/// back as there.
+/// Asks for an Add, looks `tries` times what came of that, and then leaves. The seat has its Add
+/// back where the Add was sent back, or could not be asked for.
 pub(crate) fn ask_and_leave(
     tries: u32,
     context: &AddContext<'_>,

@@ -13,9 +13,9 @@ pub trait Gate {
     /// The Add of this seat is about to be published: nothing can refuse it now, and nobody
     /// has seen it yet. A refused Add is not told.
     ///
-    /// That holds of a seat that neither asks nor serves ([`Asks`](crate::Asks)). An Add that
-    /// another seat has made, and one beside which Adds of others are made, is told once it is
-    /// published.
+    /// An Add is told before it is published where its seat neither asks nor serves
+    /// ([`Asks`](crate::Asks)). An Add that another seat has made, and one beside which Adds of
+    /// others are made, is told once it is published.
     fn publish(&self, seat: u32);
 }
 

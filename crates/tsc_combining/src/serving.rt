@@ -67,7 +67,7 @@ fn serve(
     send_back(shared, who, seat, round.head, add)
 }
 
-/// Makes what so many seats ask for.
+/// Makes the Adds that the first `seats` seats ask for.
 fn serve_each(
     shared: &SharedReplicas,
     who: &mut Participant,
@@ -91,8 +91,8 @@ fn serve_each(
     head
 }
 
-/// Makes what so many other seats ask for in this copy, which nobody else reads, beside the
-/// writer's own Add.
+/// Makes in this copy, which nobody else reads, the Adds that the first `seats` seats ask for,
+/// beside the writer's own Add.
 pub(crate) fn serve_all(
     shared: &SharedReplicas,
     who: &mut Participant,

@@ -1,4 +1,4 @@
-//! How a writer waits: until it is so, or for so many tries.
+//! How a writer waits: for ever, or for a number of tries.
 ghost use Rattle.std.specs.Prelude.{◌≡◌, ◌+◌, ℕ, Option, Some, None, IfSome, IfNone, IsNone, true};
 ghost use Rattle.std.specs.Prelude.{false};
 ghost use Rattle.tsc_left_right.specs.Steps.{number_of};
@@ -95,8 +95,8 @@ fn acquire_first(
     }
 }
 
-/// Until it is so. A seat that is eager to ask waits a little for its answer, before it tries the
-/// lock.
+/// A policy of waiting for ever. A seat that is eager to ask waits a little for its answer, before
+/// it tries the lock.
 #[derive(Drop)]
 pub struct Blocking<'r, R>(pub &'r R);
 
@@ -157,15 +157,15 @@ impl<'r, R: Wait> WaitPolicy for Blocking<'r, R> {
     }
 }
 
-/// A policy of this number of tries, with a few idle steps between them.
+/// A policy of a number of tries, with a few idle steps between them.
 ///
-/// A seat that asks looks so many times whether its request was answered, and tries the lock as
+/// A seat that asks looks at each try whether its request was answered, and tries the lock as
 /// often. Then it withdraws the request. Until it has the lock or its reply, or has given up, it
-/// takes three atomic steps for each try and a dozen more at the most, whatever other threads do.
+/// takes three atomic steps for each try. A dozen more come at the most, whatever other threads do.
 ///
-/// No other seat waits for it: a writer that has made its Add meanwhile and not published it
-/// publishes without. Once a writer has seen that it had left, it can ask again. Until then it only
-/// tries the lock.
+/// No seat waits for one that has left: a writer that has made its Add and not published it
+/// publishes without it. A seat that has left may ask again once a writer has seen that. Until then
+/// it only tries the lock.
 #[derive(Clone, Copy)]
 pub struct Bounded(pub u32);
 

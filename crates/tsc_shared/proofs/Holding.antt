@@ -9,9 +9,9 @@ use Rattle.tsc_left_right.specs.Rule.{marks_in}
 use Rattle.tsc_left_right.specs.Steps.{At, seen_of}
 use Rattle.tsc_left_right.specs.Participating.{Participant, IsSized, IsOf}
 use Rattle.tsc_combining.specs.Writing.{IsAdded, IsNotAdded}
-use Rattle.tsc_combining.specs.declared.writing.NotAdded.{NotAdded}
-use Rattle.tsc_combining.specs.declared.writing.NotAdded.TheVariants.{HistoryFull, SeatInside}
-use Rattle.tsc_combining.specs.declared.writing.NotAdded.TheVariants as not_added
+use Rattle.tsc_combining.specs.declared.preparing.NotAdded.{NotAdded}
+use Rattle.tsc_combining.specs.declared.preparing.NotAdded.TheVariants.{HistoryFull, SeatInside}
+use Rattle.tsc_combining.specs.declared.preparing.NotAdded.TheVariants as not_added
 use Rattle.tsc_shared.specs.declared.answers.AddFault.TheVariants.{TooLarge}
 use Rattle.tsc_shared.specs.declared.answers.Receipt.{Receipt}
 use Rattle.tsc_shared.specs.declared.answers.TryAddFault.{TryAddFault}

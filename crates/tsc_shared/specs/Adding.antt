@@ -7,8 +7,8 @@ use Rattle.tsc_page_nodes.specs.Page.{Mark}
 use Rattle.tsc_left_right.specs.declared.table.UnappliedAdd.{UnappliedAdd}
 use Rattle.tsc_left_right.specs.Rule.{marks_in}
 use Rattle.tsc_combining.specs.Waiting.{HasEnd}
-use Rattle.tsc_combining.specs.declared.writing.NotAdded.{NotAdded}
-use Rattle.tsc_combining.specs.declared.writing.NotAdded.TheVariants as not_added
+use Rattle.tsc_combining.specs.declared.preparing.NotAdded.{NotAdded}
+use Rattle.tsc_combining.specs.declared.preparing.NotAdded.TheVariants as not_added
 use Rattle.tsc_shared.specs.declared.answers.Receipt.{Receipt}
 use Rattle.tsc_shared.specs.declared.answers.AddFault.{AddFault}
 use Rattle.tsc_shared.specs.declared.answers.AddFault.TheVariants as fault

@@ -32,8 +32,8 @@ seat_view p = record {
 abbrev pub front_view : Participant → FrontView
 front_view p = record { cache = cache_of p; seen = p.me.0.front }
 
--- A participant keeps a seat with this number, this count of its Adds, and so long a history that
--- it has seen.
+-- A participant keeps the seat with the number `number`, which counts `count` Adds of its own and
+-- has seen a history of `seen` Adds.
 pub record KeepsSeat (p : Participant) (number count seen : ℕ) : Type 0 where
   pub rest : IsAtRest p.me
   pub number_kept : number ≡ number_of p.me.0

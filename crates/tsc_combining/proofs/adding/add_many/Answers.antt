@@ -1,4 +1,4 @@
--- All of them were added, or some.
+-- All Adds of a list were made, or some of them.
 use Rattle.std.proofs.Common.{subst}
 use Rattle.tsc_cache.specs.declared.fault.CacheFault.{CacheFault}
 use Rattle.tsc_cache.specs.Batch.{AddsSome, LeavesSome}

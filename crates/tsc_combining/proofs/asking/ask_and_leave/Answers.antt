@@ -1,4 +1,4 @@
--- Proves the contract of `ask_and_leave`. Asks for an Add, looks so many times what came of that,
+-- Proves the contract of `ask_and_leave`. Asks for an Add, looks `tries` times what came of that,
 -- and then leaves.
 use Rattle.std.proofs.Common.{Some}
 use Rattle.tsc_combining.proofs.Turns.{is_asking, turn_asked, turn_left}

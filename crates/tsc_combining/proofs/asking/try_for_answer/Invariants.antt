@@ -1,4 +1,4 @@
--- Proves the loop invariants of `try_for_answer`. Looks so many times whether the request was
+-- Proves the loop invariants of `try_for_answer`. Looks `tries` times whether the request was
 -- answered, and tries the lock as often.
 use Rattle.std.proofs.Common.{◌≡◌}
 use Rattle.tsc_combining.proofs.asking.try_for_answer.Given as goal

@@ -1,4 +1,4 @@
--- Proves the contract of `serve_each`. Makes what so many seats ask for.
+-- Proves the contract of `serve_each`. Makes the Adds that the first `seats` seats ask for.
 use Rattle.std.proofs.Common.{arith, ap}
 use Rattle.tsc_left_right.specs.declared.table.Setup.{Setup}
 use Rattle.tsc_left_right.proofs.Calls.{still_of}

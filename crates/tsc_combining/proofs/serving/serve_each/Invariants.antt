@@ -1,4 +1,4 @@
--- Proves the loop invariants of `serve_each`. Makes what so many seats ask for.
+-- Proves the loop invariants of `serve_each`. Makes the Adds that the first `seats` seats ask for.
 use Rattle.std.proofs.Common.{◌≡◌}
 use Rattle.tsc_combining.specs.Serving.{Serving}
 use Rattle.tsc_combining.proofs.serving.serve_each.Given as goal

@@ -1,5 +1,5 @@
 -- Proves the contract of `SharedCache::add_mark`. An Add of one mark, which is given up where
--- policy comes to its end.
+-- `policy` comes to its end.
 use Rattle.std.proofs.Common.{rules, ◌≡◌, ◌∙◌, true, false, true≢false, refl, sym, ap, subst}
 use Rattle.tsc_cache.specs.Settings.{fits}
 use Rattle.tsc_shared.specs.Seats.{SharedView}

@@ -5,7 +5,7 @@ use Rattle.tsc_left_right.specs.Rule.{CanBe}
 use Rattle.tsc_left_right.specs.Participating.{released_in}
 use Rattle.tsc_combining.proofs.Seating.{seat_cleared}
 use Rattle.tsc_combining.proofs.Outcomes.{leaves_at, new_writes, holds_state, may_make, left_for}
-use Rattle.tsc_combining.proofs.writing.prepare_copy.Goals as goal
+use Rattle.tsc_combining.proofs.preparing.prepare_copy.Goals as goal
 
 pub returns-then-deref-setup-clause-left : goal.returns-then-deref-setup-clause-left
 returns-then-deref-setup-clause-left g c =

@@ -1,7 +1,7 @@
--- Proves the contract of `prepare_boxed`. Prepares an Add in the same way, by what the writer works
--- with in its box.
+-- Proves the contract of `prepare_boxed`. Prepares an Add as `prepare` does, with what the writer
+-- works with in its box.
 use Rattle.std.proofs.Common.{arith}
-use Rattle.tsc_combining.proofs.writing.prepare_boxed.Goals as goal
+use Rattle.tsc_combining.proofs.preparing.prepare_boxed.Goals as goal
 
 pub returns-in-Err-clause-left : goal.returns-in-Err-clause-left
 returns-in-Err-clause-left c = λ tries. record {

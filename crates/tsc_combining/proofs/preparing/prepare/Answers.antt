@@ -1,5 +1,6 @@
--- Proves the contract of `prepare`. Prepares an Add that is to be published, and those that others
--- ask for beside it.
+-- Proves the contract of `prepare`. Prepares an Add that is to be published, and, if it may, those
+-- that others ask for beside it. (What answers share is stated in each: the facts `c` of each goal
+-- have a type of their own.)
 use Rattle.std.proofs.Common.{◌∙◌, refl, sym, ap, ◌+◌, ◌-◌, ◌∷◌, arith}
 use Rattle.tsc_left_right.specs.declared.table.WriterState.{WriterState}
 use Rattle.tsc_left_right.specs.declared.table.Slot.TheVariants.{Empty}
@@ -9,7 +10,7 @@ use Rattle.tsc_combining.proofs.Outcomes.{held_leaves, own_added, can_serve, ser
 use Rattle.tsc_combining.proofs.Outcomes.{served_requests, served_writes, back_batch, back_leaves}
 use Rattle.tsc_combining.proofs.Outcomes.{prepared, served_alone}
 use Rattle.tsc_combining.proofs.Making.{may_send_all, sent_all, batch_head}
-use Rattle.tsc_combining.proofs.writing.prepare.Goals as goal
+use Rattle.tsc_combining.proofs.preparing.prepare.Goals as goal
 
 pub returns-in-Err-clause-left : goal.returns-in-Err-clause-left
 returns-in-Err-clause-left c =
