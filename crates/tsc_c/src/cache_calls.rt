@@ -61,7 +61,6 @@ fn open(
 /// Adds a span with its value, at a moment.
 #[unsafe(no_mangle)]
 pub extern "C" fn tsc_add(
-    alloc: Global,
     store: &mut StorePtr,
     handle: u64,
     from: &[u8],
@@ -84,10 +83,13 @@ pub extern "C" fn tsc_add(
         moment,
     };
     match store.store_mut() {
-        Some(held) => match held.cache_mut(handle) {
-            Some(cache) => code(add_in(alloc, cache, &args, out)),
-            None => Refusal::Closed.code(),
-        },
+        Some(held) => {
+            let alloc = held.alloc();
+            match held.cache_mut(handle) {
+                Some(cache) => code(add_in(alloc, cache, &args, out)),
+                None => Refusal::Closed.code(),
+            }
+        }
         None => Refusal::Closed.code(),
     }
 }
@@ -95,7 +97,6 @@ pub extern "C" fn tsc_add(
 /// Adds several marks at a moment, all of them or none.
 #[unsafe(no_mangle)]
 pub extern "C" fn tsc_add_all(
-    alloc: Global,
     store: &mut StorePtr,
     handle: u64,
     keys: &[u8],
@@ -113,10 +114,13 @@ pub extern "C" fn tsc_add_all(
         moment,
     };
     match store.store_mut() {
-        Some(held) => match held.cache_mut(handle) {
-            Some(cache) => code(add_all_in(alloc, cache, &args, out)),
-            None => Refusal::Closed.code(),
-        },
+        Some(held) => {
+            let alloc = held.alloc();
+            match held.cache_mut(handle) {
+                Some(cache) => code(add_all_in(alloc, cache, &args, out)),
+                None => Refusal::Closed.code(),
+            }
+        }
         None => Refusal::Closed.code(),
     }
 }

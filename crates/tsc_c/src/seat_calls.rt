@@ -67,11 +67,10 @@ fn open_shared(
     Ok(())
 }
 
-/// Adds a span with its value, at a moment, at a seat. It waits for nobody: it tries so many times
-/// to come to its turn.
+/// Adds a span with its value, at a moment, at a seat. The call waits for nobody: it tries `tries`
+/// times to come to its turn.
 #[unsafe(no_mangle)]
 pub extern "C" fn tsc_seat_add(
-    alloc: Global,
     store: &mut StorePtr,
     handle: u64,
     from: &[u8],
@@ -96,10 +95,13 @@ pub extern "C" fn tsc_seat_add(
         moment,
     };
     match store.store_mut() {
-        Some(held) => match held.seat_mut(handle) {
-            Some(seat) => code(add_at(alloc, seat, &args, tries, place, out)),
-            None => Refusal::Closed.code(),
-        },
+        Some(held) => {
+            let alloc = held.alloc();
+            match held.seat_mut(handle) {
+                Some(seat) => code(add_at(alloc, seat, &args, tries, place, out)),
+                None => Refusal::Closed.code(),
+            }
+        }
         None => Refusal::Closed.code(),
     }
 }
@@ -107,7 +109,6 @@ pub extern "C" fn tsc_seat_add(
 /// Adds several marks at a moment, as one Add, at a seat. It waits for nobody.
 #[unsafe(no_mangle)]
 pub extern "C" fn tsc_seat_add_all(
-    alloc: Global,
     store: &mut StorePtr,
     handle: u64,
     keys: &[u8],
@@ -129,10 +130,13 @@ pub extern "C" fn tsc_seat_add_all(
         moment,
     };
     match store.store_mut() {
-        Some(held) => match held.seat_mut(handle) {
-            Some(seat) => code(add_all_at(alloc, seat, &args, tries, place, out)),
-            None => Refusal::Closed.code(),
-        },
+        Some(held) => {
+            let alloc = held.alloc();
+            match held.seat_mut(handle) {
+                Some(seat) => code(add_all_at(alloc, seat, &args, tries, place, out)),
+                None => Refusal::Closed.code(),
+            }
+        }
         None => Refusal::Closed.code(),
     }
 }

@@ -16,8 +16,8 @@ use tsc_ffi_store::{Refusal, Store};
 
 /// A pointer in the memory of a program in C, which owns a store, or nothing.
 ///
-/// It is null if nothing is owned, so it may begin as zeros. C never follows, changes or copies it.
-/// The header calls it `tsc_store`.
+/// The pointer is null if nothing is owned, so it may begin as zeros. C never follows, changes or
+/// copies it. The header calls it `tsc_store`.
 #[repr(C)]
 #[derive(Drop)]
 pub struct StorePtr {

@@ -14,10 +14,9 @@ use tsc_ffi_store::{
     ApplyArgs, Refusal, SpanArgs, SummaryArgs, TscAdded, TscTime, apply_in, code, put_in,
 };
 
-/// Puts what was read of a span into a buffer, as bytes, in so many marks at the most.
+/// Puts what was read of a span into a buffer, as bytes, in at most `most` marks.
 #[unsafe(no_mangle)]
 pub extern "C" fn tsc_summary(
-    alloc: Global,
     store: &mut StorePtr,
     handle: u64,
     from: &[u8],
@@ -35,10 +34,13 @@ pub extern "C" fn tsc_summary(
     let span = SpanArgs { from, to, ends };
     let args = SummaryArgs { span, most };
     match store.store_mut() {
-        Some(held) => match held.cache(handle) {
-            Some(cache) => put_in(cache, alloc, &args, out, len),
-            None => Refusal::Closed.code(),
-        },
+        Some(held) => {
+            let alloc = held.alloc();
+            match held.cache(handle) {
+                Some(cache) => put_in(cache, alloc, &args, out, len),
+                None => Refusal::Closed.code(),
+            }
+        }
         None => Refusal::Closed.code(),
     }
 }
@@ -46,7 +48,6 @@ pub extern "C" fn tsc_summary(
 /// Adds what the bytes of a summary tell to a cache, at a moment, all of it or nothing.
 #[unsafe(no_mangle)]
 pub extern "C" fn tsc_apply(
-    alloc: Global,
     store: &mut StorePtr,
     handle: u64,
     summary: &[u8],
@@ -59,10 +60,13 @@ pub extern "C" fn tsc_apply(
 {
     let args = ApplyArgs { summary, moment };
     match store.store_mut() {
-        Some(held) => match held.cache_mut(handle) {
-            Some(cache) => code(apply_in(alloc, cache, &args, out)),
-            None => Refusal::Closed.code(),
-        },
+        Some(held) => {
+            let alloc = held.alloc();
+            match held.cache_mut(handle) {
+                Some(cache) => code(apply_in(alloc, cache, &args, out)),
+                None => Refusal::Closed.code(),
+            }
+        }
         None => Refusal::Closed.code(),
     }
 }

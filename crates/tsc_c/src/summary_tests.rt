@@ -33,7 +33,7 @@ fn opened(alloc: Global, store: &mut StorePtr) -> bool {
     let first = tsc_open(alloc, store, 132, 1024, 2, 10, &LOW, &mut handle);
     let second = tsc_open(alloc, store, 132, 1024, 2, 10, &LOW, &mut handle);
     let mut added = nothing_done();
-    let read = tsc_add(alloc, store, 0, b"b", b"", 8, &READ, &NOW, &mut added);
+    let read = tsc_add(store, 0, b"b", b"", 8, &READ, &NOW, &mut added);
     first == 0 && second == 0 && handle == 1 && read == 0 && added.kept
 }
 
@@ -46,16 +46,16 @@ fn nothing_done() -> TscAdded {
 }
 
 /// The code and the length, for a buffer that has this room.
-fn told(alloc: Global, store: &mut StorePtr, handle: u64, out: &mut [u8]) -> (u32, usize) {
+fn told(store: &mut StorePtr, handle: u64, out: &mut [u8]) -> (u32, usize) {
     let mut len = 9;
-    let code = tsc_summary(alloc, store, handle, b"a", b"c", 2, 9, out, &mut len);
+    let code = tsc_summary(store, handle, b"a", b"c", 2, 9, out, &mut len);
     (code, len)
 }
 
 /// The code, and whether anything was kept.
-fn applied(alloc: Global, store: &mut StorePtr, handle: u64, bytes: &[u8]) -> (u32, bool) {
+fn applied(store: &mut StorePtr, handle: u64, bytes: &[u8]) -> (u32, bool) {
     let mut added = nothing_done();
-    let code = tsc_apply(alloc, store, handle, bytes, &NOW, &mut added);
+    let code = tsc_apply(store, handle, bytes, &NOW, &mut added);
     (code, added.kept)
 }
 
@@ -71,13 +71,13 @@ fn tells_into_a_buffer_that_has_room(rt: HostRuntime) {
     let mut store = StorePtr::empty();
     let mut out = [7; LEN];
     assert!(rt; opened(rt.alloc(), &mut store));
-    let short = told(rt.alloc(), &mut store, 0, &mut out[1..]);
+    let short = told(&mut store, 0, &mut out[1..]);
     assert_eq!(rt; short, (17, LEN));
     assert_eq!(rt; out, [7; LEN]);
-    let whole = told(rt.alloc(), &mut store, 0, &mut out);
+    let whole = told(&mut store, 0, &mut out);
     assert_eq!(rt; whole, (0, LEN));
     assert_eq!(rt; out[0], 1);
-    let closed = told(rt.alloc(), &mut store, 2, &mut out);
+    let closed = told(&mut store, 2, &mut out);
     assert_eq!(rt; closed, (1, 9));
     tsc_free(rt.alloc(), &mut store);
 }
@@ -87,14 +87,14 @@ fn applies_what_was_told(rt: HostRuntime) {
     let mut store = StorePtr::empty();
     let mut out = [7; LEN];
     assert!(rt; opened(rt.alloc(), &mut store));
-    let _whole = told(rt.alloc(), &mut store, 0, &mut out);
-    let cut = applied(rt.alloc(), &mut store, 1, &out[1..]);
+    let _whole = told(&mut store, 0, &mut out);
+    let cut = applied(&mut store, 1, &out[1..]);
     assert_eq!(rt; cut, (19, false));
     assert_eq!(rt; known(&mut store), 5);
-    let whole = applied(rt.alloc(), &mut store, 1, &out);
+    let whole = applied(&mut store, 1, &out);
     assert_eq!(rt; whole, (0, true));
     assert_eq!(rt; known(&mut store), 20);
-    let closed = applied(rt.alloc(), &mut store, 2, &out);
+    let closed = applied(&mut store, 2, &out);
     assert_eq!(rt; closed, (1, false));
     tsc_free(rt.alloc(), &mut store);
 }

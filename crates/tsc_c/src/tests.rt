@@ -90,16 +90,17 @@ const MARKS: [TscMark; 1] = [TscMark {
 
 /// Whether an Add of the keys from `a` to before `c` was kept, whether pages rotated, and how many
 /// were dropped.
-fn add(alloc: Global, store: &mut StorePtr, handle: u64) -> Told {
+fn add(store: &mut StorePtr, handle: u64) -> Told {
     let mut added = nothing_done();
-    let code = tsc_add(alloc, store, handle, b"a", b"c", 2, &READ, &NOW, &mut added);
+    let code = tsc_add(store, handle, b"a", b"c", 2, &READ, &NOW, &mut added);
     told_of(code, 0, &added)
 }
 
-/// The same of `d` alone, as one mark of several.
-fn add_all(alloc: Global, store: &mut StorePtr, handle: u64) -> Told {
+/// Whether the batch with the one mark `d` was kept, whether pages rotated, and how many were
+/// dropped.
+fn add_all(store: &mut StorePtr, handle: u64) -> Told {
     let mut added = nothing_done();
-    let code = tsc_add_all(alloc, store, handle, b"xd", &MARKS, &NOW, &mut added);
+    let code = tsc_add_all(store, handle, b"xd", &MARKS, &NOW, &mut added);
     told_of(code, 0, &added)
 }
 
@@ -147,7 +148,7 @@ fn earliest(store: &mut StorePtr, handle: u64) -> Told {
     (code, time.wall, u64::from(time.logical), 0, 0, 0)
 }
 
-/// The same at a seat, and how many Adds that has seen.
+/// The earliest time of a write at a seat, and how many Adds the seat has seen then.
 fn seat_earliest(store: &mut StorePtr, handle: u64) -> Told {
     let (mut seen, mut time) = (9, NINES);
     let code = tsc_seat_earliest_write(store, handle, b"acd", &SPANS, &WRITE, &mut seen, &mut time);
@@ -167,7 +168,7 @@ fn may(store: &mut StorePtr, handle: u64, wall: u64) -> Told {
     (code, u64::from(clear), 0, 0, 0, 0)
 }
 
-/// The same at a seat, and how many Adds that has seen.
+/// Whether a write may be made at a seat, and how many Adds the seat has seen then.
 fn seat_may(store: &mut StorePtr, handle: u64, wall: u64) -> Told {
     let (mut seen, mut clear) = (9, true);
     let write = write_at(wall);
@@ -187,7 +188,7 @@ fn get_max(store: &mut StorePtr, handle: u64, key: &[u8]) -> Told {
     told_value(code, 0, &found)
 }
 
-/// A value, which answers a seat that has then seen so many Adds.
+/// A value, and how many Adds the seat that answers it has seen then.
 fn told_value(code: u32, seen: u64, found: &TscValue) -> Told {
     (
         code,
@@ -222,7 +223,7 @@ fn figures(store: &mut StorePtr, handle: u64) -> Told {
     (code, told.pages, told.rotations, told.nodes, told.bytes, 0)
 }
 
-/// The handle of a shared cache of so many seats, whose history may have two Adds.
+/// The handle of a shared cache of `seats` seats, whose history may have two Adds.
 fn open_shared(alloc: Global, store: &mut StorePtr, seats: u32) -> Told {
     let mut handle = 9;
     let code = tsc_open_shared(alloc, store, 132, 1024, 2, 10, &LOW, seats, 2, &mut handle);
@@ -230,22 +231,20 @@ fn open_shared(alloc: Global, store: &mut StorePtr, seats: u32) -> Told {
 }
 
 /// What an Add at a seat of the keys from `a` to before `c` did, and its place in the history.
-fn seat_add(alloc: Global, store: &mut StorePtr, seat: u64, tries: u32) -> Told {
+fn seat_add(store: &mut StorePtr, seat: u64, tries: u32) -> Told {
     let mut at = 9;
     let mut added = nothing_done();
     let code = tsc_seat_add(
-        alloc, store, seat, b"a", b"c", 2, &READ, &NOW, tries, &mut at, &mut added,
+        store, seat, b"a", b"c", 2, &READ, &NOW, tries, &mut at, &mut added,
     );
     told_of(code, at, &added)
 }
 
-/// The same of `d` alone, as one mark of several.
-fn seat_add_all(alloc: Global, store: &mut StorePtr, seat: u64) -> Told {
+/// What the batch with the one mark `d` did at a seat, and its place in the history.
+fn seat_add_all(store: &mut StorePtr, seat: u64) -> Told {
     let mut at = 9;
     let mut added = nothing_done();
-    let code = tsc_seat_add_all(
-        alloc, store, seat, b"xd", &MARKS, &NOW, 1, &mut at, &mut added,
-    );
+    let code = tsc_seat_add_all(store, seat, b"xd", &MARKS, &NOW, 1, &mut at, &mut added);
     told_of(code, at, &added)
 }
 
@@ -303,8 +302,8 @@ fn freed(alloc: Global, store: &mut StorePtr) -> Told {
 fn make(alloc: Global, store: &mut StorePtr, other: &mut StorePtr, call: &Call) -> Told {
     match call {
         Call::Open => open(alloc, store),
-        Call::Add(handle) => add(alloc, store, *handle),
-        Call::AddAll(handle) => add_all(alloc, store, *handle),
+        Call::Add(handle) => add(store, *handle),
+        Call::AddAll(handle) => add_all(store, *handle),
         Call::GetMax(handle, key) => get_max(store, *handle, key),
         Call::Earliest(handle) => earliest(store, *handle),
         Call::LowWater(handle) => low_water(store, *handle),
@@ -313,8 +312,8 @@ fn make(alloc: Global, store: &mut StorePtr, other: &mut StorePtr, call: &Call) 
         Call::Free => freed(alloc, store),
         Call::OpenShared(seats) => open_shared(alloc, store, *seats),
         Call::Move(handle) => moved(alloc, store, *handle, other),
-        Call::SeatAdd(seat, tries) => seat_add(alloc, store, *seat, *tries),
-        Call::SeatAddAll(seat) => seat_add_all(alloc, store, *seat),
+        Call::SeatAdd(seat, tries) => seat_add(store, *seat, *tries),
+        Call::SeatAddAll(seat) => seat_add_all(store, *seat),
         Call::SeatGetMax(seat, key) => seat_get_max(store, *seat, key),
         Call::SeatEarliest(seat) => seat_earliest(store, *seat),
         Call::May(handle, wall) => may(store, *handle, *wall),

@@ -39,7 +39,7 @@ fn is_told(text: &str, wanted: u32, out: &[u8], code: u32, len: usize) -> bool {
         && sevens
 }
 
-/// Whether a row is told so in a buffer that has room for so many bytes.
+/// Whether a row comes out as wanted in a buffer of `room` bytes.
 fn holds(alloc: Global, row: &Row, room: usize) -> Result<bool, AllocError> {
     let (trace, log, wanted, text) = *row;
     let mut out = Vec::from_elem(alloc, 7u8, room)?;

@@ -88,7 +88,7 @@ pub extern "C" fn tsc_seat_earliest_write(
     }
 }
 
-/// Whether it may, by what a seat answers, and how many Adds the seat has seen then.
+/// Whether a write may be made, by what a seat answers, and how many Adds the seat has seen then.
 #[unsafe(no_mangle)]
 pub extern "C" fn tsc_seat_may_write(
     store: &mut StorePtr,

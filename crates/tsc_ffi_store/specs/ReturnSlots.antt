@@ -23,7 +23,8 @@ token number = dealing number (number + 1) 0
 abbrev pub spent : ℕ → Known
 spent number = record { from = number; to = number + 1; taken = true; returned = 0 }
 
--- who has dealt all tokens of so many, and knows that so many seats from 0 on are returned
+-- who has dealt the tokens of all `seats` seats, and knows that the first `returned` seats are
+-- returned
 abbrev pub keeping : ℕ → ℕ → Known
 keeping seats returned = dealing seats seats returned
 
@@ -51,7 +52,8 @@ pub record IsFree (cache : SharedView) (words : List ℕ) (slots : List (maybe.O
   pub held : Returned
   pub lies : get_elem? slots slot ≡ maybe.some (maybe.some held)
 
--- What one knows fits: the slots that it may take are there, and so many seats are returned.
+-- What one knows fits: the slots that it may take are there, and the first `v.returned` seats are
+-- returned.
 pub record Fits (cache : SharedView) (words : List ℕ) (slots : List (maybe.Option Returned))
     (v : Known) : Type 0 where
   pub free : (slot : ℕ) → v.taken ≡ false → IsAmong v slot → IsFree cache words slots slot

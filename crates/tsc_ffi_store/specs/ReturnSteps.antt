@@ -8,7 +8,7 @@ use Rattle.tsc_ffi_store.specs.ReturnSlots.{Returned, dealing}
 abbrev pub At : Type 0
 At = Me Returned Known
 
--- the other tokens, once the first was dealt, and that one
+-- the other tokens, once the first was dealt, and the first token
 abbrev pub others : Known → Known
 others v = dealing (v.from + 1) v.to v.returned
 

@@ -35,11 +35,11 @@ pub record OpensShared (old new : List Slot) (handle : ℕ) (settings : Settings
   pub count_kept : cache.seats ≡ count
   pub limit_kept : cache.limit ≡ limit
 
--- There may not be so many seats.
+-- No shared cache may have `count` seats.
 abbrev pub RefusesSeats : Refusal → ℕ → Type 0
 RefusesSeats why count = (why ≡ refusal.Seats) × (is_seat_count count ≡ false)
 
--- There is no memory for seats, of which there may be so many.
+-- A shared cache may have `count` seats, but there is no memory for them.
 abbrev pub RefusesRoom : Refusal → ℕ → Type 0
 RefusesRoom why count = (why ≡ refusal.NoMemory) × (is_seat_count count ≡ true)
 
@@ -53,7 +53,7 @@ pub record AnswersOpenShared {A : Type 0} (asked : AskedConfig) (count limit han
   pub unchanged : OnErr did (new ≡ old)
 
 -- What the cache of a seat answers to the span that a call names: by all that the seat has seen
--- then, which are so many Adds.
+-- then, which are `seen` Adds.
 pub record SeatLooks (old new : SeatView) (asked : AskedSpan) (seen : ℕ) (v : OwnedTime) : Type
     0 where
   pub span : Interval
@@ -210,7 +210,7 @@ pub record AnswersMove {A : Type 0} (handle m : ℕ) (from to from' to' : List S
   pub refused : IfErr did (λ why. RefusesMove why from handle)
 
 -- A shared cache is closed. All its seats were handed in, and what all of them saw was a beginning
--- of one history, which has so many Adds.
+-- of one history, which has `adds` Adds.
 pub record ClosesShared (held after : Option SharedView) (adds : ℕ) : Type 0 where
   pub cache : SharedView
   pub holds : held ≡ Some cache

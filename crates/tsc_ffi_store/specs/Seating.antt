@@ -10,7 +10,7 @@ pub record SharedHandleView : Type 0 where
   pub cache : SharedView
   pub table : TableId
 
--- a table for so many seats
+-- the table has a word and a slot for each of `seats` seats
 pub record IsSized (table : TableId) (seats : ℕ) : Type 0 where
   pub words : table.words ≡ seats
   pub slots : table.slots ≡ seats
@@ -37,19 +37,19 @@ pub record Deals (shared : SharedHandleView) (table : TableId) (me : At) (number
   pub sized : IsSized shared.table shared.cache.seats
   pub others : me ≡ (dealing number shared.cache.seats 0, [])
 
--- A token of a table for so many seats, which knows how many of them are returned.
+-- A token of a table for `seats` seats, which knows that the first `returned` of them are returned.
 pub record KnowsReturned (table its : TableId) (me : At) (seats returned : ℕ) : Type 0 where
   pub its_table : its ≡ table
   pub sized : IsSized table seats
   pub known : me ≡ (keeping seats returned, [])
   pub some : returned ≤ seats
 
--- A list without seats, which has room for so many.
+-- An empty list, which has room for `seats` seats.
 pub record IsRoomFor (items : List SeatView) (capacity seats : ℕ) : Type 0 where
   pub empty : items ≡ []
   pub room : seats ≤ capacity
 
--- The keeper's token knows that so many seats are returned.
+-- The keeper's token knows that the first `returned` seats are returned.
 pub record IsKeeper (shared : SharedHandleView) (table : TableId) (me : At) (seats returned : ℕ) :
     Type 0 where
   pub its_table : table ≡ shared.table

@@ -84,7 +84,7 @@ pub record AsksWrite (old new : SeatView) (asked : AskedWrite) (told : Option Ti
 abbrev pub RefusesWrite : Refusal → AskedWrite → Type 0
 RefusesWrite why asked = RefusesTime why asked.time ⊎ RefusesSpans why asked.keys asked.spans
 
--- What is told of a write: a time, or that there is none.
+-- What a call answers of a write: a time, or that there is none.
 abbrev pub TellsTime : {A : Type 0} → (Option Time → Type 0) → AskedWrite → Time → Result A Refusal
     → Type 0
 TellsTime Tells asked at did =
@@ -95,7 +95,8 @@ TellsTime Tells asked at did =
 abbrev pub AnswersWrite : {A : Type 0} → AskedWrite → Time → CacheView → Result A Refusal → Type 0
 AnswersWrite asked at cache did = TellsTime (TellsWrite cache asked) asked at did
 
--- What a seat answers to it. It has seen so many Adds in the end.
+-- What a seat answers to the question from when on a write may be made. The seat has seen `seen`
+-- Adds in the end.
 pub record AnswersSeatWrite {A : Type 0} (asked : AskedWrite) (seen : ℕ) (at : Time)
     (old new : SeatView) (did : Result A Refusal) : Type 0 where
   pub told : TellsTime (AsksWrite old new asked) asked at did
@@ -124,7 +125,8 @@ pub record AsksMayWrite (old new : SeatView) (asked : AskedWrite) (may : Bool) :
   pub asks : AsksWrite old new asked told
   pub value : IsTrue may ↔ (told ≡ Some asked.time)
 
--- What a seat answers to that question. It has seen so many Adds in the end.
+-- What a seat answers to the question whether a write may be made. The seat has seen `seen` Adds in
+-- the end.
 pub record AnswersSeatMayWrite {A : Type 0} (asked : AskedWrite) (seen : ℕ) (may : Bool)
     (old new : SeatView) (did : Result A Refusal) : Type 0 where
   pub told : IfOk did (λ _. AsksMayWrite old new asked may)

@@ -81,7 +81,7 @@ pub fn look_in(cache: &Cache, span: &SpanArgs<'_>, out: &mut TscValue) -> Result
     Ok(())
 }
 
-/// The same, in whatever form the span is.
+/// Writes the latest time on a span of any form, as [`look_in`] does.
 #[inline(never)]
 fn look_formed(cache: &Cache, span: &SpanArgs<'_>, out: &mut TscValue) -> Result<(), Refusal>
     ensures answers { AnswersLookup (asked_span span.now) (value_of out.new) cache.now result }
@@ -136,7 +136,7 @@ pub fn add_in(
     }
 }
 
-/// The same, in whatever form the span is.
+/// Adds a span of any form with its value, and writes what that did, as [`add_in`] does.
 #[inline(never)]
 fn add_formed(
     alloc: Global,

@@ -1,4 +1,4 @@
-// What C and the library hand to each other. The header `include/tscache.h` says the same in C.
+// What C and the library hand to each other. The header `include/tscache.h` declares it in C.
 
 /// A time: nanoseconds, and a count among those of one nanosecond.
 #[repr(C)]
@@ -103,7 +103,7 @@ pub struct WriteArgs<'a> {
     pub write: &'a TscValue,
 }
 
-/// A span of which is to be told what was read, in so many marks at the most.
+/// A span whose reads are to be summarized, in at most `most` marks.
 #[derive(Clone, Copy)]
 pub struct SummaryArgs<'a> {
     pub span: SpanArgs<'a>,

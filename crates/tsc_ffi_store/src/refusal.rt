@@ -23,13 +23,13 @@ pub enum Refusal {
     Outside = 7,
     /// There may be no pages of these sizes.
     PageSize = 8,
-    /// There may not be so many pages.
+    /// The least number of pages is out of range.
     MinPages = 9,
-    /// Reads may not be retained for so long.
+    /// The time for which reads are retained is out of range.
     Retention = 10,
     /// Memory was refused.
     NoMemory = 11,
-    /// A shared cache may not have so many seats.
+    /// The number of seats of a shared cache is not from 1 to 64.
     Seats = 12,
     /// A seat of the shared cache is still out.
     StillOut = 13,

@@ -23,7 +23,7 @@ use std::mem::replace;
 use tsc_cache::Config;
 use tsc_shared::{AddFault, TryAddFault};
 
-/// Whether a shared cache may have so many seats.
+/// Whether a shared cache may have `seats` seats.
 pub fn may_seat(seats: u32) -> bool
     ensures { result ≡ is_seat_count seats }
 {
@@ -237,7 +237,8 @@ pub fn add_at(
     Ok(())
 }
 
-/// Adds several marks at a seat, all of them or none, and writes the same.
+/// Adds several marks at a seat, all of them or none, and writes the place of that among all Adds,
+/// and what it did.
 pub fn add_all_at(
     alloc: Global,
     seat: &mut SeatHandle,

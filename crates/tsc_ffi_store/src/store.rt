@@ -12,7 +12,7 @@ use tsc_cache::Cache;
 /// What a handle that was given names.
 #[derive(Drop)]
 pub enum Slot {
-    /// Nothing any more.
+    /// What is left of a closed cache or seat.
     Closed,
     /// A cache for calls of one thread at a time.
     Own(Cache),
@@ -88,6 +88,11 @@ impl Store {
         Store {
             slots: Vec::new(alloc),
         }
+    }
+
+    /// Where the memory of what the store holds comes from.
+    pub fn alloc(&self) -> Global {
+        *self.slots.allocator()
     }
 
     /// The cache that a handle names.

@@ -29,7 +29,8 @@ pub fn write_in(cache: &Cache, args: &WriteArgs<'_>, out: &mut TscTime) -> Resul
     Ok(())
 }
 
-/// The same, for what a seat answers. It also writes how many Adds the seat has seen then.
+/// Writes the earliest time, from that of a write on, at which the write is clear of what a seat
+/// answers to each of its spans. `seen` gets how many Adds the seat has seen then.
 pub fn write_at(
     seat: &mut SeatHandle,
     args: &WriteArgs<'_>,
@@ -59,7 +60,8 @@ pub fn may_in(cache: &Cache, args: &WriteArgs<'_>, out: &mut bool) -> Result<(),
     Ok(())
 }
 
-/// The same, for what a seat answers. It also writes how many Adds the seat has seen then.
+/// Writes whether a write is clear, at its time, of what a seat answers to each of its spans.
+/// `seen` gets how many Adds the seat has seen then.
 pub fn may_at(
     seat: &mut SeatHandle,
     args: &WriteArgs<'_>,
@@ -101,7 +103,8 @@ fn earliest_in(cache: &Cache, args: &WriteArgs<'_>) -> Result<Option<Timestamp>,
     Ok(time)
 }
 
-/// The same of what a seat answers to one span after another.
+/// The earliest time at which a write is clear of what a seat answers to some spans, one after
+/// another.
 fn earliest_at(seat: &mut SeatHandle, args: &WriteArgs<'_>) -> Result<Option<Timestamp>, Refusal>
     ensures told { IfOk result (λ told. AsksWrite seat.old seat.new (asked_write args.now) told) }
     ensures refused { IfErr result (λ why. RefusesWrite why (asked_write args.now)) }

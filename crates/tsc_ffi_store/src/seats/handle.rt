@@ -113,7 +113,7 @@ impl SeatHandle {
 
     /// Returns the seat. The cache can be closed once all its seats are returned.
     ///
-    /// It takes no memory, and does not wait.
+    /// The return takes no memory, and does not wait.
     pub fn close(self) {
         let SeatHandle { shared, seat, slot } = self;
         return_seat(&shared.slots.shared, slot, seat);

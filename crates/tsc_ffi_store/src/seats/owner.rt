@@ -84,7 +84,7 @@ impl Owner {
     /// holds. Otherwise it hands itself back. A handle that was dropped, and not
     /// [closed](SeatHandle::close), is missing for good.
     ///
-    /// It takes no memory, and does not wait.
+    /// The call takes no memory, and does not wait.
     pub fn close(mut self) -> Result<Closed, Owner>
         ensures closed { IfOk result
             (λ closed. (seats : List SeatView) × Closes self seats closed) }

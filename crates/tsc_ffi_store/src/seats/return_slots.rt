@@ -1,9 +1,9 @@
 //! The slots in which the seats of a cache are returned.
 //!
-//! They are a table with a word and a slot for each seat of the cache. Each seat has a *slot
-//! token*, which alone may take the slot of that number. A return has three steps: the token takes
-//! the slot, lays the seat there, and gives the slot back as the word becomes 1. The keeper reads
-//! the words one after another, and counts the seats that are returned.
+//! The slots are in a table with a word and a slot for each seat of the cache. Each seat has a
+//! *slot token*, which alone may take the slot of that number. A return has three steps: the token
+//! takes the slot, lays the seat there, and gives the slot back as the word becomes 1. The keeper
+//! reads the words one after another, and counts the seats that are returned.
 ghost use Rattle.std.specs.Prelude.{◌≡◌, [], ◌<◌, ◌+◌, length, All, IfOk, true};
 ghost use Rattle.std.specs.Vec.{vec_capacity};
 ghost use Rattle.tsc_ffi_store.specs.ReturnSlots.{IsKept, first_known, dealing, token};
@@ -39,7 +39,7 @@ pub type ReturnSlots = Table<Option<Seat>, Known, SharedCache, ReturnRule, Globa
 /// The slots as threads share them.
 pub type SharedSlots = Shared<Option<Seat>, Known, SharedCache, ReturnRule>;
 
-/// What its holder knows of the slots, and may take of them.
+/// What the holder of a token knows of the slots, and may take of them.
 pub type SlotToken = TableSeat<Option<Seat>, Known>;
 
 /// The first of the slots gets a token of its own.

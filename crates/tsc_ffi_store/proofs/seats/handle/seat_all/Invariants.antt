@@ -1,4 +1,4 @@
--- The handles so far, and the seats that are left, are all; and so are the tokens.
+-- The handles so far and the seats that are left are all seats, and their tokens are all tokens.
 use Rattle.std.proofs.Common.{◌≡◌}
 use Rattle.std.specs.Arc.{arc_value}
 use Rattle.std.specs.Vec.Iter.{into_iter_items}
