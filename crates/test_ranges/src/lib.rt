@@ -7,18 +7,8 @@
 #![tactic(auto)]
 
 #[cfg(test)]
-mod executor;
-#[cfg(test)]
-mod histories;
-#[cfg(test)]
-mod plain;
-#[cfg(test)]
 mod refused;
 #[cfg(test)]
 mod scenarios;
-#[cfg(test)]
-mod scene;
-#[cfg(test)]
-mod shared;
 #[cfg(test)]
 mod tests;

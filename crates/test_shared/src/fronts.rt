@@ -1,11 +1,8 @@
 //! Fronts that go to other threads by channels.
-use super::harness::SentSnapshot;
-use super::words::*;
+use crate::harness::SentSnapshot;
+use crate::prelude::*;
 use crossbeam_channel::{Receiver, Sender};
-use std::alloc::Global;
-
-/// How many Adds each seat makes.
-const EACH: u32 = 1250;
+use std::alloc::AllocError;
 
 /// The key of each seat.
 static KEYS: [&str; 8] = ["a", "b", "c", "d", "e", "f", "g", "h"];
@@ -26,14 +23,13 @@ pub struct Channel<C: Of> {
 }
 
 impl<C: Of> Channel<C> {
-    /// `count` channels. `None` where memory is refused.
-    pub fn all(alloc: Global, count: u64) -> Option<Vec<Channel<C>>> {
+    pub fn all(alloc: Global, count: u64) -> Result<Vec<Channel<C>>, AllocError> {
         let mut all = Vec::new(alloc);
         for _ in 0..count {
-            let (to, from) = crossbeam_channel::unbounded(alloc).ok()?;
-            all.push(Channel { to, from }).ok()?;
+            let (to, from) = crossbeam_channel::unbounded(alloc)?;
+            all.push(Channel { to, from })?;
         }
-        Some(all)
+        Ok(all)
     }
 }
 
@@ -41,7 +37,7 @@ impl<C: Of, R: Wait + Abort> Player<'_, C, R> {
     /// Adds the seat's own key at a time, sends the front to the next seat, and takes the next one
     /// that comes. `None` where memory or a channel is refused.
     fn exchange(&mut self, time: u64) -> Option<Post<C>> {
-        let number = self.guest.seat.number() as usize;
+        let number = self.number() as usize;
         let key = *KEYS.get(number)?;
         self.add_key(key, time, Gate);
         let letter = self.guest.take_letter()?;
@@ -52,33 +48,31 @@ impl<C: Of, R: Wait + Abort> Player<'_, C, R> {
 
     /// Sends a front on, learns the one that comes, and sees its Add then.
     pub fn send_on(&mut self, round: u32) -> bool {
-        let time = u64::from(round).saturating_add(20);
-        let Some(Post { letter, key, time }) = self.exchange(time) else {
-            self.check(false, Number(time));
+        let Some(Post { letter, key, time }) = self.exchange(u64::from(round).saturating_add(20))
+        else {
+            self.check(false, Reply::NoMemory);
             return false;
         };
         let least = letter.front.len();
         let learnt = self.home.learn(&mut self.guest, letter);
         let seen = self.get(key);
         let has_come = match (learnt, seen) {
-            (Number(long), Value(wall, _, front)) => {
-                least <= long && long <= front && time <= wall
+            (Number(length), Read(wall, _, front)) => {
+                least <= length && length <= front && time <= wall
             }
             _ => false,
         };
         self.check(has_come, seen);
-        round.saturating_add(1) < EACH
+        self.meeting.has_more(round)
     }
 }
 
 /// Each seat sends the fronts of its Adds to the next one.
-static RING: [Step; 3] = [
-    (0, Open(PAGES, 8, 10_000), Done),
-    (0, AtOnce(Ring), Number(10_000)),
-    (0, Close, Number(10_000)),
-];
+const RING: &str = "open 8 10000
+ring 1250 = 10000
+close = 10000";
 
 #[test]
 fn who_learns_a_front_sees_its_add(rt: HostRuntime) -> Result<(), Fail> {
-    play(&rt, rt.alloc(), &RING, Once)
+    play(&rt, rt.alloc(), RING, Way::Once)
 }

@@ -1,103 +1,88 @@
 //! An Add that is held up where it has the writer lock and nobody can see it, until lookups on
 //! other threads have answered, and Adds there were given up.
-use super::watch::TURNS;
-use super::words::*;
-use std::thread;
+use crate::prelude::*;
+use crate::threads::Meanwhile;
+use crate::watch::TURNS;
 
 /// The first Add of all.
-static FIRST_OF_ALL: [Step; 8] = [
-    (0, Open(PAGES, 2, 100), Done),
-    (1, While(1, "a"), Value(5, Nobody, 0)),
-    (1, LowMeanwhile, Value(5, Nobody, 0)),
-    (0, AtOnce(Held("a@20", 20, Place(0, KEPT))), Number(1)),
-    (0, HandOn, Number(1)),
-    (1, Learn, Number(1)),
-    (1, Get("a"), Value(20, First, 1)),
-    (1, Get("b"), Value(5, Nobody, 1)),
-];
+const FIRST_OF_ALL: &str = "open 2 100
+while 1 a = 5 0
+while floor = 5 0
+held a@20¹ 20 place 0 kept = 1
+0 hand_on = 1
+1 learn = 1
+1 get a = 20¹ 1
+1 get b = 5 1";
 
 /// Two keys, as a batch.
-static BATCH: [Step; 8] = [
-    (0, Open(PAGES, 2, 10), Done),
-    (1, While(1, "a-c"), Value(5, Nobody, 0)),
-    (1, LowMeanwhile, Value(5, Nobody, 0)),
-    (
-        0,
-        AtOnce(Held("[a@20 b@20]", 20, Place(0, KEPT))),
-        Number(1),
-    ),
-    (0, HandOn, Number(1)),
-    (1, Learn, Number(1)),
-    (1, Get("a"), Value(20, First, 1)),
-    (1, Get("b"), Value(20, First, 1)),
-];
+const BATCH: &str = "open 2 10
+while 1 [a,c) = 5 0
+while floor = 5 0
+held {a@20¹|b@20¹} 20 place 0 kept = 1
+0 hand_on = 1
+1 learn = 1
+1 get a = 20¹ 1
+1 get b = 20¹ 1";
 
-/// One that rotates the pages, and drops the oldest: its floor rises to 20.0, which has no owner.
-static ROTATING: [Step; 16] = [
-    (0, Open(PAGES, 2, 100), Done),
-    (0, Add("a@20", 20, Gate), Place(0, KEPT)),
-    (0, Add("b@20", 20, Gate), Place(1, KEPT)),
-    (0, Add("c@20", 20, Gate), Place(2, KEPT)),
-    (0, Add("d@20", 20, Gate), Place(3, KEPT)),
-    (0, Add("e@20", 20, Gate), Place(4, ROTATED)),
-    (0, Add("f@41", 40, Gate), Place(5, KEPT)),
-    (0, Add("g@41", 40, Gate), Place(6, KEPT)),
-    (0, Add("h@41", 40, Gate), Place(7, KEPT)),
-    (1, While(1, "a"), Value(20, First, 8)),
-    (1, LowMeanwhile, Value(5, Nobody, 8)),
-    (0, AtOnce(Held("i@41", 40, Place(8, DROPPED))), Number(1)),
-    (0, HandOn, Number(9)),
-    (1, Learn, Number(9)),
-    (1, Get("a"), Value(20, Nobody, 9)),
-    (1, Get("b"), Value(20, Nobody, 9)),
-];
+/// An Add that rotates the pages and drops the oldest. The floor rises to 20.0, which has no owner.
+const ROTATING: &str = "open 2 100
+0 add a@20¹ 20 gate = place 0 kept
+0 add b@20¹ 20 gate = place 1 kept
+0 add c@20¹ 20 gate = place 2 kept
+0 add d@20¹ 20 gate = place 3 kept
+0 add e@20¹ 20 gate = place 4 rotated
+0 add f@41¹ 40 gate = place 5 kept
+0 add g@41¹ 40 gate = place 6 kept
+0 add h@41¹ 40 gate = place 7 kept
+while 1 a = 20¹ 8
+while floor = 5 8
+held i@41¹ 40 place 8 dropped = 1
+0 hand_on = 9
+1 learn = 9
+1 get a = 20 9
+1 get b = 20 9";
 
 /// All lookups of four other seats answer meanwhile.
-static MANY: [Step; 9] = [
-    (0, Open(PAGES, 5, 100), Done),
-    (0, Add("a@20", 20, Gate), Place(0, KEPT)),
-    (1, While(1000, "a"), Value(20, First, 1)),
-    (1, LowMeanwhile, Value(5, Nobody, 1)),
-    (0, AtOnce(Held("a@30", 20, Place(1, KEPT))), Number(1)),
-    (0, HandOn, Number(2)),
-    (4, Learn, Number(2)),
-    (4, Get("a"), Value(30, First, 2)),
-    (4, Get("b"), Value(5, Nobody, 2)),
-];
+const MANY: &str = "open 5 100
+0 add a@20¹ 20 gate = place 0 kept
+while 1000 a = 20¹ 1
+while floor = 5 1
+held a@30¹ 20 place 1 kept = 1
+0 hand_on = 2
+4 learn = 2
+4 get a = 30¹ 2
+4 get b = 5 2";
 
 impl<C: Of, R: Wait + Abort> Player<'_, C, R> {
-    /// Looks as often as it is to, and tries to add the same, after however many tries.
+    /// Looks as often as the rows say. Then the Add that is held up is tried, and each try is busy.
     fn look_on(&mut self) {
         let meeting = self.meeting;
-        let (looks, span) = meeting.meanwhile.asked;
-        self.check(looks > 0, meeting.meanwhile.reply);
+        let Meanwhile {
+            looks,
+            reply: wanted,
+            floor: wanted_floor,
+        } = meeting.meanwhile;
+        self.check(looks > 0, wanted);
         for _ in 0..looks {
-            let reply = match span.split_once('-') {
-                Some((start, end)) => {
-                    let (guest, end) = (&mut self.guest, Some(end.as_bytes()));
-                    self.home
-                        .get_between(guest, start.as_bytes(), end, (false, true))
-                }
-                None => self.get(span),
-            };
-            self.check(reply == meeting.meanwhile.reply, reply);
+            let reply = self.get(meeting.asked);
+            self.check(reply == wanted, reply);
             let floor = self.home.low(&mut self.guest);
-            self.check(floor == meeting.meanwhile.floor, floor);
+            self.check(floor == wanted_floor, floor);
         }
         for tries in [0, 1, 100] {
-            let reply = self.add(&meeting.adding, Tries(tries));
+            let reply = self.add(&meeting.entry, Tries(tries));
             self.check(reply == Busy, reply);
         }
     }
 
     /// The first seat adds, once more where it is refused memory, and the others look once its Add
     /// is held up.
-    pub fn hold(&mut self, wanted: Reply, round: u32) -> bool {
+    pub fn hold(&mut self, round: u32) -> bool {
         let meeting = self.meeting;
-        if self.guest.seat.number() == 0 {
-            let reply = self.add(&meeting.adding, Gate);
+        if self.number() == 0 {
+            let reply = self.add(&meeting.entry, Gate);
             let is_refused = reply == Reply::NoMemory && round == 0;
-            self.check(is_refused || reply == wanted, reply);
+            self.check(is_refused || reply == meeting.wanted, reply);
             return is_refused;
         }
         if meeting.gate.told() > 0 {
@@ -115,20 +100,20 @@ impl<C: Of, R: Wait + Abort> Player<'_, C, R> {
 
 #[test]
 fn a_lookup_answers_while_the_first_add_is_held_up(rt: HostRuntime) -> Result<(), Fail> {
-    play(&rt, rt.alloc(), &FIRST_OF_ALL, Once)
+    play(&rt, rt.alloc(), FIRST_OF_ALL, Way::Once)
 }
 
 #[test]
 fn a_lookup_answers_while_a_batch_is_held_up(rt: HostRuntime) -> Result<(), Fail> {
-    play(&rt, rt.alloc(), &BATCH, Once)
+    play(&rt, rt.alloc(), BATCH, Way::Once)
 }
 
 #[test]
 fn a_lookup_answers_while_a_rotating_add_is_held_up(rt: HostRuntime) -> Result<(), Fail> {
-    play(&rt, rt.alloc(), &ROTATING, Once)
+    play(&rt, rt.alloc(), ROTATING, Way::Once)
 }
 
 #[test]
 fn all_lookups_answer_while_the_lock_is_held(rt: HostRuntime) -> Result<(), Fail> {
-    play(&rt, rt.alloc(), &MANY, Once)
+    play(&rt, rt.alloc(), MANY, Way::Once)
 }

@@ -1,8 +1,8 @@
 //! Tests of the shared cache over threads, through its public calls: what it tells where Adds are
 //! held up, raced, refused and handed on.
 //!
-//! They stand apart because a crate that has tests is proved once with them and once without; and
-//! apart from those of one thread because the gate reckons a crate's memory by its lines, so that
+//! These tests stand apart because a crate with tests is proved once with them and once without.
+//! Tests of one thread are in another crate: the gate reckons a crate's memory by its lines, and
 //! two large crates wait for each other.
 #![tactic(auto)]
 
@@ -10,6 +10,8 @@
 mod asked;
 #[cfg(test)]
 mod batches;
+#[cfg(test)]
+mod entries;
 #[cfg(test)]
 mod figures;
 #[cfg(test)]
@@ -23,11 +25,13 @@ mod held;
 #[cfg(test)]
 mod large;
 #[cfg(test)]
-mod marks;
-#[cfg(test)]
 mod memory;
 #[cfg(test)]
+mod prelude;
+#[cfg(test)]
 mod refused;
+#[cfg(test)]
+mod replies;
 #[cfg(test)]
 mod returned;
 #[cfg(test)]
@@ -46,5 +50,3 @@ mod threads;
 mod tries;
 #[cfg(test)]
 mod watch;
-#[cfg(test)]
-mod words;

@@ -1,78 +1,71 @@
 //! Want of memory. `scripts/refuse-each-growth tests test_shared memory::..` refuses each growth of
 //! these tests in turn, and counts those after which a test passes.
-use super::words::*;
+use crate::steps::{Way, play};
+use std::test::Fail;
 
 /// Both seats add, in turn. The third Add is of a key that is there already. The pages rotate at
 /// `e` and at `i`, where the oldest is dropped.
-static AGAIN: [Step; 14] = [
-    (0, OpenAgain(PAGES, 2, 100), Done),
-    (0, Again("a@20", 20, Gate), Place(0, KEPT)),
-    (1, Again("b@20", 20, Gate), Place(1, KEPT)),
-    (0, Again("a@21", 20, Gate), Place(2, KEPT)),
-    (1, Again("c@20", 20, Gate), Place(3, KEPT)),
-    (0, Again("d@20", 20, Gate), Place(4, KEPT)),
-    (1, Again("e@20", 20, Gate), Place(5, ROTATED)),
-    (0, Again("f@41", 40, Gate), Place(6, KEPT)),
-    (1, Again("g@41", 40, Gate), Place(7, KEPT)),
-    (0, Again("h@41", 40, Gate), Place(8, KEPT)),
-    (1, Again("i@41", 40, Gate), Place(9, DROPPED)),
-    (0, Again("i@42", 40, Gate), Place(10, KEPT)),
-    (1, Again("a@21", 40, Gate), Place(11, NOT_KEPT)),
-    (0, Close, Number(12)),
-];
+const AGAIN: &str = "reopen 2 100
+0 again a@20¹ 20 gate = place 0 kept
+1 again b@20¹ 20 gate = place 1 kept
+0 again a@21¹ 20 gate = place 2 kept
+1 again c@20¹ 20 gate = place 3 kept
+0 again d@20¹ 20 gate = place 4 kept
+1 again e@20¹ 20 gate = place 5 rotated
+0 again f@41¹ 40 gate = place 6 kept
+1 again g@41¹ 40 gate = place 7 kept
+0 again h@41¹ 40 gate = place 8 kept
+1 again i@41¹ 40 gate = place 9 dropped
+0 again i@42¹ 40 gate = place 10 kept
+1 again a@21¹ 40 gate = place 11 not_kept
+close = 12";
 
 /// An Add of a key that both sides have.
-static KNOWN: [Step; 7] = [
-    (0, Open(PAGES, 2, 100), Done),
-    (0, Add("a@20", 20, Gate), Place(0, KEPT)),
-    (0, Add("b@20", 20, Gate), Place(1, KEPT)),
-    (0, Add("c@20", 20, Gate), Place(2, KEPT)),
-    (0, Add("b@20", 20, Gate), Place(3, KEPT)),
-    (0, Add("b@20", 20, Gate), Place(4, KEPT)),
-    (0, Again("b@30", 30, Gate), Place(5, KEPT)),
-];
+const KNOWN: &str = "open 2 100
+0 add a@20¹ 20 gate = place 0 kept
+0 add b@20¹ 20 gate = place 1 kept
+0 add c@20¹ 20 gate = place 2 kept
+0 add b@20¹ 20 gate = place 3 kept
+0 add b@20¹ 20 gate = place 4 kept
+0 again b@30¹ 30 gate = place 5 kept";
 
-/// A copy of its span.
-static COPY: [Step; 7] = [
-    (0, Open(PAGES, 2, 100), Done),
-    (0, Add("a@20", 20, Gate), Place(0, KEPT)),
-    (0, Add("b@20", 20, Gate), Place(1, KEPT)),
-    (0, Add("c@20", 20, Gate), Place(2, KEPT)),
-    (0, Add("b@20", 20, Gate), Place(3, KEPT)),
-    (0, Add("b@20", 20, Gate), Place(4, KEPT)),
-    (0, Copy("b"), Done),
-];
+/// A copy of the span of `b`, where both sides have that key.
+const COPY: &str = "open 2 100
+0 add a@20¹ 20 gate = place 0 kept
+0 add b@20¹ 20 gate = place 1 kept
+0 add c@20¹ 20 gate = place 2 kept
+0 add b@20¹ 20 gate = place 3 kept
+0 add b@20¹ 20 gate = place 4 kept
+copy b";
 
 /// A copy of a range.
-static COPY_OF_RANGE: [Step; 7] = [
-    (0, Open(PAGES, 2, 100), Done),
-    (0, Add("a@20", 20, Gate), Place(0, KEPT)),
-    (0, Add("b@20", 20, Gate), Place(1, KEPT)),
-    (0, Add("c@20", 20, Gate), Place(2, KEPT)),
-    (0, Add("b@20", 20, Gate), Place(3, KEPT)),
-    (0, Add("b@20", 20, Gate), Place(4, KEPT)),
-    (0, Copy("b-c"), Done),
-];
+const COPY_OF_RANGE: &str = "open 2 100
+0 add a@20¹ 20 gate = place 0 kept
+0 add b@20¹ 20 gate = place 1 kept
+0 add c@20¹ 20 gate = place 2 kept
+0 add b@20¹ 20 gate = place 3 kept
+0 add b@20¹ 20 gate = place 4 kept
+copy [b,c)";
 
 #[test]
 fn a_refused_add_can_be_made_again(rt: HostRuntime) -> Result<(), Fail> {
-    play(&rt, rt.alloc(), &AGAIN, Once)
+    play(&rt, rt.alloc(), AGAIN, Way::Once)
 }
 
-/// The growths that are refused and then made good here are as many as in the next test: an Add
-/// takes a copy of its span, and no other memory, where both sides have its key.
+/// As many growths are refused and made good here as in the next test. Where both sides have its
+/// key, an Add takes a copy of its span and no other memory.
 #[test]
 fn an_add_of_a_known_key_is_made_again(rt: HostRuntime) -> Result<(), Fail> {
-    play(&rt, rt.alloc(), &KNOWN, Once)
+    play(&rt, rt.alloc(), KNOWN, Way::Once)
 }
 
 #[test]
 fn a_copy_of_its_span_is_made_again(rt: HostRuntime) -> Result<(), Fail> {
-    play(&rt, rt.alloc(), &COPY, Once)
+    play(&rt, rt.alloc(), COPY, Way::Once)
 }
 
 /// A growth for each of its keys.
 #[test]
 fn a_copy_of_a_range_is_made_again(rt: HostRuntime) -> Result<(), Fail> {
-    play(&rt, rt.alloc(), &COPY_OF_RANGE, Once)
+    play(&rt, rt.alloc(), COPY_OF_RANGE, Way::Once)
 }

@@ -1,35 +1,41 @@
 //! Adds that are refused memory more than once, or for good, beside a plain cache.
 //! `scripts/refuse-each-growth` with the words `twice` or `for-good` refuses it to them.
-use super::harness::{Ended, TestCache, TestSeat, reply_of};
-use super::marks::Adding;
-use super::stress::ENDS;
-use super::watch::Watch;
-use super::words::*;
+use crate::entries::Entry;
+use crate::harness::{Ended, Of, TestCache, TestSeat};
+use crate::replies::Reply::Number;
+use crate::replies::{By, Reply, reply_of, seen};
+use crate::steps::{Way, closed_with, plain, play};
+use crate::stress::LETTERS;
+use crate::watch::Watch;
 use std::alloc::Global;
+use std::mem;
+use std::process::Abort;
+use std::sync::Wait;
+use std::test::Fail;
+use test_support::{ends, words};
 use tsc_cache::{Cache, TimestampCache};
+use tsc_time::Value;
 
 /// The pages rotate at `e` and at `i`, where the oldest is dropped; the last Add is not kept.
-static ROW: [Step; 13] = [
-    (0, Open(PAGES, 2, 100), Done),
-    (0, Add("a@20", 20, Gate), Place(0, KEPT)),
-    (1, Add("b@20", 20, Gate), Place(1, KEPT)),
-    (0, Add("a@21", 20, Gate), Place(2, KEPT)),
-    (1, Add("c@20", 20, Gate), Place(3, KEPT)),
-    (0, Add("d@20", 20, Gate), Place(4, KEPT)),
-    (1, Add("e@20", 20, Gate), Place(5, ROTATED)),
-    (0, Add("f@41", 40, Gate), Place(6, KEPT)),
-    (1, Add("g@41", 40, Gate), Place(7, KEPT)),
-    (0, Add("h@41", 40, Gate), Place(8, KEPT)),
-    (1, Add("i@41", 40, Gate), Place(9, DROPPED)),
-    (0, Add("i@42", 40, Gate), Place(10, KEPT)),
-    (1, Add("a@21", 40, Gate), Place(11, NOT_KEPT)),
-];
+const TURNS: &str = "open 2 100
+0 add a@20¹ 20 gate = place 0 kept
+1 add b@20¹ 20 gate = place 1 kept
+0 add a@21¹ 20 gate = place 2 kept
+1 add c@20¹ 20 gate = place 3 kept
+0 add d@20¹ 20 gate = place 4 kept
+1 add e@20¹ 20 gate = place 5 rotated
+0 add f@41¹ 40 gate = place 6 kept
+1 add g@41¹ 40 gate = place 7 kept
+0 add h@41¹ 40 gate = place 8 kept
+1 add i@41¹ 40 gate = place 9 dropped
+0 add i@42¹ 40 gate = place 10 kept
+1 add a@21¹ 40 gate = place 11 not_kept";
 
 /// An Add by a seat, what is answered, and a plain cache before it.
 #[derive(Drop)]
 struct Next {
     seat: usize,
-    adding: Adding,
+    entry: Entry,
     wanted: Reply,
     before: Cache,
 }
@@ -44,34 +50,33 @@ struct Course {
 }
 
 impl Course {
-    /// `None` where memory is refused.
-    fn new(alloc: Global, steps: &[Step]) -> Option<Course> {
-        let mut last = plain(alloc)?;
-        let mut adds = Vec::with_capacity(alloc, steps.len()).ok()?;
-        for (seat, act, wanted) in steps {
-            let Act::Add(entry, now, _) = act else {
-                continue;
+    /// The Adds of all rows but the opening.
+    fn new(alloc: Global, rows: &[&'static str]) -> Result<Course, Fail> {
+        let (mut last, mut adds) = (plain(alloc)?, Vec::with_capacity(alloc, rows.len())?);
+        for row in rows.iter().skip(1) {
+            let (step, wanted) = row.split_once(" = ").ok_or("no reply")?;
+            let [seat, act, entry, now, by, rest, ..] = words(step, ' ');
+            if (act, by, rest) != ("add", "gate", "") {
+                return Err("no gated Add".into());
+            }
+            let entry = Entry::new(alloc, entry, now.parse()?)?;
+            let Entry::One(mark, now) = &entry else {
+                return Err("no Add of a mark".into());
             };
-            let adding = Adding::of(alloc, entry, *now)?;
-            let next = after(&last, &adding)?;
-            let before = std::mem::replace(&mut last, next);
-            let (seat, wanted) = (*seat, *wanted);
+            let (next, _) = last.next(&mark.span, mark.value, *now)?;
+            let before = mem::replace(&mut last, next);
+            let (seat, wanted) = (seat.parse()?, reply_of(&words(wanted, ' '))?);
             adds.push(Next {
                 seat,
-                adding,
+                entry,
                 wanted,
                 before,
-            })
-            .ok()?;
+            })?;
         }
-        // (the opening is no Add)
-        if adds.len().saturating_add(1) != steps.len() {
-            return None;
-        }
-        Some(Course { adds, last })
+        Ok(Course { adds, last })
     }
 
-    /// The plain cache after so many Adds.
+    /// The plain cache after some Adds.
     fn after(&self, adds: usize) -> &Cache {
         match self.adds.get(adds) {
             Some(next) => &next.before,
@@ -79,18 +84,17 @@ impl Course {
         }
     }
 
-    /// Whether all seats are answered as the plain cache after so many Adds.
+    /// Whether all seats are answered as the plain cache after some Adds.
     fn is_seen<C: Of>(&self, home: &TestCache<C>, guests: &mut [TestSeat<C>], adds: usize) -> bool {
         let (plain, front) = (self.after(adds), adds as u64);
-        let floor = tsc_time::Value::unowned(plain.low_water());
+        let floor = Value::unowned(plain.low_water());
         let mut is_seen = true;
         for guest in guests.iter_mut() {
-            is_seen &= home.low(guest) == reply_of(floor, front);
-            for letter in 0..26_u8 {
-                let key = [b'a' + letter];
-                let value = plain.get_max_between(&key, Some(&key), ENDS);
-                let reply = home.get_key(guest, &key);
-                is_seen &= reply == reply_of(value, front);
+            is_seen &= home.low(guest) == seen(floor, front);
+            for key in LETTERS.split(' ') {
+                let bytes = key.as_bytes();
+                let value = plain.get_max_between(bytes, Some(bytes), ends("[]"));
+                is_seen &= home.get_between(guest, key) == seen(value, front);
             }
         }
         is_seen
@@ -105,85 +109,78 @@ impl Course {
         guests: &mut [TestSeat<C>],
         (place, next): (usize, &Next),
         gate: &Watch,
-    ) -> Taken {
+    ) -> Reply {
         for _ in 0..3_u32 {
-            let guest = guests.get_mut(next.seat).ok_or(Reply::Gone)?;
+            let Some(guest) = guests.get_mut(next.seat) else {
+                return Reply::Changed;
+            };
             let count = guest.seat.count();
-            let reply = home.add(rt, guest, &next.adding, Gate, gate);
+            let reply = home.add(rt, guest, &next.entry, By::Gate, gate);
             if reply != Reply::NoMemory {
-                return Ok(reply);
+                return reply;
             }
-            let as_before = guest.seat.count() == count && gate.told() == place as u64;
-            if !as_before || !self.is_seen(home, guests, place) {
-                return Err(Reply::Changed);
+            let is_as_before = guest.seat.count() == count && gate.told() == place as u64;
+            if !is_as_before || !self.is_seen(home, guests, place) {
+                return Reply::Changed;
             }
         }
-        match &next.adding {
+        match &next.entry {
             // There is memory.
-            Adding::One(mark, _) if mark.span.try_copy().is_ok() => Err(Reply::RefusedAgain),
-            _ => Ok(Reply::NoMemory),
+            Entry::One(mark, _) if mark.span.try_copy().is_ok() => Reply::RefusedAgain,
+            _ => Reply::NoMemory,
         }
     }
 
-    /// How many Adds were made before memory was refused for good, or a reply that may not be.
+    /// How many Adds were made before memory was refused for good, and a wrong reply if there was
+    /// one.
     fn add_all<C: Of, R: Wait>(
         &self,
         rt: &R,
         home: &TestCache<C>,
         guests: &mut [TestSeat<C>],
-    ) -> Result<usize, Reply> {
+    ) -> (usize, Option<Reply>) {
         let gate = Watch::new(0);
         for (place, next) in self.adds.iter().enumerate() {
-            let reply = self.add(rt, home, guests, (place, next), &gate)?;
+            let reply = self.add(rt, home, guests, (place, next), &gate);
             if reply == Reply::NoMemory {
-                return Ok(place);
+                return (place, None);
             }
             let adds = place.saturating_add(1);
             let is_right = reply == next.wanted && gate.told() == adds as u64;
             if !is_right || !self.is_seen(home, guests, adds) {
-                return Err(reply);
+                return (place, Some(reply));
             }
         }
-        Ok(self.adds.len())
+        (self.adds.len(), None)
     }
-}
-
-/// A plain cache after one more Add. `None` where memory is refused.
-fn after(before: &Cache, adding: &Adding) -> Option<Cache> {
-    let Adding::One(mark, now) = adding else {
-        return None;
-    };
-    let (plain, _) = before.next(&mark.span, mark.value, *now).ok()?;
-    Some(plain)
 }
 
 /// Adds until memory is refused for good, and closes the cache, which then answers as the plain
 /// one.
-pub fn refuse<C: Of, R: Wait>(
+pub fn refuse<C: Of, R: Wait + Abort>(
     rt: &R,
     alloc: Global,
     home: TestCache<C>,
     mut guests: Vec<TestSeat<C>>,
-    steps: &[Step],
-) -> Taken {
-    let course = Course::new(alloc, steps).ok_or(Reply::NoMemory)?;
-    let room = Vec::with_capacity(alloc, guests.len())
-        .ok()
-        .ok_or(Reply::NoMemory)?;
-    let adds = course.add_all(rt, &home, guests.as_mut_slice())?;
-    match home.close(rt, alloc, room, guests) {
-        Ok(Ended::Closed(closed)) => {
-            closed_with(&closed, adds as u64, Some(course.after(adds)))?;
-            Ok(Done)
-        }
-        Ok(Ended::Out(_home, _guests)) => Err(StillOpen),
-        Err(_refused) => Err(Reply::RefusedAgain),
-    }
+    rows: &[&'static str],
+) -> Result<(), Fail> {
+    let course = Course::new(alloc, rows)?;
+    let room = Vec::with_capacity(alloc, guests.len())?;
+    let (adds, wrong) = course.add_all(rt, &home, guests.as_mut_slice());
+    assert_eq!(rt; wrong, None);
+    let counted = adds as u64;
+    let reply = match home.close(rt, alloc, room, guests) {
+        Ok(Ended::Closed(closed)) => closed_with(&closed, counted, Some(course.after(adds))),
+        Ok(Ended::Out(_home, _guests)) => Reply::StillOpen,
+        Err(_refused) => Reply::RefusedAgain,
+    };
+    assert_eq!(rt; reply, Number(counted));
+    Ok(())
 }
 
 /// Both seats add, in turn, and each Add is tried three times. Once memory is refused for good,
 /// lookups answer and the cache is closed all the same.
 #[test]
 fn refused_adds_leave_all_as_it_was(rt: HostRuntime) -> Result<(), Fail> {
-    play(&rt, rt.alloc(), &ROW, ForGood)
+    play(&rt, rt.alloc(), TURNS, Way::ForGood)
 }

@@ -1,16 +1,12 @@
 //! Lookups that begin after an Add has returned on another thread, with nothing but a number to
 //! tell them so.
-use super::words::*;
-use std::thread;
+use crate::prelude::*;
 
-/// How many Adds the first seat makes.
-const ROUNDS: u64 = 10_000;
-
-/// Whether what is seen has all of so many Adds. The first one is at 20.0, and each at a later time
-/// than the one before.
+/// Whether what is seen has this many Adds. The first one is at 20.0, and each at a later time than
+/// the one before.
 fn has_all(adds: u64, seen: Reply) -> bool {
     match seen {
-        Value(wall, _, front) => adds <= front && adds <= wall.saturating_sub(19),
+        Read(wall, _, front) => adds <= front && adds <= wall.saturating_sub(19),
         _ => false,
     }
 }
@@ -19,29 +15,26 @@ impl<C: Of, R: Wait + Abort> Player<'_, C, R> {
     /// The first seat adds, and then stores the number of Adds. The others look until all Adds have
     /// returned.
     pub fn follow(&mut self, round: u32) -> bool {
-        let round = u64::from(round);
-        if self.guest.seat.number() == 0 {
-            let reply = self.add_key("a", round.saturating_add(20), Plain);
-            self.check(reply == Place(round, KEPT), reply);
-            let adds = round.saturating_add(1);
-            self.meeting.adds.store(adds, SeqCst);
-            return adds < ROUNDS;
+        if self.number() == 0 {
+            let place = u64::from(round);
+            let reply = self.add_key("a", place.saturating_add(20), Plain);
+            self.check(reply == Place(place, KEPT), reply);
+            self.meeting.adds.store(place.saturating_add(1), SeqCst);
+            return self.meeting.has_more(round);
         }
         let adds = self.meeting.adds.load(SeqCst);
         let seen = self.get("a");
         self.check(has_all(adds, seen), seen);
         thread::yield_now();
-        adds < ROUNDS
+        adds < self.meeting.plan.rounds.into()
     }
 }
 
-static RETURNED: [Step; 3] = [
-    (0, Open(PAGES, 3, ROUNDS), Done),
-    (0, AtOnce(Returned), Number(0)),
-    (0, Close, Number(ROUNDS)),
-];
+const RETURNED: &str = "open 3 10000
+returned 10000 = 0
+close = 10000";
 
 #[test]
 fn a_lookup_sees_each_add_that_has_returned(rt: HostRuntime) -> Result<(), Fail> {
-    play(&rt, rt.alloc(), &RETURNED, Once)
+    play(&rt, rt.alloc(), RETURNED, Way::Once)
 }

@@ -1,119 +1,83 @@
-//! Rows of steps: what a seat does, and what that answers. Each scene begins with the step that
-//! opens its cache.
+//! Plays rows on a shared cache: what its seats do, and behind ` = ` what that answers.
+//!
+//! A blank line ends a scene, and a line that begins with `#` is a remark. A step of a seat begins
+//! with its number. Spans and values are as in `test_support`, an entry is as `a@20¹`, and a batch
+//! as `{a@20¹|b@20²}`.
+//!
+//! | Row | What is done, or shown |
+//! |---|---|
+//! | `open 2 100` | A cache for 2 seats and 100 Adds, on pages of four keys of one byte. |
+//! | `open 2 100 66 264 1` | One of this first and largest page, and least number of pages. |
+//! | `reopen 2 100` | A cache that is opened once more where memory is refused. |
+//! | `beside` | A cache that isn't shared takes each Add from here on, and counts alike. |
+//! | `0 add a@20¹ 21 gate = place 0 kept` | An Add at 21.0, by the call with a gate. |
+//! | `0 add a@20¹ 21 plain = full 3` | An Add by the call without a gate. The history is full. |
+//! | `0 add a@20¹ 21 7 = busy` | An Add by the call that tries 7 times. |
+//! | `0 again a@20¹ 21 gate = too_large` | An Add that is made again where memory is refused. |
+//! | `0 often #7 40 = place 39 kept` | 40 Adds of a key from 21.0 on, and the reply of the last. |
+//! | `0 refused a@20¹ = the history is full` | Both kinds of faults of an Add have this text. |
+//! | `0 get [a,c) = 20¹ 3` | What a lookup answers of a span, and the length of its front. |
+//! | `0 between [a,c) = 20¹ 3` | What a lookup answers by the bytes of the ends. |
+//! | `0 floor = 5 3` | What is answered of the floor. |
+//! | `0 figures = 2 1 5 165 5 3` | Pages, rotations, nodes, bytes, the floor and the front. |
+//! | `0 hand_on = 1`, `1 learn = 1` | A front goes on, and the oldest of them is learnt. |
+//! | `0 see = 1`, `0 count = 1`, `0 number = 0` | What a seat has seen, its own Adds, its number. |
+//! | `meet = 2`, `leave` | The first two seats meet; the last one is dropped. |
+//! | `gated = 1` | The gate was told of one Add. |
+//! | `copy a` | A span is copied, once more where that is refused memory. |
+//! | `while 9 a = 5 0`, `while floor = 5 0` | What others are answered while an Add is held up. |
+//! | `held a@20¹ 20 place 0 kept = 1` | The Add that is held up, its moment and its reply. |
+//! | `crowd 9 gate plain same = 9` | 9 rounds of Adds, with a gate by even seats alone. |
+//! | `retried 9 8 plain rising = 0` | Adds that are called until made, by even seats in 8 tries. |
+//! | `ring 1250 = 10000` | 1,250 rounds in which fronts go from each seat to the next. |
+//! | `returned`, `both`, `tried`, `given_up`, `told`, `stopped` | Other scenes, with rounds too. |
+//! | `close = 1` | All seats close the cache, which has as many Adds as they count. |
+//! | `close_late = 1` | All but the last seat try to close it first, and have it back. |
+//! | `close_any` | All seats close the cache, which may have any number of Adds. |
+//!
+//! Behind an Add stands what came of it: `kept`, `not_kept`, `rotated`, `dropped` or `dropped_2`.
+//! From `held` on all seats play on threads of their own, and the gate was told of some Adds.
 ghost use Rattle.std.specs.Prelude.{◌≡◌, All};
 
-use super::harness::{
-    By, Ended, Of, Reply, SentSnapshot, TestCache, TestSeat, counted_of, open, together,
-};
-use super::marks::{Adding, at, span_of};
-use super::refused::refuse;
-use super::stress::are_alike;
-use super::texts::reads_alike;
-use super::threads::{Meanwhile, Meeting, Scene, meet};
-use super::watch::Watch;
+use crate::entries::{Entry, owned};
+use crate::harness::{Ended, Of, SentSnapshot, TestCache, TestSeat, open, together};
+use crate::refused::refuse;
+use crate::replies::Reply::{Counted, Number, Place};
+use crate::replies::{By, Reply, counted, reply_of};
+use crate::stress::are_alike;
+use crate::texts::reads_alike;
+use crate::threads::{Meanwhile, Meeting, meet};
+use crate::watch::Watch;
 use std::alloc::Global;
 use std::collections::VecDeque;
 use std::marker::Brand;
+use std::mem;
 use std::process::Abort;
 use std::sync::Wait;
 use std::test::Fail;
 use std::thread::Threads;
+use test_support::{Words, again, at, bytes, span, words};
 use tsc_cache::{Cache, Config, ConfigFault, TimestampCache};
 use tsc_shared::{Closed, Seat, SharedCache};
 use tsc_time::NoMemory;
 
-/// What a seat does. Spans are as `a` or `a-c`, and entries as `a@20` or `[a@20 b-d@21]`.
-pub enum Act {
-    /// Opens a cache with such pages, for so many seats, whose history may have so many Adds.
-    Open(Pages, u32, u64),
-    /// The same, once more where it is refused memory.
-    OpenAgain(Pages, u32, u64),
-    /// A cache that isn't shared takes each Add from here on too, and counts the same.
-    Beside,
-    /// Adds an entry, at a moment.
-    Add(&'static str, u64, By),
-    /// The same, made once more where it is refused memory. After the refusal all is as before.
-    Again(&'static str, u64, By),
-    /// Adds the keys of so many numbers, of four bytes each.
-    Fill(u32),
-    /// Adds a key so often, each time at a later time, and in place.
-    Often(&'static str, u32),
-    /// Looks up a span.
-    Get(&'static str),
-    /// Looks up the keys from a start to an end, of which either may be excluded.
-    Between(&'static str, Option<&'static str>, (bool, bool)),
-    Low,
-    /// Asks what is counted.
-    Figures,
-    /// Hands on the front that it was told last.
-    HandOn,
-    /// Learns the front that was handed on first.
-    Learn,
-    /// The first two seats meet.
-    Meet,
-    /// Tells how long a history it has seen.
-    See,
-    /// Tells how many Adds of its own there are.
-    Count,
-    SeatNumber,
-    /// Tells how many Adds the gate was told of.
-    Gated,
-    /// Copies a span, once more where it is refused memory.
-    Copy(&'static str),
-    /// The last seat is dropped.
-    Leave,
-    /// An Add of this is refused with this text, by a call that waits and by one that does not.
-    Refused(&'static str, &'static str),
-    /// What each other seat is answered, so often, of a span while the next Add is held up.
-    While(u32, &'static str),
-    /// What it is answered of the floor.
-    LowMeanwhile,
-    /// All seats play on threads of their own.
-    AtOnce(Scene),
-    /// All seats close the cache, which has as many Adds as they count. It answers as the cache
-    /// that isn't shared, if there is one.
-    Close,
-    /// The same. All but the last try to first, and have it back with their seats.
-    CloseLate,
-    /// The same, of any number.
-    CloseAny,
-}
-
-/// The seat, what it does, and what that answers.
-pub type Step = (usize, Act, Reply);
-
-/// What a step answers, or why all ends.
-pub type Taken = Result<Reply, Reply>;
-
-/// The first and the largest page, and how many are kept at the least.
+/// The first page, the largest one, and the least number of pages.
 pub type Pages = (u32, u32, u32);
 
-/// Pages of four nodes with keys of one byte.
+/// Pages of four keys of one byte.
 pub const PAGES: Pages = (132, 132, 2);
 
-/// Pages of two, of which one is kept.
-pub const HALF_PAGES: Pages = (66, 66, 1);
-
-/// What an Add does: it is kept, the pages rotate, and so many are dropped.
-pub const KEPT: (bool, bool, u64) = (true, false, 0);
-
-pub const NOT_KEPT: (bool, bool, u64) = (false, false, 0);
-
-pub const ROTATED: (bool, bool, u64) = (true, true, 0);
-
-pub const DROPPED: (bool, bool, u64) = (true, true, 1);
-
-/// Such pages, and a floor at 5.0.
-pub fn config_of((first, max, least): Pages) -> Result<Config, ConfigFault> {
-    Config::new(first, max, least, 10, at(5))
+/// A cache that isn't shared, on such pages.
+pub fn plain(alloc: Global) -> Result<Cache, Fail> {
+    Ok(Cache::new(alloc, config(PAGES)?)?)
 }
 
-/// A cache that isn't shared. `None` where memory is refused.
-pub fn plain(alloc: Global) -> Option<Cache> {
-    Cache::new(alloc, config_of(PAGES).ok()?).ok()
+/// A configuration whose floor stands at 5.0.
+pub fn config((first, max, least): Pages) -> Result<Config, ConfigFault> {
+    Config::new(first, max, least, 10, at(5, 0))
 }
 
-/// How the steps of a table are taken.
+/// How the rows of a table are played.
 #[derive(Clone, Copy, PartialEq, Eq)]
 pub enum Way {
     Once,
@@ -122,6 +86,10 @@ pub enum Way {
     /// Each Add is tried three times, and memory may be refused for good.
     ForGood,
 }
+
+/// How a run ends that gets [`Reply::NoThread`].
+#[derive(Debug, Drop)]
+struct NoThread;
 
 /// A cache and its seats.
 #[derive(Drop)]
@@ -137,298 +105,300 @@ struct Stage<'a, C: Of, R> {
     /// The fronts that were handed on and not yet learnt.
     letters: VecDeque<SentSnapshot<C>>,
     gate: Watch,
+    /// What other seats look up while the next Add is held up.
+    asked: &'a str,
     meanwhile: Meanwhile,
-    /// A cache that isn't shared, to which the same Adds were made.
+    /// A cache that isn't shared, to which each Add was made too.
     alone: Option<Cache>,
 }
 
 /// Hands on the front that a seat was told last.
-fn hand_on<C: Of>(guest: &mut TestSeat<C>, letters: &mut VecDeque<SentSnapshot<C>>) -> Taken {
-    let letter = guest.letter.take().ok_or(Reply::Gone)?;
-    let reply = Reply::Number(letter.front.len());
-    match letters.push_back(letter) {
-        Ok(()) => Ok(reply),
-        Err(_refused) => Err(Reply::NoMemory),
-    }
+fn hand_on<C: Of>(
+    guest: &mut TestSeat<C>,
+    letters: &mut VecDeque<SentSnapshot<C>>,
+) -> Result<Reply, Fail> {
+    let letter = guest.letter.take().ok_or("no front")?;
+    let length = letter.front.len();
+    letters.push_back(letter)?;
+    Ok(Number(length))
 }
 
 impl<C: Of + Send + Sync, R: Threads + Wait + Abort + Sync> Stage<'_, C, R> {
     /// An Add of a seat, and of the cache that isn't shared.
-    fn add(&mut self, seat: usize, adding: &Adding, by: By) -> Taken {
-        let home = self.home.as_ref().ok_or(Reply::Gone)?;
-        let guest = self.guests.get_mut(seat).ok_or(Reply::Gone)?;
-        let reply = home.add(self.rt, guest, adding, by, &self.gate);
+    fn add(&mut self, seat: usize, entry: &Entry, by: By) -> Result<Reply, Fail> {
+        let home = self.home.as_ref().ok_or("no cache")?;
+        let guest = self.guests.get_mut(seat).ok_or("no seat")?;
+        let reply = home.add(self.rt, guest, entry, by, &self.gate);
         match (&mut self.alone, reply) {
-            (Some(alone), Reply::Place(_, _)) => {
-                let is_taken = adding.is_taken(alone);
-                if is_taken {
-                    Ok(reply)
-                } else {
-                    Err(Reply::Changed)
-                }
+            (Some(alone), Place(_, _)) => {
+                let is_taken = entry.is_taken(alone);
+                Ok(if is_taken { reply } else { Reply::Changed })
             }
             _ => Ok(reply),
         }
     }
 
     /// Has all seats look, and tells whether all that they see is as when they last did.
-    fn look(&mut self, adding: &Adding) -> Result<bool, Reply> {
-        let home = self.home.as_ref().ok_or(Reply::Gone)?;
+    fn look(&mut self, entry: &Entry) -> Result<bool, Fail> {
+        let home = self.home.as_ref().ok_or("no cache")?;
         let mut is_as_before = true;
         for guest in self.guests.iter_mut() {
-            let saw = home.look(guest, adding);
+            let saw = home.look(guest, entry);
             is_as_before &= guest.saw == saw;
             guest.saw = saw;
         }
         Ok(is_as_before)
     }
 
-    /// An Add of what was made, where so said once more if it is refused memory. After the refusal
-    /// all is as before.
-    fn add_made(&mut self, seat: usize, made: Option<Adding>, by: By, again: bool) -> Taken {
-        let adding = made.ok_or(Reply::NoMemory)?;
-        if !again {
-            return self.add(seat, &adding, by);
-        }
-        self.look(&adding)?;
-        let reply = self.add(seat, &adding, by)?;
+    /// An Add that is made once more where it is refused memory. After the refusal all is as
+    /// before.
+    fn add_again(&mut self, seat: usize, entry: &Entry, by: By) -> Result<Reply, Fail> {
+        self.look(entry)?;
+        let reply = self.add(seat, entry, by)?;
         if reply != Reply::NoMemory {
             return Ok(reply);
         }
-        if !self.look(&adding)? {
-            return Err(Reply::Changed);
+        if !self.look(entry)? {
+            return Ok(Reply::Changed);
         }
-        match self.add(seat, &adding, by)? {
-            Reply::NoMemory => Err(Reply::RefusedAgain),
+        match self.add(seat, entry, by)? {
+            Reply::NoMemory => Ok(Reply::RefusedAgain),
             reply => Ok(reply),
         }
     }
 
-    /// `count` Adds of a key at times that rise. The reply is that of the last one, or of the first
-    /// one that brings a new page or is refused.
-    fn add_often(&mut self, seat: usize, key: &str, count: u32) -> Taken {
-        let mut reply = Reply::Done;
+    /// Adds of a key at times that rise. The reply is that of the last one, or of the first one
+    /// that brings a new page or is refused.
+    fn add_often(&mut self, seat: usize, key: &str, count: u64) -> Result<Reply, Fail> {
+        let (key, mut reply) = (bytes(self.alloc, key)?, Reply::Done);
         for round in 0..count {
-            let made = Adding::one(self.alloc, key, u64::from(round).saturating_add(21), 20);
-            reply = self.add_made(seat, made, By::Plain, false)?;
-            if !matches!(reply, Reply::Place(_, (true, false, 0))) {
+            let value = owned(round.saturating_add(21));
+            let entry = Entry::point(self.alloc, &key, value, at(20, 0))?;
+            reply = self.add(seat, &entry, By::Plain)?;
+            if !matches!(reply, Place(_, (true, false, 0))) {
                 return Ok(reply);
             }
         }
         Ok(reply)
     }
 
-    /// What a seat does by itself.
-    fn take_one(&mut self, seat: usize, act: &Act) -> Taken {
-        let home = self.home.as_ref().ok_or(Reply::Gone)?;
-        let guest = self.guests.get_mut(seat).ok_or(Reply::Gone)?;
+    /// What a seat is answered by itself.
+    fn ask(&mut self, seat: usize, act: &str, what: &str) -> Result<Reply, Fail> {
+        let home = self.home.as_ref().ok_or("no cache")?;
+        let guest = self.guests.get_mut(seat).ok_or("no seat")?;
         let counts = guest.counts();
         let reply = match act {
-            Act::Get(span) => {
-                let span = span_of(self.alloc, span).ok_or(Reply::NoMemory)?;
-                home.get(guest, &span)
-            }
-            Act::Between(start, end, ends) => {
-                let end = end.map(|end| end.as_bytes());
-                home.get_between(guest, start.as_bytes(), end, *ends)
-            }
-            Act::Low => home.low(guest),
-            Act::Figures => home.figures(guest),
-            Act::HandOn => hand_on(guest, &mut self.letters)?,
-            Act::Learn => home.learn(guest, self.letters.pop_front().ok_or(Reply::Gone)?),
-            Act::See => Reply::Number(guest.seat.seen()),
-            Act::Count => Reply::Number(guest.seat.count()),
-            Act::SeatNumber => Reply::Number(u64::from(guest.seat.number())),
-            Act::Refused(entry, text) => {
-                let adding = Adding::of(self.alloc, entry, 20).ok_or(Reply::NoMemory)?;
-                let fault = home.refusal(self.rt, guest, &adding).ok_or(Reply::Changed)?;
-                reads_alike(self.rt, self.alloc, fault, text)
-            }
-            _ => Reply::Gone,
+            "get" => home.get(guest, &span(self.alloc, what)?),
+            "between" => home.get_between(guest, what),
+            "floor" => home.low(guest),
+            "figures" => home.figures(guest),
+            "hand_on" => hand_on(guest, &mut self.letters)?,
+            "learn" => home.learn(guest, self.letters.pop_front().ok_or("no front")?),
+            "see" => Number(guest.seat.seen()),
+            "count" => Number(guest.seat.count()),
+            "number" => Number(u64::from(guest.seat.number())),
+            _ => return Err("no such step".into()),
         };
         match (&self.alone, reply) {
-            (Some(alone), Reply::Counted(_, front))
-                if reply != counted_of(alone.figures(), front) => { Err(Reply::Changed) }
+            (Some(alone), Counted(_, front)) if reply != counted(alone.figures(), front) => {
+                Ok(Reply::Changed)
+            }
             _ => Ok(guest.left_by(reply, counts)),
         }
     }
 
-    /// The first two seats meet.
-    fn meet_two(&mut self) -> Taken {
-        match (&self.home, self.guests.as_mut_slice()) {
-            (Some(home), [one, other, ..]) => Ok(home.meet(self.rt, one, other)),
-            _ => Err(Reply::Gone),
+    /// An Add that is refused with a fault of this text.
+    fn refuse(&mut self, seat: usize, entry: &str, text: &str) -> Result<Reply, Fail> {
+        let home = self.home.as_ref().ok_or("no cache")?;
+        let guest = self.guests.get_mut(seat).ok_or("no seat")?;
+        let (counts, entry) = (guest.counts(), Entry::new(self.alloc, entry, 20)?);
+        let fault = home.refusal(self.rt, guest, &entry).ok_or("no refusal")?;
+        let reply = guest.left_by(Reply::Done, counts);
+        reads_alike(self.rt, self.alloc, fault, text)?;
+        Ok(reply)
+    }
+
+    /// An Add of a text at a moment, by a call.
+    fn add_text(
+        &mut self,
+        seat: usize,
+        [entry, now, by]: [&str; 3],
+        again: bool,
+    ) -> Result<Reply, Fail> {
+        let (entry, by) = (Entry::new(self.alloc, entry, now.parse()?)?, By::of(by)?);
+        if again {
+            self.add_again(seat, &entry, by)
+        } else {
+            self.add(seat, &entry, by)
         }
     }
 
+    /// What a seat does.
+    fn play(&mut self, seat: usize, step: &Words) -> Result<Reply, Fail> {
+        match *step {
+            [_, "often", key, count, "", ..] => self.add_often(seat, key, count.parse()?),
+            [_, "add", entry, now, by, "", ..] => {
+                self.add_text(seat, [entry, now, by], self.tries_again)
+            }
+            [_, "again", entry, now, by, "", ..] => self.add_text(seat, [entry, now, by], true),
+            [_, act, what, "", ..] if matches!(act, "get" | "between") != what.is_empty() => {
+                self.ask(seat, act, what)
+            }
+            _ => Err("no such step".into()),
+        }
+    }
+
+    fn meet_two(&mut self) -> Result<Reply, Fail> {
+        match (&self.home, self.guests.as_mut_slice()) {
+            (Some(home), [one, other, ..]) => Ok(home.meet(self.rt, one, other)),
+            _ => Err("no two seats".into()),
+        }
+    }
+
+    fn copy(&self, what: &str) -> Result<Reply, Fail> {
+        let span = span(self.alloc, what)?;
+        drop(again!(span.try_copy()));
+        Ok(Reply::Done)
+    }
+
     fn take_seats(&mut self) -> Vec<TestSeat<C>> {
-        std::mem::replace(&mut self.guests, Vec::new(self.alloc))
+        mem::replace(&mut self.guests, Vec::new(self.alloc))
     }
 
     /// All seats close the cache. Where one is missing it stays open.
-    fn close(&mut self) -> Taken {
+    fn close(&mut self) -> Result<Reply, Fail> {
         let mut counted: u64 = 0;
         for guest in self.guests.iter() {
             counted = counted.saturating_add(guest.seat.count());
         }
-        let guests = self.take_seats();
-        let home = self.home.take().ok_or(Reply::Gone)?;
-        let room = Vec::with_capacity(self.alloc, guests.len())
-            .ok()
-            .ok_or(Reply::NoMemory)?;
-        match home.close(self.rt, self.alloc, room, guests) {
-            Ok(Ended::Closed(closed)) => closed_with(&closed, counted, self.alone.as_ref()),
-            Ok(Ended::Out(home, guests)) => {
+        let (guests, home) = (self.take_seats(), self.home.take().ok_or("no cache")?);
+        let room = Vec::with_capacity(self.alloc, guests.len())?;
+        match home.close(self.rt, self.alloc, room, guests)? {
+            Ended::Closed(closed) => Ok(closed_with(&closed, counted, self.alone.as_ref())),
+            Ended::Out(home, guests) => {
                 self.home = Some(home);
                 self.guests = guests;
                 Ok(Reply::StillOpen)
             }
-            Err(_refused) => Err(Reply::NoMemory),
         }
     }
 
     /// All seats close the cache, which stays open without the last one.
-    fn close_late(&mut self) -> Taken {
-        let last = self.guests.pop().ok_or(Reply::Gone)?;
-        let reply = self.close()?;
-        if reply != Reply::StillOpen {
-            return Err(Reply::Changed);
+    fn close_late(&mut self) -> Result<Reply, Fail> {
+        let last = self.guests.pop().ok_or("no seat")?;
+        if self.close()? != Reply::StillOpen {
+            return Ok(Reply::Changed);
         }
-        self.guests.push(last).ok().ok_or(Reply::NoMemory)?;
+        self.guests.push(last)?;
         self.close()
     }
 
     /// All seats play on threads of their own.
-    fn play_at_once(&mut self, scene: &Scene) -> Taken {
-        let guests = self.take_seats();
-        let seats = guests.len() as u64;
-        let home = self.home.as_ref().ok_or(Reply::Gone)?;
-        let meeting = Meeting::of(self.alloc, scene, seats, self.limit, self.meanwhile).ok_or(
-            Reply::NoMemory,
-        )?;
-        let guests = meet(self.rt, self.alloc, home, guests, &meeting).ok_or(Reply::NoMemory)?;
-        let (reply, alone) = meeting.end(self.alloc);
+    fn play_at_once(&mut self, words: &Words) -> Result<Reply, Fail> {
+        let (rt, alloc, guests) = (self.rt, self.alloc, self.take_seats());
+        let sizes = (guests.len() as u64, self.limit);
+        let meeting = Meeting::new(alloc, words, sizes, (self.asked, self.meanwhile))?;
+        let home = self.home.as_ref().ok_or("no cache")?;
+        let guests = meet(rt, alloc, home, guests, &meeting)?;
+        let (reply, alone) = meeting.end(alloc)?;
         self.guests = guests;
         self.alone = alone;
         Ok(reply)
     }
 
-    /// Takes a step. What is to be answered is noted where it is answered later.
-    fn take(&mut self, (seat, act, wanted): &Step) -> Taken {
-        let (seat, alloc, again) = (*seat, self.alloc, self.tries_again);
-        match act {
-            Act::Add(entry, now, by) => {
-                self.add_made(seat, Adding::of(alloc, entry, *now), *by, again)
-            }
-            Act::Again(entry, now, by) => {
-                self.add_made(seat, Adding::of(alloc, entry, *now), *by, true)
-            }
-            Act::Fill(count) => {
-                self.add_made(seat, Adding::numbers(alloc, *count), By::Plain, false)
-            }
-            Act::Often(key, count) => self.add_often(seat, key, *count),
-            Act::Gated => Ok(Reply::Number(self.gate.told())),
-            Act::Copy(span) => {
-                let span = span_of(alloc, span).ok_or(Reply::NoMemory)?;
-                let is_copied = span.try_copy().is_ok() || span.try_copy().is_ok();
-                if is_copied {
-                    Ok(Reply::Done)
-                } else {
-                    Err(Reply::RefusedAgain)
-                }
-            }
-            Act::Leave => {
+    /// What all seats do. What is to be answered is noted where it is answered later.
+    fn play_all(&mut self, words: &Words, wanted: Reply) -> Result<Reply, Fail> {
+        match *words {
+            ["gated", "", ..] => Ok(Number(self.gate.told())),
+            ["copy", what, "", ..] => self.copy(what),
+            ["meet", "", ..] => self.meet_two(),
+            ["leave", "", ..] => {
                 drop(self.guests.pop());
                 Ok(Reply::Done)
             }
-            Act::Meet => self.meet_two(),
-            Act::Beside => {
-                self.alone = Some(plain(alloc).ok_or(Reply::NoMemory)?);
+            ["beside", "", ..] => {
+                self.alone = Some(plain(self.alloc)?);
                 Ok(Reply::Done)
             }
-            Act::While(looks, span) => {
-                self.meanwhile.asked = (*looks, span);
-                self.meanwhile.reply = *wanted;
-                Ok(*wanted)
+            ["while", "floor", "", ..] => {
+                self.meanwhile.floor = wanted;
+                Ok(wanted)
             }
-            Act::LowMeanwhile => {
-                self.meanwhile.floor = *wanted;
-                Ok(*wanted)
+            ["while", looks, span, "", ..] => {
+                self.asked = span;
+                self.meanwhile.looks = looks.parse()?;
+                self.meanwhile.reply = wanted;
+                Ok(wanted)
             }
-            Act::AtOnce(scene) => self.play_at_once(scene),
-            Act::Close => self.close(),
-            Act::CloseLate => self.close_late(),
-            Act::CloseAny => match self.close()? {
-                Reply::Number(_) => Ok(Reply::Done),
+            ["close", "", ..] => self.close(),
+            ["close_late", "", ..] => self.close_late(),
+            ["close_any", "", ..] => match self.close()? {
+                Number(_) => Ok(Reply::Done),
                 reply => Ok(reply),
             },
-            _ => self.take_one(seat, act),
+            _ => self.play_at_once(words),
         }
     }
 
-    /// The steps behind the one at `opening`, up to the next scene. The answer is what ends them
-    /// early, as want of memory or of a thread.
-    fn take_all(&mut self, steps: &[Step], opening: usize) -> Taken {
-        for (number, step) in steps.iter().enumerate().skip(opening.saturating_add(1)) {
-            if opening_of(step).is_some() {
-                break;
-            }
-            match self.take(step) {
-                Ok(reply) | Err(reply) if matches!(reply, Reply::NoMemory | Reply::NoThread) => {
-                    return Err(reply);
-                }
-                reply => assert_eq!(self.rt; reply, Ok(step.2), "step {number}"),
-            }
+    /// Takes a row. Want of memory or of a thread ends all.
+    fn take(&mut self, row: &'static str) -> Result<(), Fail> {
+        let (step, wanted) = row.split_once(" = ").unwrap_or((row, "done"));
+        let step = words(step, ' ');
+        let [seat, act, entry, ..] = step;
+        if act == "refused" {
+            let reply = self.refuse(seat.parse()?, entry, wanted)?;
+            assert_eq!(self.rt; reply, Reply::Done, "{row}");
+            return Ok(());
         }
-        Ok(Reply::Done)
+        let wanted = reply_of(&words(wanted, ' '))?;
+        let reply = match seat.parse() {
+            Ok(seat) => self.play(seat, &step)?,
+            Err(_no_seat) => self.play_all(&step, wanted)?,
+        };
+        if reply == Reply::NoMemory {
+            return Err(NoMemory.into());
+        }
+        if reply == Reply::NoThread {
+            return Err(NoThread.into());
+        }
+        assert_eq!(self.rt; reply, wanted, "{row}");
+        Ok(())
     }
 }
 
-/// What a closed cache answers, to which so many Adds were made, and to which the other one is
-/// alike, if there is one.
-pub fn closed_with(closed: &Closed, counted: u64, alone: Option<&Cache>) -> Taken {
+/// What a closed cache answers: how many Adds were made to it, where it counts as many and answers
+/// as the other cache, if there is one.
+pub fn closed_with(closed: &Closed, counted: u64, alone: Option<&Cache>) -> Reply {
     match alone {
-        Some(alone) if !are_alike(&closed.cache, alone) => Err(Reply::Changed),
-        _ if closed.adds != counted => Err(Reply::Changed),
-        _ => Ok(Reply::Number(counted)),
+        Some(alone) if !are_alike(&closed.cache, alone) => Reply::Changed,
+        _ if closed.adds != counted => Reply::Changed,
+        _ => Number(counted),
     }
 }
 
-/// The pages, the seats and the limit of a scene that begins here, and whether it is opened again.
-fn opening_of(step: &Step) -> Option<(Pages, u32, u64, bool)> {
-    match &step.1 {
-        Act::Open(pages, seats, limit) => Some((*pages, *seats, *limit, false)),
-        Act::OpenAgain(pages, seats, limit) => Some((*pages, *seats, *limit, true)),
-        _ => None,
-    }
-}
-
-/// A table, and how its scenes are played.
+/// A scene, and how it is played.
 #[derive(Drop)]
 struct Table<'a, R> {
     rt: &'a R,
     alloc: Global,
-    steps: &'a [Step],
+    rows: Vec<&'static str>,
     way: Way,
 }
 
-/// Takes the steps behind an opening with the cache that was opened.
+/// Takes the rows behind an opening with the cache that was opened.
 fn enter<C: Of + Send + Sync, R: Threads + Wait + Abort + Sync>(
     table: &Table<'_, R>,
     cache: SharedCache,
     seats: Vec<Seat>,
-    opening: usize,
     limit: u64,
-) -> Taken
+) -> Result<(), Fail>
     requires cache { cache ≡ C.cache }
     requires seats { All (λ seat. seat.cache ≡ C.cache) seats.items }
 {
     let (rt, alloc) = (table.rt, table.alloc);
-    let (home, guests) = together::<C>(alloc, cache, seats)
-        .ok()
-        .ok_or(Reply::NoMemory)?;
+    let (home, guests) = together::<C>(alloc, cache, seats)?;
     if table.way == Way::ForGood {
-        return refuse(rt, alloc, home, guests, table.steps);
+        return refuse(rt, alloc, home, guests, &table.rows);
     }
     let mut stage = Stage {
         rt,
@@ -439,63 +409,55 @@ fn enter<C: Of + Send + Sync, R: Threads + Wait + Abort + Sync>(
         guests,
         letters: VecDeque::new(alloc),
         gate: Watch::new(0),
+        asked: "",
         meanwhile: Meanwhile {
-            asked: (0, ""),
+            looks: 0,
             reply: Reply::Gone,
             floor: Reply::Gone,
         },
         alone: None,
     };
-    stage.take_all(table.steps, opening)
+    for row in table.rows.iter().skip(1) {
+        stage.take(row)?;
+    }
+    Ok(())
 }
 
-/// Not all looked while an Add was held up, as where a seat has no thread of its own.
-#[derive(Debug, Drop)]
-struct NoThread;
-
-/// Opens a cache as the step at `opening` says, if it does, and takes the steps of that scene.
-fn play_scene<R: Threads + Wait + Abort + Sync>(
-    table: &Table<'_, R>,
-    opening: usize,
-) -> Result<(), Fail> {
-    let Some(step) = table.steps.get(opening) else {
-        return Ok(());
+/// Opens a cache as the first row says, and takes the others.
+fn play_scene<R: Threads + Wait + Abort + Sync>(table: &Table<'_, R>) -> Result<(), Fail> {
+    let opening = table.rows.first().ok_or("no row")?;
+    let [act, seats, limit, first, max, least, rest, ..] = words(opening, ' ');
+    let is_opening = matches!(act, "open" | "reopen") && rest.is_empty();
+    assert!(table.rt; is_opening, "no cache is opened");
+    let again = act == "reopen" || table.way == Way::Twice;
+    let pages = match first {
+        "" => PAGES,
+        _ => (first.parse()?, max.parse()?, least.parse()?),
     };
-    let Some((pages, seats, limit, again)) = opening_of(step) else {
-        return Ok(());
-    };
-    let config = config_of(pages)?;
-    let again = again || table.way == Way::Twice;
+    let config = config(pages)?;
+    let (seats, limit) = (seats.parse()?, limit.parse()?);
     let (cache, seats) = open(table.alloc, config, seats, limit, again)?;
-    match enter::<Brand, R>(table, cache, seats, opening, limit) {
-        Err(Reply::NoMemory) => Err(NoMemory.into()),
-        Err(Reply::NoThread) => Err(NoThread.into()),
-        reply => {
-            assert_eq!(table.rt; reply, Ok(Reply::Done));
-            Ok(())
-        }
-    }
+    enter::<Brand, R>(table, cache, seats, limit)
 }
 
 /// Plays all scenes of a table.
 pub fn play<R: Threads + Wait + Abort + Sync>(
     rt: &R,
     alloc: Global,
-    steps: &[Step],
+    table: &'static str,
     way: Way,
 ) -> Result<(), Fail> {
-    let table = Table {
-        rt,
-        alloc,
-        steps,
-        way,
-    };
-    assert!(rt;
-        matches!(steps, [first, ..] if opening_of(first).is_some()),
-        "no cache is opened"
-    );
-    for opening in 0..steps.len() {
-        play_scene(&table, opening)?;
+    for scene in table.split("\n\n") {
+        let mut rows = Vec::new(alloc);
+        for row in scene.lines().filter(|row| !row.starts_with('#')) {
+            rows.push(row)?;
+        }
+        play_scene(&Table {
+            rt,
+            alloc,
+            rows,
+            way,
+        })?;
     }
     Ok(())
 }

@@ -1,83 +1,102 @@
-//! Seats on threads of their own, which all add and look, and a cache that isn't shared after the
-//! same Adds.
-use super::marks::{Adding, FIRST, at, point_at};
-use super::threads::Meeting;
-use super::words::*;
-use std::alloc::Global;
+//! Seats on threads of their own, which all add and look, and a cache that isn't shared, to which
+//! these Adds are made in the order of their places.
+use crate::entries::owned;
+use crate::prelude::*;
+use crate::steps::plain;
+use crate::threads::Meeting;
+use test_support::{Words, ends};
 use tsc_cache::{Cache, TimestampCache};
-use tsc_span::Ends;
+use tsc_span::SpanFault;
+use tsc_time::{NoMemory, Value};
+use uuid::Uuid;
 
-/// How many Adds each seat makes, by which call every other seat adds from the first one on, by
-/// which call the others do, and what they add.
-pub struct Plan(pub u32, pub By, pub By, pub Keys);
-
-pub enum Keys {
-    /// `a` at 20.0, by one owner.
-    Same,
-    /// The keys from `a` on in turn.
-    Turning,
-    /// The same, at times that rise with the rounds, by an owner for each seat.
-    Rising,
+/// How many rounds a scene has, and what a stress adds.
+#[derive(Clone, Copy)]
+pub struct Plan<'a> {
+    pub rounds: u32,
+    /// By which call every other seat adds from the first one on, and by which the others do.
+    calls: [By; 2],
+    /// What a stress adds. With `same` it is the key `a` at 20.0. With `turning` the keys from `a`
+    /// on take turns at 20.0. With `rising` the times rise with the rounds too, by an owner for
+    /// each seat.
+    pub keys: &'a str,
 }
 
 /// What the number of a seat counts for in that of an Add, beside its round.
 const NUMBER: u64 = 0x1_0000_0000;
 
-/// The wall time of a round.
-fn wall_of(round: u32) -> u64 {
-    u64::from(round).saturating_add(20)
-}
-
-impl Plan {
-    /// By which call a seat adds.
-    pub fn by_of(&self, number: u32) -> By {
-        if number % 2 == 0 { self.1 } else { self.2 }
-    }
-
-    /// The Add of a seat in a round. `None` where memory is refused.
-    pub fn adding(&self, alloc: Global, number: u32, round: u32) -> Option<Adding> {
-        let letter = (u64::from(number) * u64::from(self.0) + u64::from(round)) % 26;
-        let (key, wall, owner) = match self.3 {
-            Keys::Same => (b'a', 20, FIRST),
-            Keys::Turning => (b'a' + letter as u8, 20, FIRST),
-            Keys::Rising => {
-                let owner = [(number % 255) as u8 + 1; 16];
-                (b'a' + letter as u8, wall_of(round), owner)
-            }
-        };
-        Some(Adding::One(point_at(alloc, &[key], wall, owner)?, at(wall)))
-    }
-
-    /// Whether a cache that isn't shared takes the Add to which a place was told, if it was.
-    fn is_taken(&self, alloc: Global, alone: &mut Cache, told: u64) -> bool {
-        let Some(made) = told.checked_sub(1) else {
-            return true;
-        };
-        match self.adding(alloc, (made / NUMBER) as u32, (made % NUMBER) as u32) {
-            Some(adding) => adding.is_taken(alone),
-            None => false,
+impl<'a> Plan<'a> {
+    /// The plan of a scene that is no stress.
+    pub fn of(rounds: u32) -> Plan<'a> {
+        Plan {
+            rounds,
+            calls: [Plain; 2],
+            keys: "same",
         }
     }
 
-    /// Whether the Add of a round is seen, whose front is so long.
+    /// The plan of a row. Those of a stress name calls and keys.
+    pub fn new(words: &'a Words) -> Result<Plan<'a>, Fail> {
+        let [scene, rounds, even, odd, keys, rest, ..] = *words;
+        let rounds = rounds.parse()?;
+        match scene {
+            "crowd" | "retried"
+                if matches!(keys, "same" | "turning" | "rising") && rest.is_empty() => {
+                Ok(Plan {
+                    rounds,
+                    calls: [By::of(even)?, By::of(odd)?],
+                    keys,
+                })
+            }
+            "crowd" | "retried" => Err("no such keys".into()),
+            _ if even.is_empty() => Ok(Plan::of(rounds)),
+            _ => Err("too many words".into()),
+        }
+    }
+
+    /// By which call a seat adds.
+    pub fn by_of(&self, number: u32) -> By {
+        let [even, odd] = self.calls;
+        if number % 2 == 0 { even } else { odd }
+    }
+
+    /// The value of a seat's Add in a round.
+    fn value(&self, number: u32, round: u32) -> Value {
+        let value = owned(u64::from(round).saturating_add(20));
+        match self.keys {
+            "rising" => Value::of(value.time(), Uuid::from_u128(u128::from(number) + 1)),
+            _ => owned(20),
+        }
+    }
+
+    /// The Add of a seat in a round, at a moment that is its time.
+    pub fn entry(&self, alloc: Global, number: u32, round: u32) -> Result<Entry, SpanFault> {
+        let turn = (u64::from(number) * u64::from(self.rounds) + u64::from(round)) % 26;
+        let letter = if self.keys == "same" { 0 } else { turn as u8 };
+        let value = self.value(number, round);
+        Entry::point(alloc, &[b'a' + letter], value, value.time())
+    }
+
+    /// Whether a lookup sees the Add of a round, with a front of this length at least.
     fn is_seen(&self, round: u32, least: u64, seen: Reply) -> bool {
-        match (&self.3, seen) {
-            (Keys::Rising, Value(wall, _, front)) => least <= front && wall_of(round) <= wall,
-            (_, Value(20, First, front)) => least <= front,
+        match seen {
+            Read(wall, _, front) if self.keys == "rising" => {
+                least <= front && u64::from(round).saturating_add(20) <= wall
+            }
+            Read(20, Owner::First, front) => least <= front,
             _ => false,
         }
     }
 }
 
 impl<C: Of, R: Wait + Abort> Player<'_, C, R> {
-    /// Whether a place is there, and was told to no other Add. It is told to that of this seat in a
-    /// round now.
+    /// Whether a place is there, and was told to no other Add. From now on the place is that of
+    /// this seat's Add in a round.
     pub fn is_placed(&self, reply: Reply, round: u32) -> bool {
         let Place(place, _) = reply else {
             return false;
         };
-        let number = u64::from(self.guest.seat.number());
-        let made = (number * NUMBER + u64::from(round)).saturating_add(1);
+        let made = (u64::from(self.number()) * NUMBER + u64::from(round)).saturating_add(1);
         match self.meeting.places.get(place as usize) {
             Some(told) => told.fetch_add(made, SeqCst) == 0,
             None => false,
@@ -85,19 +104,19 @@ impl<C: Of, R: Wait + Abort> Player<'_, C, R> {
     }
 
     /// An Add of a round, and a lookup that sees it.
-    pub fn add_seen(&mut self, plan: &Plan, round: u32) -> bool {
-        let number = self.guest.seat.number();
-        let Some(adding) = plan.adding(self.alloc, number, round) else {
+    pub fn add_seen(&mut self, round: u32) -> bool {
+        let (number, plan) = (self.number(), &self.meeting.plan);
+        let Ok(entry) = plan.entry(self.alloc, number, round) else {
             self.check(false, Reply::NoMemory);
             return false;
         };
-        let reply = self.add(&adding, plan.by_of(number));
-        let is_full = matches!(reply, Full(front) if front == self.meeting.places.len() as u64);
+        let reply = self.add(&entry, plan.by_of(number));
+        let is_full = reply == Full(self.meeting.places.len() as u64);
         self.check(is_full || self.is_placed(reply, round), reply);
         let least = self.guest.seat.seen();
-        let (_, _, seen, _) = self.home.look(&mut self.guest, &adding);
+        let (_, _, seen, _) = self.home.look(&mut self.guest, &entry);
         self.check(plan.is_seen(round, least, seen), seen);
-        round.saturating_add(1) < plan.0
+        self.meeting.has_more(round)
     }
 }
 
@@ -115,74 +134,67 @@ impl<C: Of> Meeting<'_, C> {
         false
     }
 
-    /// A cache that isn't shared, and takes all Adds in the order of their places. `None` where
-    /// memory is refused.
-    pub fn alone(&self, alloc: Global, plan: &Plan) -> Option<Cache> {
+    /// A cache that isn't shared, and takes all Adds in the order of their places.
+    pub fn alone(&self, alloc: Global) -> Result<Cache, Fail> {
         let mut alone = plain(alloc)?;
         for told in self.places.iter() {
-            if !plan.is_taken(alloc, &mut alone, told.load(SeqCst)) {
-                return None;
+            if let Some(made) = told.load(SeqCst).checked_sub(1) {
+                let (number, round) = ((made / NUMBER) as u32, (made % NUMBER) as u32);
+                let entry = self.plan.entry(alloc, number, round)?;
+                entry.is_taken(&mut alone).then_some(()).ok_or(NoMemory)?;
             }
         }
-        Some(alone)
+        Ok(alone)
     }
 }
 
-pub const ENDS: Ends = Ends {
-    exclude_from: false,
-    exclude_to: false,
-};
+/// The keys that caches are compared on.
+pub const LETTERS: &str = "a b c d e f g h i j k l m n o p q r s t u v w x y z";
 
 /// Whether two caches answer alike at each of the keys, and over all from `a` on, and count alike.
 pub fn are_alike(one: &Cache, other: &Cache) -> bool {
-    for letter in 0..26_u8 {
-        let key = [b'a' + letter];
-        let value = one.get_max_between(&key, Some(&key), ENDS);
-        if value != other.get_max_between(&key, Some(&key), ENDS) {
-            return false;
-        }
-    }
-    one.get_max_between(b"a", None, ENDS) == other.get_max_between(b"a", None, ENDS)
+    let ends = ends("[]");
+    let are_alike_at = |key: &str| {
+        let (key, end) = (key.as_bytes(), Some(key.as_bytes()));
+        one.get_max_between(key, end, ends) == other.get_max_between(key, end, ends)
+    };
+    LETTERS.split(' ').all(are_alike_at)
+        && one.get_max_between(b"a", None, ends) == other.get_max_between(b"a", None, ends)
         && one.low_water() == other.low_water()
         && one.figures() == other.figures()
 }
 
-/// Each Add is told a place that no other was told, and the cache has so many.
-static ALL_PLACES: [Step; 3] = [
-    (0, Open(PAGES, 8, 400), Done),
-    (0, AtOnce(Crowd(Plan(50, Gate, Gate, Same))), Number(400)),
-    (0, Close, Number(400)),
-];
+/// Each Add is told a place that no other was told, and the cache has all of them.
+const ALL_PLACES: &str = "open 8 400
+crowd 50 gate gate same = 400
+close = 400";
 
 /// One of the Adds is told that the history is full.
-static ALL_BUT_ONE: [Step; 3] = [
-    (0, Open(PAGES, 8, 399), Done),
-    (0, AtOnce(Crowd(Plan(50, Gate, Gate, Same))), Number(399)),
-    (0, Close, Number(399)),
-];
+const ALL_BUT_ONE: &str = "open 8 399
+crowd 50 gate gate same = 399
+close = 399";
 
 /// Two seats add four keys, and four seats many, by the call without a gate.
-static IN_ORDER: [Step; 7] = [
-    (0, Open(PAGES, 2, 100), Done),
-    (0, AtOnce(Crowd(Plan(2, Plain, Plain, Turning))), Number(0)),
-    (0, Get("a-e"), Value(20, First, 4)),
-    (0, CloseLate, Number(4)),
-    (0, Open(PAGES, 4, 800), Done),
-    (0, AtOnce(Crowd(Plan(200, Plain, Plain, Rising))), Number(0)),
-    (0, CloseLate, Number(800)),
-];
+const IN_ORDER: &str = "open 2 100
+crowd 2 plain plain turning = 0
+0 get [a,e) = 20¹ 4
+close_late = 4
+
+open 4 800
+crowd 200 plain plain rising = 0
+close_late = 800";
 
 #[test]
 fn eight_seats_have_each_place_once(rt: HostRuntime) -> Result<(), Fail> {
-    play(&rt, rt.alloc(), &ALL_PLACES, Once)
+    play(&rt, rt.alloc(), ALL_PLACES, Way::Once)
 }
 
 #[test]
 fn one_of_eight_seats_finds_the_history_full(rt: HostRuntime) -> Result<(), Fail> {
-    play(&rt, rt.alloc(), &ALL_BUT_ONE, Once)
+    play(&rt, rt.alloc(), ALL_BUT_ONE, Way::Once)
 }
 
 #[test]
 fn adds_are_there_in_the_order_of_their_places(rt: HostRuntime) -> Result<(), Fail> {
-    play(&rt, rt.alloc(), &IN_ORDER, Once)
+    play(&rt, rt.alloc(), IN_ORDER, Way::Once)
 }

@@ -1,45 +1,25 @@
 //! Seats on threads of their own, each of which takes turns until its part is done.
-use super::fronts::Channel;
-use super::harness::{By, Of, Reply, TestCache, TestSeat};
-use super::marks::Adding;
-use super::stress::{Keys, Plan};
-use super::watch::{TURNS, Watch};
-use std::alloc::Global;
+use crate::entries::{Entry, owned};
+use crate::fronts::Channel;
+use crate::harness::{Of, TestCache, TestSeat};
+use crate::replies::Reply::{Busy, Full, Inside, Number, Place};
+use crate::replies::{By, Reply, reply_of};
+use crate::stress::Plan;
+use crate::watch::{TURNS, Watch};
+use std::alloc::{AllocError, Global};
 use std::process::Abort;
 use std::sync::Wait;
 use std::sync::atomic::{AtomicU64, Ordering};
+use std::test::Fail;
 use std::thread;
 use std::thread::Threads;
+use test_support::{Words, at};
 use tsc_cache::Cache;
 
-/// What seats on threads play.
-pub enum Scene {
-    /// An Add, its moment and its reply, that is held up until others have looked.
-    Held(&'static str, u64, Reply),
-    /// Adds up to the limit, and lookups.
-    Crowd(Plan),
-    /// Adds of which each is made again where it is refused memory.
-    Retried(Plan),
-    /// Lookups that begin after Adds have returned.
-    Returned,
-    /// Fronts that go from each seat to the next.
-    Ring,
-    /// Batches of two keys, and lookups of both.
-    Both,
-    /// Adds that are given up, beside others and lookups.
-    Tried,
-    /// Adds of which some are given up, and lookups of what was made.
-    GivenUp,
-    /// Adds with a gate, beside others and lookups.
-    Told,
-    /// Adds of which one is held up, and another one is made for its seat.
-    Stopped,
-}
-
-/// What seats look up while an Add is held up: how often, and what they are answered.
+/// How often seats look while an Add is held up, and what they are answered.
 #[derive(Clone, Copy)]
 pub struct Meanwhile {
-    pub asked: (u32, &'static str),
+    pub looks: u32,
     pub reply: Reply,
     pub floor: Reply,
 }
@@ -47,11 +27,16 @@ pub struct Meanwhile {
 /// A scene under way. All that many turns need is there before a thread starts.
 #[derive(Drop)]
 pub struct Meeting<'a, C: Of> {
-    pub scene: &'a Scene,
+    /// The name of the scene.
+    scene: &'a str,
+    pub plan: Plan<'a>,
+    /// What seats look up meanwhile.
+    pub asked: &'a str,
     pub meanwhile: Meanwhile,
     pub seats: u64,
-    /// What is added, if that is the same each time.
-    pub adding: Adding,
+    /// What is added where all Adds are alike, and the reply of one that is held up.
+    pub entry: Entry,
+    pub wanted: Reply,
     pub gate: Watch,
     /// To which Add each place was told, from 1 on.
     pub places: Vec<AtomicU64>,
@@ -61,49 +46,49 @@ pub struct Meeting<'a, C: Of> {
     pub channels: Vec<Channel<C>>,
 }
 
-impl Scene {
-    /// Whether the keys and times are so many that the pages may rotate.
-    fn has_many(&self) -> bool {
-        match self {
-            Scene::Ring | Scene::Held(_, _, _) => true,
-            Scene::Crowd(plan) | Scene::Retried(plan) => !matches!(plan.3, Keys::Same),
-            _ => false,
-        }
-    }
-}
-
-/// `count` counts of 0. `None` of all that follow is want of memory.
-fn zeros(alloc: Global, count: u64) -> Option<Vec<AtomicU64>> {
+fn zeros(alloc: Global, count: u64) -> Result<Vec<AtomicU64>, AllocError> {
     let mut zeros = Vec::new(alloc);
     for _ in 0..count {
-        zeros.push(AtomicU64::new(0)).ok()?;
+        zeros.push(AtomicU64::new(0))?;
     }
-    Some(zeros)
+    Ok(zeros)
 }
 
-impl<C: Of> Meeting<'_, C> {
-    pub fn of(
+impl<'a, C: Of> Meeting<'a, C> {
+    /// The scene of a row, for some seats and a limit of Adds.
+    pub fn new(
         alloc: Global,
-        scene: &Scene,
-        seats: u64,
-        limit: u64,
-        meanwhile: Meanwhile,
-    ) -> Option<Meeting<'_, C>> {
+        words: &'a Words,
+        (seats, limit): (u64, u64),
+        (asked, meanwhile): (&'a str, Meanwhile),
+    ) -> Result<Meeting<'a, C>, Fail> {
+        let [scene, entry, now, ..] = *words;
         let (lookers, places, channels) = match scene {
-            Scene::Held(_, _, _) | Scene::Stopped => (seats.saturating_sub(1), 0, 0),
-            Scene::Crowd(_) | Scene::Retried(_) => (0, limit, 0),
-            Scene::Ring => (0, 0, seats),
-            _ => (0, 0, 0),
+            "held" | "stopped" => (seats.saturating_sub(1), 0, 0),
+            "crowd" | "retried" => (0, limit, 0),
+            "ring" => (0, 0, seats),
+            "returned" | "both" | "tried" | "given_up" | "told" => (0, 0, 0),
+            _ => return Err("no such scene".into()),
         };
-        let adding = match scene {
-            Scene::Held(entry, now, _) => Adding::of(alloc, entry, *now)?,
-            _ => Adding::one(alloc, "a", 20, 20)?,
+        let (plan, entry, wanted) = if scene == "held" {
+            let entry = Entry::new(alloc, entry, now.parse()?)?;
+            let wanted = reply_of(words.get(3..).unwrap_or(&[]))?;
+            (Plan::of(1), entry, wanted)
+        } else {
+            (
+                Plan::new(words)?,
+                Entry::new(alloc, "a@20¹", 20)?,
+                Reply::Done,
+            )
         };
-        Some(Meeting {
+        Ok(Meeting {
             scene,
+            plan,
+            asked,
             meanwhile,
             seats,
-            adding,
+            entry,
+            wanted,
             gate: Watch::new(lookers),
             places: zeros(alloc, places)?,
             adds: AtomicU64::new(0),
@@ -111,21 +96,31 @@ impl<C: Of> Meeting<'_, C> {
         })
     }
 
-    /// How many Adds the gate was told of, or that not all looked while the Add was held up, as
-    /// where a seat has no thread of its own; and after a stress a cache that isn't shared, to
-    /// which its Adds were made.
-    pub fn end(&self, alloc: Global) -> (Reply, Option<Cache>) {
-        let reply = Reply::Number(self.gate.told());
+    /// Whether keys or times rise, and the pages may rotate.
+    fn may_rotate(&self) -> bool {
         match self.scene {
-            Scene::Held(_, _, _) | Scene::Stopped if !self.gate.met.load(Ordering::SeqCst) => {
-                (Reply::NoThread, None)
+            "ring" | "held" => true,
+            "crowd" | "retried" => self.plan.keys != "same",
+            _ => false,
+        }
+    }
+
+    /// Whether there are more rounds behind this one.
+    pub fn has_more(&self, round: u32) -> bool {
+        round.saturating_add(1) < self.plan.rounds
+    }
+
+    /// How many Adds the gate was told of, or that not all looked while the Add was held up. After
+    /// a stress there is a cache too that isn't shared, to which its Adds were made.
+    pub fn end(&self, alloc: Global) -> Result<(Reply, Option<Cache>), Fail> {
+        let reply = Number(self.gate.told());
+        match self.scene {
+            "held" | "stopped" if !self.gate.met.load(Ordering::SeqCst) => {
+                Ok((Reply::NoThread, None))
             }
-            _ if self.has_gap() => (Reply::Changed, None),
-            Scene::Crowd(plan) | Scene::Retried(plan) => match self.alone(alloc, plan) {
-                Some(alone) => (reply, Some(alone)),
-                None => (Reply::NoMemory, None),
-            },
-            _ => (reply, None),
+            _ if self.has_gap() => Ok((Reply::Changed, None)),
+            "crowd" | "retried" => Ok((reply, Some(self.alone(alloc)?))),
+            _ => Ok((reply, None)),
         }
     }
 }
@@ -143,30 +138,34 @@ pub struct Player<'a, C: Of, R> {
 impl<C: Of, R: Wait + Abort> Player<'_, C, R> {
     /// A turn, and whether there are more to come.
     fn turn(&mut self, round: u32) -> bool {
-        let meeting = self.meeting;
-        match meeting.scene {
-            Scene::Held(_, _, wanted) => self.hold(*wanted, round),
-            Scene::Crowd(plan) => self.add_seen(plan, round),
-            Scene::Retried(plan) => self.add_again(plan, round),
-            Scene::Returned => self.follow(round),
-            Scene::Ring => self.send_on(round),
-            Scene::Both => self.add_both(round),
-            Scene::Tried => self.try_beside(round),
-            Scene::GivenUp => self.add_own(round),
-            Scene::Told => self.see_told(round),
-            Scene::Stopped => self.stop(round),
+        match self.meeting.scene {
+            "held" => self.hold(round),
+            "crowd" => self.add_seen(round),
+            "retried" => self.add_again(round),
+            "returned" => self.follow(round),
+            "ring" => self.send_on(round),
+            "both" => self.add_both(round),
+            "tried" => self.try_beside(round),
+            "given_up" => self.add_own(round),
+            "told" => self.see_told(round),
+            _ => self.stop(round),
         }
     }
 
-    /// An Add that is kept on the page that there is but where the keys are many; or one that was
-    /// refused.
-    pub fn add(&mut self, adding: &Adding, by: By) -> Reply {
+    /// The number of the seat.
+    pub fn number(&self) -> u32 {
+        self.guest.seat.number()
+    }
+
+    /// An Add that is kept on the page that there is, but where the pages may rotate; or one that
+    /// was refused.
+    pub fn add(&mut self, entry: &Entry, by: By) -> Reply {
         let (guest, gate) = (&mut self.guest, &self.meeting.gate);
-        let reply = self.home.add(self.rt, guest, adding, by, gate);
+        let reply = self.home.add(self.rt, guest, entry, by, gate);
         let may_be = match reply {
-            Reply::Place(_, (true, false, 0)) => true,
-            Reply::Place(_, _) => self.meeting.scene.has_many(),
-            Reply::Full(_) | Reply::Busy | Reply::Inside | Reply::NoMemory => true,
+            Place(_, (true, false, 0)) => true,
+            Place(_, _) => self.meeting.may_rotate(),
+            Full(_) | Busy | Inside | Reply::NoMemory => true,
             _ => false,
         };
         self.check(may_be, reply);
@@ -174,15 +173,15 @@ impl<C: Of, R: Wait + Abort> Player<'_, C, R> {
     }
 
     /// An Add of a key at a time, which is its moment too.
-    pub fn add_key(&mut self, key: &'static str, wall: u64, by: By) -> Reply {
-        match Adding::one(self.alloc, key, wall, wall) {
-            Some(adding) => self.add(&adding, by),
-            None => Reply::NoMemory,
+    pub fn add_key(&mut self, key: &str, wall: u64, by: By) -> Reply {
+        match Entry::point(self.alloc, key.as_bytes(), owned(wall), at(wall, 0)) {
+            Ok(entry) => self.add(&entry, by),
+            Err(_refused) => Reply::NoMemory,
         }
     }
 
-    pub fn get(&mut self, key: &str) -> Reply {
-        self.home.get_key(&mut self.guest, key.as_bytes())
+    pub fn get(&mut self, text: &str) -> Reply {
+        self.home.get_between(&mut self.guest, text)
     }
 
     pub fn check(&self, is_right: bool, reply: Reply) {
@@ -191,12 +190,12 @@ impl<C: Of, R: Wait + Abort> Player<'_, C, R> {
 }
 
 /// All turns of a seat. A thread that gave up would leave others waiting for it.
-fn run<C: Of, R: Wait + Abort>(
-    rt: &R,
+fn run<'a, C: Of, R: Wait + Abort>(
+    rt: &'a R,
     alloc: Global,
-    home: &TestCache<C>,
+    home: &'a TestCache<C>,
     guest: TestSeat<C>,
-    meeting: &Meeting<'_, C>,
+    meeting: &'a Meeting<'a, C>,
 ) -> TestSeat<C> {
     let mut player = Player {
         rt,
@@ -212,22 +211,21 @@ fn run<C: Of, R: Wait + Abort>(
             break;
         }
     }
-    player.check(!has_more, Reply::StillOpen);
+    player.check(!has_more, Reply::Changed);
     player.guest
 }
 
-/// All turns of all seats, each on a thread of its own. `None` where memory is refused.
+/// All turns of all seats, each on a thread of its own.
 pub fn meet<C: Of + Send + Sync, R: Threads + Wait + Abort + Sync>(
     rt: &R,
     alloc: Global,
     home: &TestCache<C>,
     guests: Vec<TestSeat<C>>,
     meeting: &Meeting<'_, C>,
-) -> Option<Vec<TestSeat<C>>> {
+) -> Result<Vec<TestSeat<C>>, AllocError> {
     thread::map_vec(
         rt,
         guests,
         &|guest: TestSeat<C>| run(rt, alloc, home, guest, meeting),
     )
-    .ok()
 }

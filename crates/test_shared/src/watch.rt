@@ -1,5 +1,4 @@
-//! A gate that counts the Adds that it is told of, and holds each up until so many seats have
-//! looked.
+//! A gate that counts the Adds that it is told of, and holds each up until some seats have looked.
 use std::sync::atomic::{AtomicBool, AtomicU64, Ordering};
 use std::{hint, thread};
 use tsc_shared::Gate;

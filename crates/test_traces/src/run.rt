@@ -1,5 +1,3 @@
 //! Checks and runs.
-
 mod check;
 mod run;
-mod texts;

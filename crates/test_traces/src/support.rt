@@ -1,141 +1,126 @@
-//! Rows of tables, and the traces and logs that their texts stand for.
+//! Rows of tables, the bytes that their texts stand for, and streams over memory.
 //!
-//! A table is a text with a row a line, whose cells have bars between them. A line that begins with
-//! `#` is a remark.
-pub(crate) mod streams;
+//! A table has a row a line, with bars between its cells. A line that begins with `#` is a remark.
+//! A row that begins with `№M..N|` stands for a row of each number from M to below N, as its `№`.
 pub(crate) mod watch;
 
 pub(crate) use crate::commands::traces::*;
-pub(crate) use crate::support::streams::*;
 pub(crate) use crate::support::watch::Watch;
+use std::alloc::AllocGlobal;
 pub(crate) use std::alloc::{AllocError, Global};
-pub(crate) use std::sync::Wait;
+use std::ops::Range;
+use std::sync::Wait;
 pub(crate) use std::test::Fail;
-pub(crate) use std::thread::Threads;
-pub(crate) use tsc_shared::NoGate;
+use std::thread::Threads;
+pub(crate) use tsc_stream::Limited;
+use tsc_stream::fault_injection::{FaultPlan, FaultyStream};
 
-/// The members of a head before its lists, each with the value that it has where no other is given.
-const USUAL: &str = "page_first 132;page_max 132;min_pages 2;retention 10;low_water [5,0]";
-/// A head with these values.
-pub(crate) const HEAD: &str = "";
-/// A head whose pages are large enough for any span.
-pub(crate) const WIDE: &str = "page_max 8256";
-/// A head whose pages have room for short keys alone.
-pub(crate) const NARROW: &str = "page_first 66;page_max 264";
+/// What a trace says before its lists: of usual pages, of those that are large enough for any span,
+/// and of those that have room for short keys alone.
+pub(crate) const HEAD: &str =
+    r#""page_first":132,"page_max":132,"min_pages":2,"retention":10,"low_water":[5,0]"#;
 
-/// The cells of a row.
-pub(crate) type Cells = [&'static str; 7];
-/// Whether a row holds.
+pub(crate) const WIDE: &str =
+    r#""page_first":132,"page_max":8256,"min_pages":2,"retention":10,"low_water":[5,0]"#;
+
+pub(crate) const NARROW: &str =
+    r#""page_first":66,"page_max":264,"min_pages":2,"retention":10,"low_water":[5,0]"#;
+
+pub(crate) type Cells<'r> = [&'r str; 8];
+
 pub(crate) type Holds = Result<bool, Fail>;
 
-pub(crate) fn cells(row: &'static str) -> Cells {
-    let mut cells = [""; 7];
-    for (i, cell) in row.split('|').enumerate() {
-        if i < 7 {
-            cells[i] = cell;
-        }
+pub(crate) trait Runtime: AllocGlobal + Threads + Wait + Sync {}
+
+impl<R: AllocGlobal + Threads + Wait + Sync> Runtime for R {}
+
+pub(crate) fn cells(row: &str) -> Cells<'_> {
+    let mut cells = [""; 8];
+    for (i, cell) in row.split('|').enumerate().take(8) {
+        cells[i] = cell;
     }
     cells
 }
 
+/// The numbers of `M..N` or of `N`.
+pub(crate) fn numbers(text: &str) -> Range<u32> {
+    let (from, to) = text.split_once("..").unwrap_or(("0", text));
+    from.parse().unwrap_or(0)..to.parse().unwrap_or(0)
+}
+
 /// Checks that each row of some tables holds, as a function of its cells says.
 macro_rules! all_hold {
-    ($rt:ident; $($table:expr => $holds:ident($($given:expr),*)),*) => {{
+    ($rt:ident; $($holds:ident($($given:expr),*) => $table:expr),*) => {{
         $(for row in $table.lines() {
-            let is_remark = row.starts_with('#');
-            let holds = is_remark || $holds($($given,)* $rt.alloc(), cells(row))?;
-            assert!($rt; holds, "{row}");
+            let numbered = row.strip_prefix('№').and_then(|row| row.split_once('|'));
+            let (times, row) = numbered.unwrap_or(("1", row));
+            for number in numbers(times) {
+                let number = format!(in $rt.alloc(); "{number}")?;
+                let row = row.replace($rt.alloc(), '№', number.as_str())?;
+                let is_remark = row.is_empty() || row.starts_with('#');
+                let holds = is_remark || $holds($($given,)* $rt.alloc(), cells(row.as_str()))?;
+                assert!($rt; holds, "{row}");
+            }
         })*
         Ok(())
     }};
 }
 
-/// Checks that each value of some tables has its text.
-macro_rules! all_are_told {
-    ($rt:ident; $($table:ident),*) => {{
-        $(for (value, text) in &$table {
-            let told = format!(in $rt.alloc(); "{value}")?;
-            assert!($rt; told.as_str() == *text, "{text}");
-        })*
-        Ok(())
-    }};
-}
-
-pub(crate) use all_are_told;
 pub(crate) use all_hold;
 
-/// Adds what the signs of a piece stand for, which comes for a number.
-fn add(text: &mut Vec<u8>, piece: &str, number: u32) -> Result<(), AllocError> {
+/// Adds what the signs of a piece stand for, at a number.
+fn add(bytes: &mut Vec<u8>, piece: &str, number: u32) -> Result<(), AllocError> {
     for sign in piece.chars() {
         match sign {
-            '¶' => text.push(b'\n')?,
-            '¹' => text.extend_from_slice(b"11111111-1111-4111-8111-111111111111")?,
-            '²' => text.extend_from_slice(b"22222222-2222-4222-8222-222222222222")?,
-            '⁰' => text.push((number % 10) as u8 | b'0')?,
-            '⁺' => text.push((number / 10 % 10) as u8 | b'0')?,
-            _ => text.push((sign as u32 % 256) as u8)?,
+            '¶' => bytes.push(b'\n')?,
+            '¹' => bytes.extend_from_slice(b"11111111-1111-4111-8111-111111111111")?,
+            '²' => bytes.extend_from_slice(b"22222222-2222-4222-8222-222222222222")?,
+            '⁰' => bytes.push((number % 10) as u8 | b'0')?,
+            '⁺' => bytes.push((number / 10 % 10) as u8 | b'0')?,
+            _ => bytes.push((sign as u32 % 256) as u8)?,
         }
     }
     Ok(())
 }
 
-/// The bytes that a text stands for. It is cut by `¦`, and a part that ends with `×N` comes N
-/// times, or with `×M..N` for each number from M on and below N.
+/// The bytes that a text stands for, or with `✂N` behind it the first N of them. Each `¦` ends a
+/// part, which may name an example. A part that ends with `×N` or `×M..N` comes for each number.
 ///
 /// The sign `¶` is a line feed, `¹` and `²` are owners, and `⁰` and `⁺` the last digit of such a
-/// number and the one before it. Any other sign stands for its byte.
+/// number and the one before it. Any other stands for the last byte of its code, as `␀` for 0.
 pub(crate) fn bytes_of(alloc: Global, text: &str) -> Result<Vec<u8>, AllocError> {
+    let (text, length) = text.split_once('✂').unwrap_or((text, ""));
     let mut bytes = Vec::new(alloc);
     for part in text.split('¦') {
         let (piece, times) = part.split_once('×').unwrap_or((part, "1"));
-        let (from, to) = times.split_once("..").unwrap_or(("0", times));
-        for number in from.parse().unwrap_or(0)..to.parse().unwrap_or(0) {
+        let piece = example(piece);
+        for number in numbers(times) {
             add(&mut bytes, piece, number)?;
         }
     }
+    bytes.truncate(length.parse().unwrap_or(usize::MAX));
     Ok(bytes)
 }
 
-/// What a list of names gives one of them, as in `NAME VALUE;NAME VALUE`.
-pub(crate) fn given<'g>(list: &'g str, wanted: &str) -> Option<&'g str> {
-    for pair in list.split(';') {
-        if let Some((name, value)) = pair.split_once(' ')
-            && name == wanted
-        {
-            return Some(value);
-        }
+/// The bytes of a trace. Lists, which begin with `[[`, get a head.
+pub(crate) fn trace_of(alloc: Global, head: &str, text: &str) -> Result<Vec<u8>, AllocError> {
+    if !text.starts_with("[[") {
+        return bytes_of(alloc, text);
     }
-    None
-}
-
-/// The bytes of a trace. Lists, which begin with `[[`, get a head. In `~CHANGES~LISTS` this head
-/// has other values, and `none` leaves a member out. Any other text is whole.
-pub(crate) fn trace_of<'t>(
-    alloc: Global,
-    head: &'t str,
-    text: &'t str,
-) -> Result<Vec<u8>, AllocError> {
-    let (changes, lists) = match text.strip_prefix('~') {
-        Some(changed) => changed.split_once('~').unwrap_or((changed, "[[]]")),
-        None if text.starts_with("[[") => ("", text),
-        None => return bytes_of(alloc, text),
-    };
-    let mut whole = String::from_str(alloc, "{")?;
-    for pair in USUAL.split(';') {
-        let (member, usual) = pair.split_once(' ').unwrap_or((pair, ""));
-        let of_head = given(head, member).unwrap_or(usual);
-        let value = given(changes, member).unwrap_or(of_head);
-        if value != "none" {
-            whole = format!(in alloc; "{whole}\"{member}\":{value},")?;
-        }
-    }
-    whole = format!(in alloc; "{whole}\"threads\":¦{lists}¦")?;
-    whole.push_str("}")?;
+    let whole = format!(in alloc; "{{{head},\"threads\":¦{text}¦}}")?;
     bytes_of(alloc, whole.as_str())
 }
 
-/// A text with a piece in its place, which is at the `◊`.
-pub(crate) fn put(alloc: Global, text: &str, piece: &str) -> Result<String, Fail> {
-    let (before, behind) = text.split_once('◊').ok_or("a text has no place")?;
-    Ok(format!(in alloc; "{before}{piece}{behind}")?)
+pub(crate) type Writer = Limited<FaultyStream<Vec<u8>>>;
+
+/// A reader or a writer whose calls go as words say: how many bytes a call moves, and which call
+/// fails, from 0, or whether calls are interrupted `in turn` or `always`.
+pub(crate) fn stream<T>(inner: T, words: &str) -> Limited<FaultyStream<T>> {
+    let (step, plan) = words.split_once(' ').unwrap_or(("65536", words));
+    let plan = match plan {
+        "in turn" => FaultPlan::InterruptedNowAndThen,
+        "always" => FaultPlan::AlwaysInterrupted,
+        call => call.parse().map_or(FaultPlan::Never, FaultPlan::FailsAt),
+    };
+    Limited::new(FaultyStream::new(inner, step.parse().unwrap_or(0), plan))
 }

@@ -1,11 +1,9 @@
 //! Traces, logs and replays.
-
 mod json;
 mod log;
 mod one_pass;
 mod orders;
 mod quick;
-mod readers;
 mod replay;
 mod streams;
 mod texts;

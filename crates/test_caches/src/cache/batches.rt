@@ -1,9 +1,9 @@
 //! Marks that are added together, all of them or none, by each call that does so.
-use super::player::{RETENTION, TOGETHER};
-use super::steps::play;
+use super::player::{TOGETHER, play};
 use std::test::Fail;
 
-const BATCHES: &str = "# two owners at one time
+const BATCHES: &str = "pages 132 132 2 10
+# two owners at one time
 with a 20¹
 add b|[a,c) 20² 20 kept
 stand 1 0 5
@@ -40,9 +40,9 @@ look a 5
 # one below the floor is too large
 add a×101 5¹ 20 refused
 stand 1 0 5
-look a 5";
-
-const TIGHT: &str = "# the page that they filled is dropped
+look a 5
+pages 66 66 1 10
+# the page that they filled is dropped
 with a|b 20¹
 add c 40¹ 40 dropped
 stand 1 1 20
@@ -56,20 +56,7 @@ stand 1 2 25
 look a|d 25
 look f 40¹";
 
-/// What has to be answered alike, beside what is added.
-const FEW: &str = "a|b|[a,z)";
-
-/// Also for `scripts/refuse-each-growth`.
 #[test]
 fn a_refused_batch_can_be_made_again(rt: HostRuntime) -> Result<(), Fail> {
-    play(
-        &rt,
-        rt.alloc(),
-        &((132, 132, 2, RETENTION), TOGETHER, FEW, BATCHES),
-    )?;
-    play(
-        &rt,
-        rt.alloc(),
-        &((66, 66, 1, RETENTION), TOGETHER, FEW, TIGHT),
-    )
+    play(rt.alloc(), TOGETHER, BATCHES)
 }

@@ -1,11 +1,10 @@
 //! What single marks come to, on pages of several sizes.
-use super::player::{ALL, Limits, RETENTION, SINGLE};
-use super::steps::{LETTERS, play};
-use crate::words::{all_hold, at};
+use super::player::{ALL, SINGLE, play};
 use std::test::Fail;
-use tsc_cache::{Config, ConfigFault};
 
-const USUAL: &str = "# a new cache
+/// On pages of four nodes with keys of one byte, of which two are kept at the least.
+const USUAL: &str = "pages 132 132 2 10
+# a new cache
 look a 5
 stand 1 0 5
 # a range
@@ -105,8 +104,8 @@ version b 5 0 1 5
 version b 20¹ 1 1 5
 version b 20 2 1 5";
 
-/// Two rotations, of which the second drops a page.
-const ROTATIONS: &str = "# two rotations
+const ROTATIONS: &str = "pages 132 132 2 10
+# two rotations
 each a|b|c|d 20¹ 20 kept
 stand 1 0 5
 add e 20¹ 20 rotated
@@ -117,9 +116,9 @@ add i 41¹ 40 dropped
 stand 2 2 20
 look a|e 20
 look f 41¹
-version a 20¹ 5 2 5";
-
-const TIGHT: &str = "# the only page is dropped
+version a 20¹ 5 2 5
+pages 66 66 1 10
+# the only page is dropped
 each a|b 20¹ 20 kept
 add c 40¹ 40 dropped
 stand 1 1 20
@@ -131,7 +130,8 @@ add c 15¹ 40 dropped
 stand 1 1 20
 look c 20";
 
-const COUNTED: &str = "# how far a lookup looks
+const OTHER_PAGES: &str = "pages 66 66 2 10
+# how far a lookup looks
 add [a,z) 20¹ 20 kept
 add [b,y) 20² 20 rotated
 counted c 20 2
@@ -140,10 +140,9 @@ look a 20¹
 add [a,z) 30² 20 rotated
 stand 3 2 5
 counted c 30² 1
-look c 30²";
-
-/// On pages of 66 bytes at first and 264 at the most.
-const GROWING: &str = "# each page is twice as large as the one before it
+look c 30²
+pages 66 264 2 10
+# each page is twice as large as the one before it
 each a|b 20¹ 20 kept
 add c 20¹ 20 rotated
 each d|e|f 20¹ 20 kept
@@ -175,8 +174,8 @@ add [a×100,a×100] 20¹ 20 rotated
 add [a×99,a×101] 20¹ 20 dropped
 stand 2 2 5";
 
-/// A front page that two caches share is left by each of them when it is added to.
-const SHARED: &str = "# a shared front page
+const SHARED: &str = "pages 66 66 1 10
+# a front page that two caches share is left by each of them when it is added to
 add a 20¹ 20 kept
 share (a,a) 30²
 add a 30² 20 kept
@@ -188,90 +187,107 @@ add a 40¹ 20 kept
 look a 40¹
 version a 30² 0 1 5";
 
-/// Pages of four nodes with keys of one byte, of which two are kept at the least.
-const LIMITS: Limits = (132, 132, 2, RETENTION);
+const KEYS: &str = "pages 66 66 2 10
+# an empty cache
+stand 1 0 5
+keys -
+hold 0 0
+# both ends of a span, and one that is no key of any
+read [b,d) 20¹
+stand 1 0 5
+keys b|d
+hold 2 66
+# a span without an end
+read (b, 20¹
+stand 1 0 5
+keys b
+hold 1 33
+# what isn't kept has no keys
+read (b,b) 20¹
+read c 5¹
+stand 1 0 5
+keys -
+hold 0 0
+# a key that comes again on one page
+read [b,d) 20¹
+read d 21¹
+stand 1 0 5
+keys b|d
+hold 2 66
+# the empty key, and one that is the beginning of another, on two pages
+read ε 20¹
+stand 1 0 5
+keys ε
+hold 1 32
+read a|aa 20¹
+stand 2 1 5
+keys ε|a|aa
+hold 3 99
+# keys of two pages that lie between one another
+read [a,e)|c|g 20¹
+stand 2 1 5
+keys a|c|e|g
+hold 4 132
+# of three pages, of which two have the same key; those of pages that are dropped are gone
+read [b,f) 20¹
+read [d,h) 21¹
+read [a,b) 22¹
+stand 3 2 5
+keys a|b|d|f|h
+hold 6 198
+read e 50¹
+stand 2 3 21
+keys a|b|e
+hold 3 99
+# keys of pages that are dropped come again where they are added once more
+read [b,f) 20¹
+read [d,h) 21¹
+read [a,c) 22¹
+read f 50¹
+stand 2 3 21
+keys a|c|f
+hold 3 99
+read c 50¹
+stand 2 3 21
+keys a|c|f
+hold 4 132";
 
 #[test]
 fn what_is_done_and_what_comes_of_it(rt: HostRuntime) -> Result<(), Fail> {
-    play(&rt, rt.alloc(), &(LIMITS, ALL, LETTERS, USUAL))?;
-    play(&rt, rt.alloc(), &(LIMITS, ALL, LETTERS, ROTATIONS))
+    play(rt.alloc(), ALL, USUAL)?;
+    play(rt.alloc(), ALL, ROTATIONS)
 }
 
 #[test]
 fn what_comes_of_it_on_other_pages(rt: HostRuntime) -> Result<(), Fail> {
-    let alloc = rt.alloc();
-    play(&rt, alloc, &((66, 66, 1, RETENTION), ALL, LETTERS, TIGHT))?;
-    play(&rt, alloc, &((66, 66, 2, RETENTION), ALL, LETTERS, COUNTED))?;
-    play(
-        &rt,
-        alloc,
-        &((66, 264, 2, RETENTION), ALL, LETTERS, GROWING),
-    )?;
-    play(
-        &rt,
-        alloc,
-        &(
-            (66, 66, 1, RETENTION),
-            "add add_all add_each",
-            LETTERS,
-            SHARED,
-        ),
-    )
+    play(rt.alloc(), ALL, OTHER_PAGES)?;
+    play(rt.alloc(), "add add_all add_each", SHARED)
 }
 
-/// For `scripts/refuse-each-growth`.
 #[test]
 fn a_refused_add_can_be_made_again(rt: HostRuntime) -> Result<(), Fail> {
-    play(&rt, rt.alloc(), &(LIMITS, SINGLE, LETTERS, ROTATIONS))?;
-    play(
-        &rt,
-        rt.alloc(),
-        &((66, 66, 1, RETENTION), SINGLE, LETTERS, TIGHT),
-    )
-}
-
-/// The fault of limits, or that there is none.
-static CONFIGS: &str = "page_size 63 132 2 10
-page_size 200 132 2 10
-page_size 132 1073741825 2 10
-page_size 1073741825 1073741825 2 10
-min_pages 132 132 0 10
-min_pages 132 132 65 10
-retention 132 132 2 9223372036854775808
-page_size 63 132 0 10
-page_size 63 63 0 9223372036854775808
-min_pages 132 132 0 9223372036854775808
-none 64 64 1 0
-none 64 1073741824 64 9223372036854775807
-none 1073741824 1073741824 2 10";
-
-/// The word of a fault.
-fn word_of(fault: ConfigFault) -> &'static str {
-    match fault {
-        ConfigFault::PageSize => "page_size",
-        ConfigFault::MinPages => "min_pages",
-        ConfigFault::Retention => "retention",
-    }
-}
-
-/// Whether limits have this fault, or are told as they were given.
-fn is_told([wanted, first, max, least, retention, _]: [&str; 6]) -> Result<bool, Fail> {
-    let (sizes, retention) = (
-        (first.parse()?, max.parse()?, least.parse()?),
-        retention.parse()?,
-    );
-    match Config::new(sizes.0, sizes.1, sizes.2, retention, at(5, 0)) {
-        Err(fault) => Ok(wanted == word_of(fault)),
-        Ok(config) => {
-            let told = (config.page_first(), config.page_max(), config.min_pages());
-            let right = config.retention() == retention && config.low_water() == at(5, 0);
-            Ok(wanted == "none" && told == sizes && right)
-        }
-    }
+    play(rt.alloc(), SINGLE, ROTATIONS)
 }
 
 #[test]
 fn limits_of_a_configuration(rt: HostRuntime) -> Result<(), Fail> {
-    all_hold!(rt, CONFIGS, is_told());
-    Ok(())
+    let rows = "pages 63 132 2 10 PageSize
+pages 200 132 2 10 PageSize
+pages 132 1073741825 2 10 PageSize
+pages 1073741825 1073741825 2 10 PageSize
+pages 132 132 0 10 MinPages
+pages 132 132 65 10 MinPages
+pages 132 132 2 9223372036854775808 Retention
+pages 63 132 0 10 PageSize
+pages 63 63 0 9223372036854775808 PageSize
+pages 132 132 0 9223372036854775808 MinPages
+pages 64 64 1 0
+pages 64 1073741824 64 9223372036854775807
+pages 1073741824 1073741824 2 10";
+    play(rt.alloc(), "add", rows)
+}
+
+#[test]
+fn keys_and_figures_of_all_pages(rt: HostRuntime) -> Result<(), Fail> {
+    play(rt.alloc(), "add plain_add", KEYS)
 }

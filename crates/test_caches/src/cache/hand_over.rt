@@ -1,6 +1,5 @@
 //! What is told of a cache, and what another one answers once that is added to it.
-use super::player::RETENTION;
-use super::steps::play;
+use super::player::play;
 use std::test::Fail;
 
 const ROWS: &str = "# as many marks as there are keys
@@ -100,9 +99,5 @@ look [c, 5";
 
 #[test]
 fn what_was_read_is_handed_on(rt: HostRuntime) -> Result<(), Fail> {
-    play(
-        &rt,
-        rt.alloc(),
-        &((64, 1_048_576, 2, RETENTION), "add", "-", ROWS),
-    )
+    play(rt.alloc(), "add", ROWS)
 }

@@ -1,300 +1,419 @@
-//! Plays rows on caches: one to which marks are added by some call, and one beside it to which they
-//! are added one by one.
+//! Plays rows on a cache to which marks are added by some call, and on one beside it to which they
+//! are added one by one: after each Add the two are alike. A call that is refused memory leaves all
+//! as it was, but for `add_each`, which leaves some of its marks. It is then made again.
 //!
-//! A call that is refused memory has to leave all as it was, but for `add_each`, which leaves some
-//! of its marks. It is then made again.
-use super::by_bytes::{add_between, add_key};
-use super::compare::{Stand, answers, are_alike, is_alike, stand_of};
-use crate::words::{FIRST, at, push, push_between};
+//! | Row | What is done, or shown |
+//! |---|---|
+//! | `# a remark` | It names what comes behind it, which begins with new caches. |
+//! | `pages 66 132 2 10` | New caches of these `Limits`, with the floor at 5.0. |
+//! | `pages 66 65 2 10 PageSize` | The limits have this fault. |
+//! | `open 5` | New caches with room for one key at first, and the floor at 5.0. |
+//! | `with a 20¹` | The marks are kept for the next row that has some. |
+//! | `add a 20¹ 21 kept` | The marks are added together at 21.0, with this outcome. |
+//! | `each a|b 20¹ 21 kept` | Each is added by itself, and tells this. |
+//! | `read a 20¹` | Each is added at its time, in place, to all caches that the call adds to. |
+//! | `look a 20¹`, `counted a 20¹ 2` | Each is answered, and after a look into 2 pages. |
+//! | `stand 2 1 5` | There are 2 pages, which rotated once, and the floor is at 5.0. |
+//! | `version a 20¹ 3 2 5` | Of the version after 3 Adds, its 2 pages, floor and answers. |
+//! | `keys a|b`, `hold 2 66` | The end keys of all pages; that they are 2, with 66 bytes. |
+//! | `share a 20¹` | The cache after an Add that is not kept is kept as a version. |
+//! | `swap` | The last version goes on, and the cache is kept in its place. |
+//! | `write a 20¹ 20.1` | The owner may write the spans from 20.0 on, at 20.1 at the earliest. |
+//! | `next 20 20.1` | A time is followed by this one. |
+//! | `tell a 3`, `told a 20¹ 5` | What was read of a span is told in 3 marks: these, and a floor. |
+//! | `apply` | What was told is added to the cache. |
 use std::alloc::Global;
 use std::mem;
 use std::test::Fail;
-use timestamp_cache::{
-    Added, Cache, CacheFault, Config, ConfigFault, Mark, ReadSummary, Timestamp, TimestampCache,
-    Uuid, Value,
-};
+use test_support::{at, ends, keys, push, time, value};
+use timestamp_cache::*;
 use tsc_cache::PlainCache;
 
-/// The size of the first page and of the largest one, the least number of pages, and the retention.
+/// The size of the first page and of the largest one, the least number of pages, and for how many
+/// nanoseconds reads are retained.
 pub type Limits = (u32, u32, u32, u64);
 
-/// Whether marks are kept, whether the pages rotate, and how many are dropped; `None` where one is
-/// too large.
-pub type Told = Option<(bool, bool, u64)>;
+/// The calls that add a mark, those that add several, and all. `add_key` adds single keys by their
+/// bytes, and `add_between` all by the bytes of a start and an end.
+pub const SINGLE: &str = "add add_key add_between next plain_add";
 
-/// For how many nanoseconds reads are retained.
-pub const RETENTION: u64 = 10;
+pub const TOGETHER: &str = "add_all next_all plain_add_all add_each";
 
-/// All calls. Where there is one mark, a call for one adds it. `add_key` adds single keys by their
-/// bytes, and all else as `add`, and `add_between` all by the bytes of a start and an end.
 pub const ALL: &str =
     "add add_key add_between next plain_add add_all next_all plain_add_all add_each";
 
-/// The calls that add a mark.
-pub const SINGLE: &str = "add add_key add_between next plain_add";
+/// What all caches answer alike after each Add, on pages of letters and on those of two leaves.
+const LOOKS: &str = "a|b|c|d|e|f|g|h|i|(a,b)|(b,c)|(d,e)|(h,i)|[b,e)|[a,i]|(i,|[,a)|[a,z)
+%80|%80%01|(%80,%80%01)|(%80%01,%81)|%8f%01|(%8f%01,%90)|%9f|(%9f,%a0)|%a0|%b0%01|%c1|%c2|(%c2,
+[%80,%c2]|[ε,%80)";
 
-/// The calls that add several marks.
-pub const TOGETHER: &str = "add_all next_all plain_add_all add_each";
-
-/// The configuration of some limits. The floor stands at 5.0.
-pub fn config((page_first, page_max, min_pages, retention): Limits) -> Result<Config, ConfigFault> {
-    Config::new(page_first, page_max, min_pages, retention, at(5, 0))
-}
-
-/// Caches, and what was done with them.
 #[derive(Drop)]
 pub struct Player {
     pub alloc: Global,
     config: Config,
-    /// By which call marks are added.
-    call: &'static str,
-    /// To this one, or to the plain one, marks are added by the call.
-    pub cache: Cache,
-    /// All versions before it, where the call makes versions.
-    versions: Vec<Cache>,
+    pub call: &'static str,
+    is_plain: bool,
+    /// What all caches answer alike after each Add.
+    pub looks: Vec<Mark>,
+    /// To this cache the plain calls add, and to the next one all others.
     plain: PlainCache,
+    pub cache: Cache,
     /// To this one marks are added one by one.
     beside: Cache,
-    /// What that one was before the last Add, where the call makes versions.
-    former: Option<Cache>,
-    /// What all have to answer alike, each with a value that an Add would have.
-    pub looks: Vec<Mark>,
-    /// What the marks of a row told so far, one by one.
+    /// What the two were before each Add, where the call makes versions.
+    pub versions: Vec<Cache>,
+    formers: Vec<Cache>,
+    /// Whether the last Add was kept beside, whether the pages rotated, and how many were dropped.
     told: (bool, bool, u64),
-    /// What the version after so many Adds answered to these.
-    kept: Vec<Value>,
-    kept_at: usize,
-    /// What was told of the cache.
-    pub summary: Option<ReadSummary>,
+    summary: Option<ReadSummary>,
 }
 
 impl Player {
-    /// A player of new caches.
-    pub fn new(alloc: Global, call: &'static str, limits: Limits) -> Result<Player, Fail> {
-        let config = config(limits)?;
-        let cache = Cache::new(alloc, config)?;
-        let plain = PlainCache::new(alloc, config)?;
-        let beside = Cache::new(alloc, config)?;
+    pub fn new(alloc: Global, config: Config, call: &'static str) -> Result<Player, Fail> {
         Ok(Player {
             alloc,
             config,
             call,
-            cache,
-            versions: Vec::new(alloc),
-            plain,
-            beside,
-            former: None,
+            is_plain: call.starts_with("plain"),
             looks: Vec::new(alloc),
+            plain: PlainCache::new(alloc, config)?,
+            cache: Cache::new(alloc, config)?,
+            beside: Cache::new(alloc, config)?,
+            versions: Vec::new(alloc),
+            formers: Vec::new(alloc),
             told: (false, false, 0),
-            kept: Vec::new(alloc),
-            kept_at: 0,
             summary: None,
         })
     }
 
-    /// Has all answer the spans of a list alike after each Add.
-    pub fn look_at(&mut self, list: &str) -> Result<(), Fail> {
-        let value = Value::of(at(100, 0), Uuid::from_u128(FIRST));
-        push(self.alloc, &mut self.looks, list, value)
-    }
-
-    /// Has all answer each span between two keys alike after each Add.
-    pub fn look_between(&mut self, keys: &str) -> Result<(), Fail> {
-        let mut spans = Vec::new(self.alloc);
-        push_between(self.alloc, &mut spans, keys)?;
-        let value = Value::of(at(100, 0), Uuid::from_u128(FIRST));
-        for span in spans {
-            self.looks.push(Mark { span, value })?;
-        }
-        Ok(())
-    }
-
-    pub fn is_plain(&self) -> bool {
-        matches!(self.call, "plain_add" | "plain_add_all")
+    fn open(&mut self, config: Config) -> Result<bool, Fail> {
+        let mut new = Player::new(self.alloc, config, self.call)?;
+        mem::swap(&mut new.looks, &mut self.looks);
+        mem::swap(&mut new.summary, &mut self.summary);
+        *self = new;
+        Ok(true)
     }
 
     /// Adds marks by the call. A next version goes on.
-    pub fn call(&mut self, marks: &[Mark], now: Timestamp) -> Result<Added, CacheFault> {
-        let next = match (self.call, marks) {
-            ("add", [mark]) => return self.cache.add(&mark.span, mark.value, now),
-            ("add_key", [mark]) => return add_key(&mut self.cache, mark, now),
-            ("add_between", [mark]) => return add_between(&mut self.cache, mark, now),
-            ("plain_add", [mark]) => return self.plain.add(&mark.span, mark.value, now),
-            ("next", [mark]) => self.cache.next(&mark.span, mark.value, now),
-            ("next" | "next_all", _) => self.cache.next_all(marks, now),
-            ("plain_add" | "plain_add_all", _) => return self.plain.add_all(marks, now),
-            ("add_each", _) => return self.cache.add_each_until_refused(marks, now),
-            _ => return self.cache.add_all(marks, now),
+    fn call(&mut self, marks: &[Mark], now: Timestamp) -> Result<Added, AddBetweenFault> {
+        let (cache, plain) = (&mut self.cache, &mut self.plain);
+        let (next, added) = match (self.call, marks) {
+            ("next", [mark]) => cache.next(&mark.span, mark.value, now)?,
+            ("next_all", _) => cache.next_all(marks, now)?,
+            ("add", [mark]) => return Ok(cache.add(&mark.span, mark.value, now)?),
+            ("add_key", [mark]) => return add_key(cache, mark, now),
+            ("add_between", [mark]) => return add_between(cache, mark, now),
+            ("add_each", _) => return Ok(cache.add_each_until_refused(marks, now)?),
+            ("plain_add", [mark]) => return Ok(plain.add(&mark.span, mark.value, now)?),
+            ("plain_add_all", _) => return Ok(plain.add_all(marks, now)?),
+            _ => return Ok(cache.add_all(marks, now)?),
         };
-        let (next, added) = next?;
-        self.versions.push(mem::replace(&mut self.cache, next)).ok();
+        self.versions.push(mem::replace(cache, next)).ok();
         Ok(added)
     }
 
-    /// Whether the cache stands and answers as the one beside it, and the version before as that
-    /// one before.
-    fn agrees_on(&self, marks: &[Mark]) -> bool {
-        if self.is_plain() {
-            return is_alike(&self.plain, &self.beside, marks);
-        }
-        let before = match (self.versions.last(), &self.former) {
-            (Some(older), Some(former)) => are_alike(older, former, marks),
-            (older, _) => older.is_none(),
-        };
-        before && are_alike(&self.cache, &self.beside, marks)
-    }
-
+    /// Whether the caches are alike, and the version before as the one beside then was.
     fn agrees(&self, marks: &[Mark]) -> bool {
-        self.agrees_on(&self.looks) && self.agrees_on(marks)
-    }
-
-    /// Adds a mark to the cache beside, and joins what that tells with what was told.
-    fn add_beside(&mut self, mark: &Mark, now: Timestamp) -> Result<(), Fail> {
-        let rotates = self.beside.would_rotate(&mark.span, mark.value);
-        let added = self.beside.add(&mark.span, mark.value, now)?;
-        if added.rotated != rotates {
-            return Err(Fail::new("it was told otherwise whether the pages rotate"));
+        let (mut all, last) = (true, self.versions.iter().zip(&self.formers).last());
+        for marks in [self.looks.as_slice(), marks] {
+            all &= are_alike(&self.cache, &self.beside, marks)
+                && (!self.is_plain || is_alike(&self.plain, &self.beside, marks))
+                && last.is_none_or(|(older, former)| are_alike(older, former, marks));
         }
-        let (kept, rotated, evicted) = self.told;
-        let evicted = evicted.saturating_add(added.evicted);
-        self.told = (kept || added.kept, rotated || rotates, evicted);
-        Ok(())
+        all
     }
 
-    /// How many marks a call left that was refused memory. They are then in the cache beside too.
-    fn left(&mut self, marks: &[Mark], now: Timestamp) -> Result<usize, Fail> {
-        for count in 0..=marks.len() {
-            if self.agrees(marks) {
+    /// Adds marks one by one beside, after a refused call until all is alike. It tells how many.
+    fn follow(&mut self, marks: &[Mark], now: Timestamp, refused: bool) -> Result<usize, Fail> {
+        for (count, Mark { span, value }) in marks.iter().enumerate() {
+            if refused && (self.call != "add_each" || self.agrees(marks)) {
                 return Ok(count);
             }
-            match (self.call, marks.get(count)) {
-                ("add_each", Some(mark)) => self.add_beside(mark, now)?,
-                _ => break,
+            let rotates = self.beside.would_rotate(span, *value);
+            let added = self.beside.add(span, *value, now)?;
+            let as_told = added.rotated == rotates;
+            as_told.then_some(()).ok_or("the pages rotate otherwise")?;
+            if self.is_plain {
+                self.cache.add(span, *value, now)?;
             }
+            let (kept, rotated, evicted) = self.told;
+            let evicted = evicted.saturating_add(added.evicted);
+            self.told = (kept || added.kept, rotated || rotates, evicted);
         }
-        Err(Fail::new("a refused call changed the cache"))
+        Ok(marks.len())
     }
 
-    /// Keeps what the cache beside is, where the call makes versions.
-    fn keep_former(&mut self) -> Result<(), Fail> {
-        self.former = Some(self.beside.next_all(&[], Timestamp::ZERO)?.0);
-        Ok(())
-    }
-
-    /// Adds marks to the cache beside one by one.
-    fn follow(&mut self, marks: &[Mark], now: Timestamp) -> Result<(), Fail> {
-        if matches!(self.call, "next" | "next_all") {
-            self.keep_former()?;
-        }
-        for mark in marks {
-            self.add_beside(mark, now)?;
-        }
-        Ok(())
-    }
-
-    /// Adds marks, once more where memory is refused. It tells how many were left by a call that
-    /// was refused, and what the last one told.
-    fn call_again(
-        &mut self,
-        marks: &[Mark],
-        now: Timestamp,
-    ) -> Result<(usize, Result<Added, CacheFault>), Fail> {
-        self.versions.reserve(1)?;
+    /// Adds marks by the call, and one by one beside. A word says what was told, or `differs`.
+    pub fn add(&mut self, marks: &[Mark], now: Timestamp) -> Result<&'static str, Fail> {
         self.told = (false, false, 0);
-        let told = self.call(marks, now);
-        if told != Err(CacheFault::NoMemory) {
-            return Ok((0, told));
+        self.versions.reserve(1)?;
+        let (mut left, mut added) = (marks, self.call(marks, now));
+        if added == Err(AddBetweenFault::NoMemory) {
+            left = marks.get(self.follow(marks, now, true)?..).unwrap_or(left);
+            if !self.agrees(marks) {
+                return Ok("differs");
+            }
+            added = self.call(left, now);
         }
-        let count = self.left(marks, now)?;
-        let left = marks.get(count..).unwrap_or(marks);
-        Ok((count, self.call(left, now)))
-    }
-
-    /// Adds marks by the call, and one by one beside. Whether all is alike then, and what was told.
-    pub fn add(&mut self, marks: &[Mark], now: Timestamp) -> Result<(bool, Told), Fail> {
-        let (count, told) = self.call_again(marks, now)?;
-        let Ok(added) = told else {
-            let too_large = told == Err(CacheFault::TooLarge) && !self.config.fits_all(marks);
-            return Ok((too_large && self.agrees(marks), None));
+        let Ok(added) = added else {
+            let too_large = added == Err(AddBetweenFault::TooLarge) && !self.config.fits_all(marks);
+            let is_right = too_large && self.agrees(marks);
+            return Ok(if is_right { "refused" } else { "differs" });
         };
-        self.follow(marks.get(count..).unwrap_or(marks), now)?;
-        let told = count > 0 || self.told == (added.kept, added.rotated, added.evicted);
-        Ok((told && self.agrees(marks), Some(self.told)))
+        if self.formers.len() < self.versions.len() {
+            let former = self.beside.next_all(&[], Timestamp::ZERO)?.0;
+            self.formers.push(former)?;
+        }
+        self.follow(left, now, false)?;
+        let is_told = self.told == (added.kept, added.rotated, added.evicted);
+        Ok(match self.told {
+            _ if !is_told && left.len() == marks.len() || !self.agrees(marks) => "differs",
+            (false, ..) => "not_kept",
+            (_, false, _) => "kept",
+            (_, _, 0) => "rotated",
+            (_, _, 1) => "dropped",
+            (_, _, 2) => "dropped_2",
+            _ => "dropped_more",
+        })
     }
 
     /// Adds marks to all caches that the call adds to, in place, each at its own time.
-    pub fn begin(&mut self, marks: &[Mark]) -> Result<bool, Fail> {
-        for mark in marks {
-            let (span, value, now) = (&mark.span, mark.value, mark.value.time());
-            if self.is_plain() {
-                self.plain.add(span, value, now)?;
+    fn read(&mut self, marks: &[Mark]) -> Result<bool, Fail> {
+        for Mark { span, value } in marks {
+            if self.is_plain {
+                self.plain.add(span, *value, value.time())?;
             }
-            self.cache.add(span, value, now)?;
-            self.beside.add(span, value, now)?;
+            self.cache.add(span, *value, value.time())?;
+            self.beside.add(span, *value, value.time())?;
         }
         Ok(true)
     }
 
-    pub fn stand(&self) -> Stand {
-        if self.is_plain() {
-            stand_of(&self.plain)
-        } else {
-            stand_of(&self.cache)
-        }
-    }
-
-    /// Whether each of some marks is answered.
-    pub fn answers(&self, marks: &[Mark]) -> bool {
-        if self.is_plain() {
-            answers(&self.plain, marks)
-        } else {
-            answers(&self.cache, marks)
-        }
-    }
-
-    /// The version after so many Adds, where there are versions.
-    pub fn version(&self, adds: usize) -> Option<&Cache> {
-        if self.versions.is_empty() {
-            return None;
-        }
-        Some(self.versions.get(adds).unwrap_or(&self.cache))
-    }
-
-    /// Whether the version that was kept answers as it did, where there are versions. What the
-    /// cache answers now is kept then.
-    pub fn keeps(&mut self) -> Result<bool, Fail> {
-        let (mut alike, kept_at) = (true, self.kept_at);
-        if let Some(version) = self.version(kept_at) {
-            for (mark, value) in self.looks.iter().zip(&self.kept) {
-                alike &= version.get_max(&mark.span) == *value;
+    /// Goes on with caches of these limits, told as they were given, or finds the fault of a row.
+    fn limit(&mut self, limits: Limits, fault: &[&str]) -> Result<bool, Fail> {
+        match (config(limits), fault) {
+            (Ok(c), []) => {
+                let told = (c.page_first(), c.page_max(), c.min_pages(), c.retention());
+                Ok(told == limits && c.low_water() == at(5, 0) && self.open(c)?)
             }
+            (Err(told), [fault]) => Ok(format!(in self.alloc; "{told:?}")?.as_str() == *fault),
+            _ => Ok(false),
         }
-        self.kept.clear();
-        for mark in &self.looks {
-            self.kept.push(self.cache.get_max(&mark.span))?;
-        }
-        self.kept_at = self.versions.len();
-        Ok(alike)
     }
 
-    /// Keeps what comes of the cache after an Add that is not kept, as a version: it shares all
-    /// pages.
-    pub fn share(&mut self, mark: &Mark) -> Result<bool, Fail> {
-        let (version, added) = self.cache.next(&mark.span, mark.value, at(20, 0))?;
-        self.versions.push(version)?;
-        self.keep_former()?;
-        Ok(!added.kept)
+    /// Whether the spans may be written from a time on at another one at the earliest, and each of
+    /// them just where that is at once.
+    fn writes(&self, marks: &[Mark], wanted: Value, earliest: &str) -> Result<bool, Fail> {
+        let (cache, at) = (&self.cache, wanted.time());
+        let by = wanted.owner().unwrap_or(Uuid::nil());
+        let mut spans = Vec::new(self.alloc);
+        for mark in marks {
+            spans.push(mark.span.try_copy()?)?;
+        }
+        let each = spans.iter().all(|span| may_write(cache, span, at, by));
+        let told = earliest_write(cache, &spans, at, by);
+        Ok(told == time_or_none(earliest)? && each == (told == Some(at)))
     }
 
-    /// Goes on with the last version, and keeps the cache in its place.
-    pub fn swap(&mut self) -> bool {
-        match (self.versions.last_mut(), &mut self.former) {
-            (Some(version), Some(former)) => {
-                mem::swap(&mut self.cache, version);
+    /// Whether the caches show what a row tells, and of which marks.
+    fn shows(&self, words: &[&str], marks: &[Mark]) -> Result<bool, Fail> {
+        let (cache, is_plain) = (&self.cache, self.is_plain);
+        match *words {
+            ["look", ..] => Ok(answers(cache, marks) && (!is_plain || answers(&self.plain, marks))),
+            ["counted", _, _, pages] => {
+                let pages = pages.parse()?;
+                let is_told = |m: &Mark| cache.get_max_counted(&m.span) == (m.value, pages);
+                Ok(marks.iter().all(is_told))
+            }
+            ["version", ..] if self.versions.is_empty() => Ok(true),
+            ["version", _, _, adds, pages, floor] => {
+                let version = self.versions.get(adds.parse::<usize>()?).unwrap_or(cache);
+                let stood = (version.pages(), version.low_water());
+                Ok(stood == (pages.parse()?, time(floor)?) && answers(version, marks))
+            }
+            ["told", _, _, floor] => {
+                let told = self.summary.as_ref().ok_or("nothing was told")?;
+                Ok(told.floor == time(floor)? && are(&told.marks, marks))
+            }
+            ["stand", pages, rotations, floor] => {
+                let stand = (pages.parse()?, rotations.parse()?, time(floor)?);
+                Ok(stand_of(cache) == stand && (!is_plain || stand_of(&self.plain) == stand))
+            }
+            ["hold", nodes, bytes] => {
+                let all = cache.figures();
+                let stand = (all.pages as usize, all.rotations, all.floor);
+                let held = (all.nodes, all.bytes) == (nodes.parse()?, bytes.parse()?);
+                Ok(held && stand == stand_of(cache))
+            }
+            ["keys", list] => {
+                let (all, mut told) = (
+                    keys(self.alloc, list)?,
+                    cache.key_above(Cut::Last).is_none(),
+                );
+                for place in keys(self.alloc, "ε|%00|a|a%00|aa|b|c|d|e|f|g|h")? {
+                    let (before, after) = (Cut::Before(place.bytes()), Cut::After(place.bytes()));
+                    told &= cache.key_above(before) == all.iter().find(|key| **key >= place);
+                    told &= cache.key_above(after) == all.iter().find(|key| **key > place);
+                }
+                Ok(told)
+            }
+            ["next", now, next] => Ok(next_time(time(now)?) == time_or_none(next)?),
+            _ => Ok(false),
+        }
+    }
+
+    /// Takes a row with marks.
+    fn takes_marks(&mut self, words: &[&str], marks: &[Mark]) -> Result<bool, Fail> {
+        match (words, marks) {
+            (["add", _, _, now, told], _) => Ok(self.add(marks, time(now)?)? == *told),
+            (["each", _, _, now, told], _) => {
+                let mut all = true;
+                for one in marks.chunks(1) {
+                    all &= self.add(one, time(now)?)? == *told;
+                }
+                Ok(all)
+            }
+            (["read", ..], _) => self.read(marks),
+            (["share", ..], [mark]) => {
+                let (version, added) = self.cache.next(&mark.span, mark.value, at(20, 0))?;
+                self.versions.push(version)?;
+                Ok(!added.kept)
+            }
+            (["tell", _, most], [mark]) => {
+                let (alloc, cache, most) = (self.alloc, &self.cache, most.parse()?);
+                let told = match summary(alloc, cache, &mark.span, most) {
+                    Err(NoMemory) => summary(alloc, cache, &mark.span, most)?,
+                    told => told?,
+                };
+                Ok(self.summary.insert(told).span == mark.span)
+            }
+            (["write", _, wanted, earliest], _) => self.writes(marks, value(wanted)?, earliest),
+            _ => self.shows(words, marks),
+        }
+    }
+
+    /// Takes a row, with the marks that rows before it kept, and says whether it holds.
+    fn takes(&mut self, words: &[&str], kept: &mut Vec<Mark>) -> Result<bool, Fail> {
+        match *words {
+            ["#", ..] => self.open(self.config),
+            ["pages", first, max, min, age, ref fault @ ..] => {
+                let limits = (first.parse()?, max.parse()?, min.parse()?, age.parse()?);
+                self.limit(limits, fault)
+            }
+            ["open", floor] => self.open(Config::new(64, 1_048_576, 2, 10, time(floor)?)?),
+            ["swap"] => {
+                let older = self.versions.last_mut().ok_or("no version")?;
+                mem::swap(&mut self.cache, older);
+                let former = self.formers.last_mut().ok_or("no version")?;
                 mem::swap(&mut self.beside, former);
-                true
+                Ok(true)
             }
-            _ => false,
+            ["apply"] => {
+                let told = self.summary.as_ref().ok_or("nothing was told")?;
+                match apply(&mut self.cache, told, at(30, 0)) {
+                    Err(CacheFault::NoMemory) => Ok(apply(&mut self.cache, told, at(30, 0))?.kept),
+                    added => Ok(added?.kept),
+                }
+            }
+            ["stand" | "hold" | "keys" | "next", ..] => self.shows(words, &[]),
+            [verb, list, given, ..] => {
+                push(self.alloc, kept, list, value(given)?)?;
+                if verb == "with" {
+                    return Ok(true);
+                }
+                let marks = mem::replace(kept, Vec::new(self.alloc));
+                self.takes_marks(words, &marks)
+            }
+            _ => Ok(false),
         }
     }
+}
+
+/// The configuration of some limits. The floor stands at 5.0.
+pub fn config((first, max, least, retention): Limits) -> Result<Config, ConfigFault> {
+    Config::new(first, max, least, retention, at(5, 0))
+}
+
+fn time_or_none(text: &str) -> Result<Option<Timestamp>, Fail> {
+    (text != "none").then(|| time(text)).transpose()
+}
+
+/// Adds a mark, by the bytes of its key where it has a single one.
+fn add_key(cache: &mut Cache, mark: &Mark, now: Timestamp) -> Result<Added, AddBetweenFault> {
+    match mark.span.borrowed().key() {
+        Some(bytes) => Ok(cache.add_key(&KeyRef::new(bytes)?, mark.value, now)?),
+        None => Ok(cache.add(&mark.span, mark.value, now)?),
+    }
+}
+
+fn key_of(cut: Cut<'_>) -> Option<&[u8]> {
+    match cut {
+        Cut::Before(key) | Cut::After(key) => Some(key),
+        Cut::Last => None,
+    }
+}
+
+/// Adds a mark by the bytes of its start and its end.
+fn add_between(cache: &mut Cache, mark: &Mark, now: Timestamp) -> Result<Added, AddBetweenFault> {
+    let nothing = (Cut::After(b""), Cut::Before(b""));
+    let (from, to) = mark.span.cuts().unwrap_or(nothing);
+    let (start, mut ends) = (key_of(from).unwrap_or(b""), ends("()"));
+    ends.exclude_from = matches!(from, Cut::After(_));
+    ends.exclude_to = matches!(to, Cut::Before(_));
+    cache.add_between(start, key_of(to), ends, mark.value, now)
+}
+
+/// How many pages there are, how often they rotated, and where the floor stands.
+fn stand_of<C: TimestampCache>(cache: &C) -> (usize, u64, Timestamp) {
+    (cache.pages(), cache.rotations(), cache.low_water())
+}
+
+fn answers<C: TimestampCache>(cache: &C, marks: &[Mark]) -> bool {
+    marks.iter().all(|m| cache.get_max(&m.span) == m.value)
+}
+
+/// Whether a cache stands as another one, and answers alike to the span of each of some marks.
+fn is_alike<C: TimestampCache>(cache: &C, other: &Cache, marks: &[Mark]) -> bool {
+    let is_alike = |m: &Mark| cache.get_max(&m.span) == other.get_max(&m.span);
+    stand_of(cache) == stand_of(other) && marks.iter().all(is_alike)
+}
+
+/// Whether two caches also tell alike of each mark: how many pages a lookup looks into, no more
+/// than there are, and whether an Add would rotate them.
+fn are_alike(cache: &Cache, other: &Cache, marks: &[Mark]) -> bool {
+    let is_alike_on = |Mark { span, value }: &Mark| {
+        let (answer, pages) = cache.get_max_counted(span);
+        (answer, pages) == other.get_max_counted(span)
+            && answer == cache.get_max(span)
+            && pages as usize <= cache.pages()
+            && cache.would_rotate(span, *value) == other.would_rotate(span, *value)
+    };
+    is_alike(cache, other, marks) && marks.iter().all(is_alike_on)
+}
+
+/// Whether two lists have equal marks, one after another.
+pub fn are(marks: &[Mark], those: &[Mark]) -> bool {
+    let is_that = |(mark, that): (&Mark, &Mark)| mark.span == that.span && mark.value == that.value;
+    marks.len() == those.len() && marks.iter().zip(those).all(is_that)
+}
+
+/// Plays rows by each of some calls, on large pages unless they name others.
+pub fn play(alloc: Global, calls: &'static str, rows: &str) -> Result<(), Fail> {
+    for call in calls.split(' ') {
+        let mut player = Player::new(alloc, config((1_048_576, 1_048_576, 64, 1000))?, call)?;
+        for list in LOOKS.lines() {
+            push(alloc, &mut player.looks, list, value("100¹")?)?;
+        }
+        let mut kept = Vec::new(alloc);
+        for row in rows.lines() {
+            let mut words = Vec::new(alloc);
+            for word in row.split(' ') {
+                words.push(word)?;
+            }
+            if !player.takes(&words, &mut kept)? {
+                return Err(Fail::new(format_args!("{call}: {row}")));
+            }
+        }
+    }
+    Ok(())
 }

@@ -1,15 +1,15 @@
-//! The same marks by each call, in a sequence that looks random.
-use super::player::{Limits, Player, SINGLE, TOGETHER};
-use crate::words::at;
-use std::alloc::Global;
+//! Marks in a sequence that looks random, which each call adds.
+use super::player::{Limits, Player, SINGLE, TOGETHER, config};
+use std::alloc::{AllocError, Global};
 use std::test::Fail;
-use timestamp_cache::{Mark, Timestamp, Uuid, Value};
+use test_support::{at, push_between, value};
+use timestamp_cache::{Cache, Mark, TimestampCache, Uuid, Value};
 
 /// All spans over the least key and some others are looked up, between two of which no key lies.
 const KEYS: &str = "ε|a|a%00|b|c|%ff";
 
-/// Limits, the calls, how many times marks are added to new caches by each of them, and how many
-/// marks there are at the most.
+/// Limits, the calls, how many times marks are added to new caches by each of them, and below how
+/// many marks there are, where it isn't one.
 static RUNS: [(Limits, &str, u64, u32); 9] = [
     ((66, 66, 1, 4), SINGLE, 300, 1),
     ((64, 132, 4, 7), SINGLE, 300, 1),
@@ -18,91 +18,76 @@ static RUNS: [(Limits, &str, u64, u32); 9] = [
     ((65, 165, 3, 6), SINGLE, 300, 1),
     // nothing expires, so there are more pages than are kept at the least
     ((66, 66, 64, 9_223_372_036_854_775_807), SINGLE, 300, 1),
-    ((66, 66, 1, 4), TOGETHER, 100, 5),
-    ((99, 198, 2, 8), TOGETHER, 100, 5),
-    ((132, 132, 1, 0), TOGETHER, 100, 5),
+    ((66, 66, 1, 4), TOGETHER, 100, 6),
+    ((99, 198, 2, 8), TOGETHER, 100, 6),
+    ((132, 132, 1, 0), TOGETHER, 100, 6),
 ];
 
-/// A sequence of numbers that look random.
-#[derive(Drop)]
-struct Sequence {
-    state: u64,
+/// The next number of a sequence that looks random, from 0 to below `end`.
+fn below(state: &mut u64, end: u32) -> u32 {
+    *state = state
+        .wrapping_mul(6_364_136_223_846_793_005)
+        .wrapping_add(1_442_695_040_888_963_407);
+    (*state >> 33) as u32 % end.max(1)
 }
 
-impl Sequence {
-    /// The next number, from 0 to below `end`.
-    fn below(&mut self, end: u32) -> u32 {
-        self.state = self
-            .state
-            .wrapping_mul(6_364_136_223_846_793_005)
-            .wrapping_add(1_442_695_040_888_963_407);
-        (self.state >> 33) as u32 % end.max(1)
-    }
-
-    /// One of some spans, with a value whose time goes on with the turn, on the whole.
-    fn mark(&mut self, turn: u64, spans: &[Mark]) -> Result<Mark, Fail> {
-        let place = self.below(u32::try_from(spans.len())?) as usize;
-        let wall = 2 + turn / 6 + u64::from(self.below(12));
-        let time = at(wall, self.below(2));
-        let value = Value::of(time, Uuid::from_u128(u128::from(self.below(3))));
-        let span = spans.get(place).ok_or("no span")?.span.try_copy()?;
-        Ok(Mark { span, value })
-    }
-
-    /// One mark, or up to so many.
-    fn marks(
-        &mut self,
-        alloc: Global,
-        turn: u64,
-        spans: &[Mark],
-        most: u32,
-    ) -> Result<Vec<Mark>, Fail> {
-        let mut marks = Vec::new(alloc);
-        let count = if most > 1 {
-            self.below(most.saturating_add(1))
-        } else {
-            most
-        };
-        for _ in 0..count {
-            marks.push(self.mark(turn, spans)?)?;
-        }
-        Ok(marks)
-    }
-
-    /// A moment that goes on with the turn, on the whole.
-    fn moment(&mut self, turn: u64) -> Timestamp {
-        let wall = turn / 6 + u64::from(self.below(16));
-        at(wall, self.below(2))
-    }
+/// One of some spans, with a value whose time goes on with the turn, on the whole.
+fn mark(state: &mut u64, turn: u64, spans: &[Mark]) -> Result<Mark, Fail> {
+    let place = below(state, u32::try_from(spans.len())?) as usize;
+    let span = spans.get(place).ok_or("no span")?.span.try_copy()?;
+    let wall = 2 + turn / 6 + u64::from(below(state, 12));
+    let time = at(wall, below(state, 2));
+    let value = Value::of(time, Uuid::from_u128(u128::from(below(state, 3))));
+    Ok(Mark { span, value })
 }
 
-/// The number of the first turn after which something differs, from 0. Every ten turns it looks at
-/// the version of ten turns before.
-fn first_difference(player: &mut Player, turns: u64, most: u32) -> Result<Option<u64>, Fail> {
-    let mut sequence = Sequence { state: 1 };
-    player.look_between(KEYS)?;
-    player.keeps()?;
+/// What a cache answers to each of some spans.
+fn answers(alloc: Global, cache: &Cache, spans: &[Mark]) -> Result<Vec<Value>, AllocError> {
+    spans
+        .iter()
+        .map(|mark| cache.get_max(&mark.span))
+        .collect(alloc)
+}
+
+/// Has a player add marks, once in each turn. Every ten turns it looks at the version of ten turns
+/// before, which has to answer as it did.
+fn add_marks(player: &mut Player, turns: u64, end: u32) -> Result<(), Fail> {
+    let (alloc, mut state) = (player.alloc, 1);
+    let (mut adds, mut kept) = (0, answers(alloc, &player.cache, &player.looks)?);
     for turn in 0..turns {
-        let marks = sequence.marks(player.alloc, turn, &player.looks, most)?;
-        let alike = player.add(&marks, sequence.moment(turn))?.0;
-        if !alike || (turn % 10 == 0 && !player.keeps()?) {
-            return Ok(Some(turn));
+        let mut marks = Vec::new(alloc);
+        let count = if end == 1 { 1 } else { below(&mut state, end) };
+        for _ in 0..count {
+            marks.push(mark(&mut state, turn, &player.looks)?)?;
+        }
+        let wall = turn / 6 + u64::from(below(&mut state, 16));
+        let mut alike = player.add(&marks, at(wall, below(&mut state, 2)))? != "differs";
+        if turn % 10 == 0 {
+            if !player.versions.is_empty() {
+                let version = player.versions.get(adds).unwrap_or(&player.cache);
+                alike &= answers(alloc, version, &player.looks)? == kept;
+            }
+            kept = answers(alloc, &player.cache, &player.looks)?;
+            adds = player.versions.len();
+        }
+        if !alike {
+            return Err(Fail::new(format_args!("{}: the turn {turn}", player.call)));
         }
     }
-    Ok(None)
+    Ok(())
 }
 
 #[test]
 fn each_call_does_the_same(rt: HostRuntime) -> Result<(), Fail> {
-    for (limits, calls, turns, most) in &RUNS {
+    for (limits, calls, turns, end) in &RUNS {
         for call in calls.split(' ') {
-            let mut player = Player::new(rt.alloc(), call, *limits)?;
-            let differs = first_difference(&mut player, *turns, *most)?;
-            assert_eq!(rt;
-                differs,
-                None,
-                "{limits:?} by {call}: the number of the turn"
-            );
+            let mut player = Player::new(rt.alloc(), config(*limits)?, call)?;
+            let (mut spans, value) = (Vec::new(rt.alloc()), value("100¹")?);
+            push_between(rt.alloc(), &mut spans, KEYS)?;
+            for span in spans {
+                player.looks.push(Mark { span, value })?;
+            }
+            add_marks(&mut player, *turns, *end)?;
         }
     }
     Ok(())

@@ -1,15 +1,10 @@
 //! Writes that ask a cache, and a seat of a shared one.
 ghost use Rattle.std.specs.Prelude.{◌≡◌};
 
-use super::player::{Limits, RETENTION, config};
-use super::steps::play;
-use crate::words::{FIRST, SECOND, at, span};
-use std::alloc::Global;
+use super::player::{config, play};
 use std::test::Fail;
+use test_support::{FIRST, SECOND, at, span};
 use timestamp_cache::{Seat, SharedCache, Span, Uuid, Value, earliest_write_at, may_write_at};
-
-/// Large pages.
-const LIMITS: Limits = (1_048_576, 1_048_576, 2, RETENTION);
 
 const ROWS: &str = "# later than a read
 read a 20²
@@ -71,49 +66,35 @@ write a|b 10¹ 9223372036854775807.2147483647";
 
 #[test]
 fn writes_as_the_reads_let_them(rt: HostRuntime) -> Result<(), Fail> {
-    play(&rt, rt.alloc(), &(LIMITS, "add", "-", ROWS))
+    play(rt.alloc(), "add", ROWS)
 }
 
-/// What a seat is told of writes of two keys, after it read the first of them.
-fn told(cache: &SharedCache, seat: &mut Seat, keys: &[Span]) -> Option<[bool; 5]>
+/// Whether a seat is told what it has to be of writes of two keys, after it read the first of them.
+fn tells_the_same(cache: &SharedCache, seat: &mut Seat, keys: &[Span]) -> Result<bool, Fail>
     requires { seat.old.cache ≡ cache.now }
 {
-    let (a, b) = (keys.first()?, keys.last()?);
+    let [a, b] = keys else { return Ok(false) };
     let (now, floor) = (at(20, 0), at(5, 0));
     let (first, second) = (Uuid::from_u128(FIRST), Uuid::from_u128(SECOND));
-    if cache
-        .try_add(seat, a, Value::of(now, first), now, 1)
-        .is_err()
-    {
-        return None;
-    }
-    let pushed = earliest_write_at(cache, seat, keys, floor, second).ok()?;
-    Some([
-        may_write_at(cache, seat, a, now, first).ok()?,
-        may_write_at(cache, seat, a, now, second).ok()?,
-        may_write_at(cache, seat, b, now, second).ok()?,
-        may_write_at(cache, seat, b, floor, second).ok()?,
-        pushed == Some(at(20, 1)),
-    ])
-}
-
-/// Whether the one seat of a new cache is told what it has to be.
-fn tells_the_same(alloc: Global) -> Result<bool, Fail> {
-    let mut keys = Vec::with_capacity(alloc, 2)?;
-    for key in ["a", "b"] {
-        keys.push(span(alloc, key)?)?;
-    }
-    let (cache, mut seats) = SharedCache::open(alloc, config(LIMITS)?, 1, 10)?;
-    match seats.pop() {
-        Some(mut seat) => {
-            Ok(told(&cache, &mut seat, &keys) == Some([true, false, true, false, true]))
-        }
-        None => Ok(false),
-    }
+    cache.try_add(seat, a, Value::of(now, first), now, 1)?;
+    let earliest = earliest_write_at(cache, seat, keys, floor, second)?;
+    let may_write = [
+        may_write_at(cache, seat, a, now, first)?,
+        may_write_at(cache, seat, a, now, second)?,
+        may_write_at(cache, seat, b, now, second)?,
+        may_write_at(cache, seat, b, floor, second)?,
+    ];
+    Ok(earliest == Some(at(20, 1)) && may_write == [true, false, true, false])
 }
 
 #[test]
 fn a_seat_tells_the_same(rt: HostRuntime) -> Result<(), Fail> {
-    assert!(rt; tells_the_same(rt.alloc())?);
+    let keys = vec![in rt.alloc(); span(rt.alloc(), "a")?, span(rt.alloc(), "b")?]?;
+    let config = config((1_048_576, 1_048_576, 2, 10))?;
+    let (cache, mut seats) = SharedCache::open(rt.alloc(), config, 1, 10)?;
+    let Some(mut seat) = seats.pop() else {
+        return Err("no seat".into())
+    };
+    assert!(rt; tells_the_same(&cache, &mut seat, &keys)?);
     Ok(())
 }

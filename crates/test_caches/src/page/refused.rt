@@ -1,11 +1,10 @@
-//! Calls that may be refused memory, and are then made again. One that is refused once more leaves
-//! its step wrong.
-use super::steps::play;
-use std::test::Fail;
+//! Calls that may be refused memory, and are then made again: to pages and to copies of them.
+use super::{Fail, play};
 
-/// Adds to pages and to copies of them, beside which the pages stay.
-static STEPS: &str = "between ε|a|a%00|b|c|d|e|f|g|l×4096
-strict yes
+#[test]
+fn a_refused_call_changes_nothing(rt: HostRuntime) -> Result<(), Fail> {
+    let steps = "between ε|a|a%00|b|c|d|e|f|g|l×4096
+compare all
 # a range takes a node for each end, one within it a third, and one is left for the copy
 new 132 7
 look a 0
@@ -51,8 +50,5 @@ keep
 swap
 add [d, 20¹
 shows 5 165 40";
-
-#[test]
-fn a_refused_call_changes_nothing(rt: HostRuntime) -> Result<(), Fail> {
-    play(&rt, rt.alloc(), STEPS)
+    play(&rt, rt.alloc(), steps)
 }

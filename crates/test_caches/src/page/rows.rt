@@ -1,9 +1,10 @@
-//! A table of steps, after each of which both pages show the same.
-use super::steps::play;
-use std::test::Fail;
+//! Pages to which spans are added. The plain page shows as much after each of them.
+use super::{Fail, play};
 
-static STEPS: &str = "between ε|a|a%00|b|c|d|e|f|g|l×4096
-strict yes
+#[test]
+fn rows_of_calls(rt: HostRuntime) -> Result<(), Fail> {
+    let steps = "between ε|a|a%00|b|c|d|e|f|g|l×4096
+compare all
 # an empty page
 new 132 7
 shows 0 0 7
@@ -176,7 +177,7 @@ room g no
 add [c,c] 30²
 copy
 shows 5 165 30
-# the same by pages that are made beside
+# pages that are made beside it
 new 165 7
 added [b,d) 20¹
 shows 2 66 20
@@ -201,9 +202,31 @@ shows 5 165 40.1
 add [a, 50¹
 copy
 shows 5 165 50";
+    play(&rt, rt.alloc(), steps)
+}
 
-/// Memory is ample here: no call is made again.
+/// Pages with room for six keys, to which spans over borrowed keys are added.
 #[test]
-fn rows_of_calls(rt: HostRuntime) -> Result<(), Fail> {
-    play(&rt, rt.alloc(), STEPS)
+fn borrowed_keys_are_added_as_spans_are(rt: HostRuntime) -> Result<(), Fail> {
+    let steps = "between ε|%00|a|a%00|b|bb|c|d|e|f
+compare all
+new 197 0
+keep
+lent c 50¹ room
+lent [a,c] 40¹ room
+lent [b,b] 45¹ room
+lent (b,b) 99¹ room
+lent (b,b] 46¹ room
+lent [a,d) 52² room
+lent (b,e] 54¹ room
+lent (a,c) 56² room
+lent (d, 58¹ room
+lent [b, 53² room
+lent f 90¹ full
+lent [ε, 55¹ room
+lent [a,aa] 90¹ full
+lent [f, 90¹ full
+lent c 60² room
+lent [ε, 60¹ room";
+    play(&rt, rt.alloc(), steps)
 }

@@ -1,10 +1,11 @@
-//! Calls over a page of several leaves that are refused memory: the page then shows all that it
-//! showed before. A call that is refused once more leaves its step wrong.
-use super::steps::play;
-use std::test::Fail;
+//! Calls over a page of several leaves that are refused memory.
+use super::{Fail, play};
 
-/// The page has the keys 0, 2, .., 254 at first, in leaves of 32, 32 and 64.
-static STEPS: &str = "filled rising 128 60 own 2
+/// The page is cut, copied and changed, and made anew beside itself.
+#[test]
+fn refused_calls_leave_a_page_of_leaves(rt: HostRuntime) -> Result<(), Fail> {
+    let steps = "compare nothing
+filled rising 128 60 2 own
 seconds 256
 leaves 32|32|64
 add #3 300²
@@ -52,16 +53,14 @@ drop
 keep
 swap
 leaves 36|32|32|35";
-
-/// `scripts/refuse-each-growth tests test_caches page::unchanged::..` refuses each growth of this
-/// test in turn.
-#[test]
-fn refused_calls_leave_a_page_of_leaves(rt: HostRuntime) -> Result<(), Fail> {
-    play(&rt, rt.alloc(), STEPS)
+    play(&rt, rt.alloc(), steps)
 }
 
-/// The ends of ranges come in in place in two leaves of that page, of which neither is cut.
-static WIDE: &str = "filled rising 128 60 own 2
+/// A second growth is refused too, so that neither an Add in place nor one on a copy has memory.
+#[test]
+fn refused_wide_adds_leave_a_page_of_leaves(rt: HostRuntime) -> Result<(), Fail> {
+    let steps = "compare nothing
+filled rising 128 60 2 own
 seconds 256
 leaves 32|32|64
 add [#5,#67) 300²
@@ -73,10 +72,5 @@ leaves 33|34|64
 add [#7,#70) 302²
 look [#7,#70) 302²
 leaves 34|34|64";
-
-/// For `scripts/refuse-each-growth`, also with a second growth refused, so that neither the Add in
-/// place nor that on a copy has its memory.
-#[test]
-fn refused_wide_adds_leave_a_page_of_leaves(rt: HostRuntime) -> Result<(), Fail> {
-    play(&rt, rt.alloc(), WIDE)
+    play(&rt, rt.alloc(), steps)
 }

@@ -1,9 +1,9 @@
 //! Traces and logs that rows name, and replays.
-use crate::support::*;
 
-/// Two transactions read overlapping spans at one time. It is the trace of the program's stored
-/// run.
-pub(crate) const READS: &str =
+/// Names, and behind each its text.
+static EXAMPLES: [&str; 50] = [
+    // Two transactions read overlapping spans at one time: the program's stored run.
+    "reads",
     r#"{"page_first":132,"page_max":132,"min_pages":2,"retention":10,"low_water":[5,0],"threads":[[
 {"op":"add","span":{"start":"61","end":"63"},"time":[20,0],"owner":"11111111-1111-4111-8111-111111111111","now":[20,0]},
 {"op":"get","span":{"start":"62"}},
@@ -11,18 +11,17 @@ pub(crate) const READS: &str =
 {"op":"add","span":{"start":"62"},"time":[20,0],"owner":"22222222-2222-4222-8222-222222222222","now":[20,0]},
 {"op":"get","span":{"start":"62"}},
 {"op":"low"}]]}
-"#;
-
-pub(crate) const READS_LOG: &str = "0 0 add 0 1 0 0
+"#,
+    "reads log",
+    "0 0 add 0 1 0 0
 0 1 get 1 20.0 11111111-1111-4111-8111-111111111111
 0 2 get 1 5.0 none
 0 3 add 1 1 0 0
 0 4 get 2 20.0 none
 0 5 low 2 5.0
-";
-
-/// The first trace of the folder `examples`, and its log.
-pub(crate) const TWO_READERS: &str =
+",
+    // The folder `examples`.
+    "two readers",
     r#"{"page_first":132,"page_max":132,"min_pages":2,"retention":10,"low_water":[5,0],"threads":[[
 {"op":"add","span":{"start":"61","end":"63"},"time":[20,0],"owner":"11111111-1111-4111-8111-111111111111","now":[20,0]},
 {"op":"get","span":{"start":"62"}},
@@ -31,27 +30,16 @@ pub(crate) const TWO_READERS: &str =
 {"op":"get","span":{"start":"61"}},
 {"op":"get","span":{"start":"62"}},
 {"op":"get","span":{"start":"61","end":"63"}}]]}
-"#;
-
-pub(crate) const TWO_READERS_LOG: &str = "0 0 add 0 1 0 0
+"#,
+    "two readers log",
+    "0 0 add 0 1 0 0
 0 1 get 1 20.0 11111111-1111-4111-8111-111111111111
 0 2 get 1 5.0 none
 0 3 add 1 1 0 0
 0 4 get 2 20.0 11111111-1111-4111-8111-111111111111
 0 5 get 2 20.0 none
 0 6 get 2 20.0 none
-";
-
-/// The folder `examples`, and the program's stored run: names, and behind each its text.
-static EXAMPLES: [&str; 28] = [
-    "reads",
-    READS,
-    "reads log",
-    READS_LOG,
-    "two readers",
-    TWO_READERS,
-    "two readers log",
-    TWO_READERS_LOG,
+",
     "two threads",
     r#"{"page_first":132,"page_max":132,"min_pages":2,"retention":10,"low_water":[5,0],"threads":[[
 {"op":"add","span":{"start":"61","end":"63"},"time":[20,0],"owner":"11111111-1111-4111-8111-111111111111","now":[20,0]},
@@ -172,27 +160,48 @@ static EXAMPLES: [&str; 28] = [
 0 8 get 4 20.0 none
 0 9 low 4 5.0
 ",
+    // A trace that has a bit of each kind.
+    "sample",
+    r#"{"page_first":132,"page_max":8256,"min_pages":2,"retention":10,"low_water":[5,0],"threads":[[{"op":"add","span":{"start":"61","end":"6F"},"time":[20,1],"owner":"11111111-1111-4111-8111-11111111111A","now":[21,2]},{"op":"get","span":{"start":"62","end":"61","ends":"(]"}}],[],[{"op":"batch","marks":[{"span":{"start":"","onward":"("},"time":[9,0],"owner":null}],"now":[20,0]},{"op":"low"}]]}"#,
+    "usage",
+    "usage: tscache replay FILE, run FILE or check FILE LOG¶",
+    // Two lists add one key, and a third asks for it.
+    "race",
+    r#"{"page_first":132,"page_max":132,"min_pages":2,"retention":10,"low_water":[5,0],"threads":[[{"op":"add","span":{"start":"61"},"time":[20,0],"owner":"¹","now":[20,0]}],¶[{"op":"add","span":{"start":"61"},"time":[30,0],"owner":"²","now":[20,0]}],¶[{"op":"get","span":{"start":"61"}}]]}"#,
+    "race log",
+    "0 0 add 0 1 0 0¶1 0 add 1 1 0 0¶2 0 get 1 20.0 ¹¶",
+    // Two lists add two keys together, and a third asks for both.
+    "batch race",
+    r#"{"page_first":132,"page_max":132,"min_pages":2,"retention":10,"low_water":[5,0],"threads":[[{"op":"batch","marks":[{"span":{"start":"61"},"time":[20,0],"owner":"¹"},{"span":{"start":"62"},"time":[20,0],"owner":"¹"}],"now":[20,0]}],¶[{"op":"batch","marks":[{"span":{"start":"61"},"time":[30,0],"owner":"²"},{"span":{"start":"62"},"time":[30,0],"owner":"²"}],"now":[20,0]}],¶[{"op":"get","span":{"start":"61","end":"63"}}]]}"#,
+    "one key",
+    r#"{"page_first":132,"page_max":132,"min_pages":2,"retention":10,"low_water":[5,0],"threads":[[{"op":"add","span":{"start":"61"},"time":[20,0],"now":[20,0]},{"op":"get","span":{"start":"61"}}]]}"#,
+    "one key log",
+    "0 0 add 0 1 0 0¶0 1 get 1 20.0 none¶",
+    // One list adds a key and asks for it, by an Add and by a batch.
+    "one list",
+    r#"{"page_first":132,"page_max":132,"min_pages":2,"retention":10,"low_water":[5,0],"threads":[[{"op":"add","span":{"start":"61"},"time":[20,0],"owner":"¹","now":[20,0]},¶{"op":"get","span":{"start":"61"}}]]}"#,
+    "one batch",
+    r#"{"page_first":132,"page_max":132,"min_pages":2,"retention":10,"low_water":[5,0],"threads":[[{"op":"batch","marks":[{"span":{"start":"61"},"time":[20,0]}],"now":[20,0]},¶{"op":"get","span":{"start":"61"}}]]}"#,
+    // One list adds two keys together, and the other asks for both.
+    "batch and get",
+    r#"{"page_first":132,"page_max":132,"min_pages":2,"retention":10,"low_water":[5,0],"threads":[[{"op":"batch","marks":[{"span":{"start":"61"},"time":[20,0],"owner":"¹"},{"span":{"start":"62"},"time":[30,0],"owner":"²"}],"now":[20,0]}],¶[{"op":"get","span":{"start":"61","end":"63"}}]]}"#,
+    // A batch for which the pages rotate three times, and of which two rotations drop a page.
+    "batch over pages",
+    r#"{"page_first":132,"page_max":132,"min_pages":2,"retention":10,"low_water":[5,0],"threads":[[{"op":"batch","marks":[{"span":{"start":"61"},"time":[20,0]},¶{"span":{"start":"62"},"time":[20,0]},¶{"span":{"start":"63"},"time":[20,0]},¶{"span":{"start":"64"},"time":[20,0]},¶{"span":{"start":"65"},"time":[20,0]},¶{"span":{"start":"66"},"time":[20,0]},¶{"span":{"start":"67"},"time":[20,0]},¶{"span":{"start":"68"},"time":[20,0]},¶{"span":{"start":"69"},"time":[41,0]},¶{"span":{"start":"6a"},"time":[41,0]},¶{"span":{"start":"6b"},"time":[41,0]},¶{"span":{"start":"6c"},"time":[41,0]},¶{"span":{"start":"6d"},"time":[41,0]},¶{"span":{"start":"6e"},"time":[41,0]}],"now":[40,0]},¶{"op":"low"}]]}"#,
 ];
 
-/// Other traces and logs, by their names.
-static SCENES: &str = r#"usage|usage: tscache replay FILE, run FILE or check FILE LOG¶
-# Two lists add the same key, and a third asks for it.
-race|[[{"op":"add","span":{"start":"61"},"time":[20,0],"owner":"¹","now":[20,0]}],¶[{"op":"add","span":{"start":"61"},"time":[30,0],"owner":"²","now":[20,0]}],¶[{"op":"get","span":{"start":"61"}}]]
-race log|0 0 add 0 1 0 0¶1 0 add 1 1 0 0¶2 0 get 1 20.0 ¹¶
-# Two lists add two keys together, and a third asks for both.
-batch race|[[{"op":"batch","marks":[{"span":{"start":"61"},"time":[20,0],"owner":"¹"},{"span":{"start":"62"},"time":[20,0],"owner":"¹"}],"now":[20,0]}],¶[{"op":"batch","marks":[{"span":{"start":"61"},"time":[30,0],"owner":"²"},{"span":{"start":"62"},"time":[30,0],"owner":"²"}],"now":[20,0]}],¶[{"op":"get","span":{"start":"61","end":"63"}}]]
-one key|[[{"op":"add","span":{"start":"61"},"time":[20,0],"now":[20,0]},{"op":"get","span":{"start":"61"}}]]
-one key log|0 0 add 0 1 0 0¶0 1 get 1 20.0 none¶
-# One list adds a key and asks for it, by an Add and by a batch.
-one list|[[{"op":"add","span":{"start":"61"},"time":[20,0],"owner":"¹","now":[20,0]},¶{"op":"get","span":{"start":"61"}}]]
-one batch|[[{"op":"batch","marks":[{"span":{"start":"61"},"time":[20,0]}],"now":[20,0]},¶{"op":"get","span":{"start":"61"}}]]
-# One list adds two keys together, and the other asks for both.
-batch and get|[[{"op":"batch","marks":[{"span":{"start":"61"},"time":[20,0],"owner":"¹"},{"span":{"start":"62"},"time":[30,0],"owner":"²"}],"now":[20,0]}],¶[{"op":"get","span":{"start":"61","end":"63"}}]]
-# A batch for which the pages rotate three times, and of which two rotations drop a page.
-batch over pages|[[{"op":"batch","marks":[{"span":{"start":"61"},"time":[20,0]},¶{"span":{"start":"62"},"time":[20,0]},¶{"span":{"start":"63"},"time":[20,0]},¶{"span":{"start":"64"},"time":[20,0]},¶{"span":{"start":"65"},"time":[20,0]},¶{"span":{"start":"66"},"time":[20,0]},¶{"span":{"start":"67"},"time":[20,0]},¶{"span":{"start":"68"},"time":[20,0]},¶{"span":{"start":"69"},"time":[41,0]},¶{"span":{"start":"6a"},"time":[41,0]},¶{"span":{"start":"6b"},"time":[41,0]},¶{"span":{"start":"6c"},"time":[41,0]},¶{"span":{"start":"6d"},"time":[41,0]},¶{"span":{"start":"6e"},"time":[41,0]}],"now":[40,0]},¶{"op":"low"}]]"#;
+/// The text that a name stands for. Any other stands for itself.
+pub(crate) fn example<'n>(name: &'n str) -> &'n str {
+    for pair in EXAMPLES.chunks(2) {
+        match pair {
+            [known, text] if *known == name => return *text,
+            _ => {}
+        }
+    }
+    name
+}
 
-/// Traces that are replayed to their ends, with the calls of other commands: the status, what is
-/// written, what is told of a fault, the command, and the trace.
+/// Traces that are replayed to their ends, as rows of commands.
 pub(crate) static REPLAYS: &str = r#"0|reads log||replay|reads
 0|two readers log||replay|two readers
 0|0 0 add 0 1 0 0¶0 1 get 1 20.0 ¹¶1 0 add 1 1 0 0¶1 1 get 2 30.0 ²¶1 2 get 2 20.0 ¹¶||replay|two threads
@@ -203,7 +212,7 @@ pub(crate) static REPLAYS: &str = r#"0|reads log||replay|reads
 # Batches: each counts as one Add, also one without marks.
 0|several spans log||replay|several spans
 # Pages that double: for two keys, four and eight.
-0|0 0 add 0 1 0 0¶0 1 add 1 1 0 0¶0 2 add 2 1 1 0¶0 3 add 3 1 0 0¶0 4 add 4 1 0 0¶0 5 add 5 1 0 0¶0 6 add 6 1 1 0¶0 7 get 7 20.0 none¶||replay|~page_first 66;page_max 264~[[¶{"op":"add","span":{"start":"61"},"time":[20,0],"now":[20,0]},¶{"op":"add","span":{"start":"62"},"time":[20,0],"now":[20,0]},¶{"op":"add","span":{"start":"63"},"time":[20,0],"now":[20,0]},¶{"op":"add","span":{"start":"64"},"time":[20,0],"now":[20,0]},¶{"op":"add","span":{"start":"65"},"time":[20,0],"now":[20,0]},¶{"op":"add","span":{"start":"66"},"time":[20,0],"now":[20,0]},¶{"op":"add","span":{"start":"67"},"time":[20,0],"now":[20,0]},¶{"op":"get","span":{"start":"61","onward":"["}}]]
+0|0 0 add 0 1 0 0¶0 1 add 1 1 0 0¶0 2 add 2 1 1 0¶0 3 add 3 1 0 0¶0 4 add 4 1 0 0¶0 5 add 5 1 0 0¶0 6 add 6 1 1 0¶0 7 get 7 20.0 none¶||replay|{"page_first":66,"page_max":264,"min_pages":2,"retention":10,"low_water":[5,0],"threads":[[¶{"op":"add","span":{"start":"61"},"time":[20,0],"now":[20,0]},¶{"op":"add","span":{"start":"62"},"time":[20,0],"now":[20,0]},¶{"op":"add","span":{"start":"63"},"time":[20,0],"now":[20,0]},¶{"op":"add","span":{"start":"64"},"time":[20,0],"now":[20,0]},¶{"op":"add","span":{"start":"65"},"time":[20,0],"now":[20,0]},¶{"op":"add","span":{"start":"66"},"time":[20,0],"now":[20,0]},¶{"op":"add","span":{"start":"67"},"time":[20,0],"now":[20,0]},¶{"op":"get","span":{"start":"61","onward":"["}}]]}
 # The last timestamp.
 0|0 0 add 0 1 0 0¶0 1 get 1 9223372036854775807.2147483647 ¹¶||replay|[[¶{"op":"add","span":{"start":"61"},"time":[9223372036854775807,2147483647],"owner":"¹","now":[20,0]},¶{"op":"get","span":{"start":"61"}}]]
 # No calls.
@@ -228,41 +237,3 @@ pub(crate) static REPLAYS: &str = r#"0|reads log||replay|reads
 0|0 0 batch 0 1 0 0¶0 1 get 1 20.0 none¶1 0 add 1 1 0 0¶1 1 batch 2 0 0 0¶1 2 low 3 5.0¶||replay|[[{"op":"batch","marks":[{"span":{"start":"61"},"time":[20,0],"owner":null}],"now":[20,0]},¶{"op":"get","span":{"start":"61"}}],¶[{"op":"add","span":{"start":"61"},"time":[30,0],"now":[20,0]},¶{"op":"batch","marks":[],"now":[20,0]},¶{"op":"low"}]]
 # A batch without marks before all else.
 0|0 0 batch 0 0 0 0¶0 1 low 1 5.0¶||replay|[[{"op":"batch","marks":[],"now":[20,0]},{"op":"low"}]]"#;
-
-/// Traces that are refused, in the same form.
-pub(crate) static REFUSED: &str = r#"# A batch of which one mark is too large.
-1||trace refused: fault 9 at call 1¶|replay|~page_first 64;page_max 65~[[¶{"op":"batch","marks":[¶{"span":{"start":"61"},"time":[20,0]},¶{"span":{"start":"61","end":"62"},"time":[5,0]}],"now":[20,0]}]]
-# No JSON.
-1||trace refused: fault 1¶|replay|
-1||trace refused: fault 1¶|replay|{"page_first":132
-# A wrong head.
-1||trace refused: fault 2 at call 0¶|replay|[]
-1||trace refused: fault 3 at call 0¶|replay|~page_first 4294967296~[[]]
-# A member of the head that there is none of.
-1||trace refused: fault 2 at call 0¶|replay|{"page_nodes":4,"min_pages":2,"retention":10,"low_water":[5,0],"threads":[[]]}
-# A wrong configuration, or no list.
-1||trace refused: fault 7¶|replay|~page_first 63~[[]]
-1||trace refused: fault 7¶|replay|~~[]
-# Wrong calls.
-1||trace refused: fault 2 at call 1¶|replay|[[{"op":"low","x":1}]]
-1||trace refused: fault 4 at call 2¶|replay|[[{"op":"low"},¶{"op":"get","span":{"start":"6g"}}]]
-1||trace refused: fault 9 at call 2¶|replay|~page_first 64;page_max 64~[[¶{"op":"get","span":{"start":"61","end":"63"}}],[¶{"op":"add","span":{"start":"61","end":"63"},"time":[20,0],"now":[20,0]}]]"#;
-
-/// The bytes of a trace or a log that a row names, or else writes.
-pub(crate) fn named(alloc: Global, text: &str) -> Result<Vec<u8>, AllocError> {
-    let mut is_named = false;
-    for example in &EXAMPLES {
-        if is_named {
-            return Vec::from_slice(alloc, example.as_bytes());
-        }
-        is_named = *example == text;
-    }
-    for scene in SCENES.lines() {
-        if let Some((name, scene)) = scene.split_once('|')
-            && name == text
-        {
-            return trace_of(alloc, HEAD, scene);
-        }
-    }
-    trace_of(alloc, HEAD, text)
-}

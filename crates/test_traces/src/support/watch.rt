@@ -1,4 +1,4 @@
-//! A gate that holds the threads of a run up, and counts what it is told.
+//! A gate that holds the threads of a run up, and counts their calls.
 use crate::support::*;
 use std::sync::atomic::AtomicU64;
 use std::sync::atomic::Ordering::SeqCst;
@@ -6,100 +6,77 @@ use std::thread;
 use tsc_shared::Gate;
 use tsc_stream::Progress;
 
-/// How often a thread looks whether what it waits for has come.
-const TURNS: u32 = 10_000_000;
-
-/// Holds threads up, and counts what it is told: of a list a call is started at an even count, and
-/// done at the next one.
+/// Holds threads up by a rule, and counts the starts and the ends of calls: of the first list, of
+/// the second and of all others.
 ///
-/// By the rule `free` a thread waits for nothing. By a number it waits before the first call of its
-/// list until those of so many lists are there, and by `in turn` until as many calls are done as
-/// there are lists before it. By `unseen` each Add waits, before it can be seen, until the first
-/// call of the second list is done; and that one, until an Add is held up.
-#[derive(Drop)]
-pub(crate) struct Watch {
-    rule: &'static str,
+/// Without a rule a thread waits for nothing. By a number, each list waits before its first call
+/// until that many lists have begun; by `in turn`, until as many calls are done as there are lists
+/// before it. By `unseen`, each Add waits, unseen, until the second list's first call is done, and
+/// that call waits until an Add is held up.
+#[derive(Default, Drop)]
+pub(crate) struct Watch<'r> {
+    rule: &'r str,
+    /// Threads that saw what they waited for.
     met: AtomicU64,
-    started: AtomicU64,
-    done: AtomicU64,
+    told: (AtomicU64, AtomicU64, AtomicU64),
     published: AtomicU64,
-    first: AtomicU64,
-    second: AtomicU64,
-    others: AtomicU64,
+    /// Lists that have begun, calls that are done, and counts that came out of their order.
+    begun: AtomicU64,
+    done: AtomicU64,
     wrong: AtomicU64,
 }
 
-impl Watch {
-    pub(crate) fn new(rule: &'static str) -> Watch {
-        Watch {
-            rule,
-            met: AtomicU64::new(0),
-            started: AtomicU64::new(0),
-            done: AtomicU64::new(0),
-            published: AtomicU64::new(0),
-            first: AtomicU64::new(0),
-            second: AtomicU64::new(0),
-            others: AtomicU64::new(0),
-            wrong: AtomicU64::new(0),
-        }
+impl<'r> Watch<'r> {
+    pub(crate) fn new(rule: &'r str) -> Watch<'r> {
+        let mut watch = Watch::default();
+        watch.rule = rule;
+        watch
     }
 
     fn of(&self, thread: u32) -> &AtomicU64 {
-        match thread {
-            0 => &self.first,
-            1 => &self.second,
-            _ => &self.others,
-        }
+        [&self.told.0, &self.told.1, &self.told.2][thread.min(2) as usize]
     }
 
-    /// Counts what is told of a list, at a count that is known of the first two.
-    fn count(&self, thread: u32, wanted: u64) {
-        if self.of(thread).fetch_add(1, SeqCst) != wanted && thread < 2 {
-            self.wrong.fetch_add(1, SeqCst);
-        }
+    /// Counts a start or an end, of which the first two lists' counts are known.
+    fn count(&self, thread: u32, known: u64) {
+        let is_wrong = self.of(thread).fetch_add(1, SeqCst) != known && thread < 2;
+        self.wrong.fetch_add(u64::from(is_wrong), SeqCst);
     }
 
-    /// Waits until a count has come so far.
+    /// Looks ten million times whether a count has come so far.
     fn wait_for(&self, count: &AtomicU64, wanted: u64) {
-        for _ in 0..TURNS {
-            if count.load(SeqCst) >= wanted {
-                self.met.fetch_add(1, SeqCst);
-                return;
-            }
+        let has_come = (0..10_000_000).any(|_| {
             thread::yield_now();
-        }
+            count.load(SeqCst) >= wanted
+        });
+        self.met.fetch_add(u64::from(has_come), SeqCst);
     }
 
-    /// Whether each call that was started is done, and all was told in its order.
+    /// Whether each call that has started is done, and all came in their order.
     pub(crate) fn is_in_order(&self) -> bool {
-        let told = self.first.load(SeqCst) | self.second.load(SeqCst) | self.others.load(SeqCst);
+        let (first, second, others) = &self.told;
+        let told = first.load(SeqCst) | second.load(SeqCst) | others.load(SeqCst);
         told % 2 == 0 && self.wrong.load(SeqCst) == 0
     }
 
-    /// How many threads saw what they waited for, what was told of the first list, of the second
-    /// and of all others, and the Adds.
-    pub(crate) fn told(&self, alloc: Global) -> Result<String, AllocError> {
-        let (met, published) = (self.met.load(SeqCst), self.published.load(SeqCst));
-        let (first, second) = (self.first.load(SeqCst), self.second.load(SeqCst));
-        format!(in alloc;
-            "{met} {first} {second} {} {published}",
-            self.others.load(SeqCst)
-        )
+    /// The threads that saw what they waited for, the starts and ends, and the Adds.
+    pub(crate) fn counts(&self, alloc: Global) -> Result<String, AllocError> {
+        format!(in alloc; "{:?} {:?} {:?}", self.met, self.told, self.published)
     }
 }
 
-impl Gate for Watch {
+impl Gate for Watch<'_> {
     fn start(&self, thread: u32, call: u32) {
         self.count(thread, u64::from(call).saturating_mul(2));
         if call > 0 {
             return;
         }
-        self.started.fetch_add(1, SeqCst);
+        self.begun.fetch_add(1, SeqCst);
         match self.rule {
             "in turn" => self.wait_for(&self.done, u64::from(thread)),
             "unseen" if thread == 1 => self.wait_for(&self.published, 1),
-            "free" | "unseen" => {}
-            lists => self.wait_for(&self.started, lists.parse().unwrap_or(u64::MAX)),
+            "" | "unseen" => {}
+            lists => self.wait_for(&self.begun, lists.parse().unwrap_or(u64::MAX)),
         }
     }
 
@@ -110,19 +87,17 @@ impl Gate for Watch {
 
     fn publish(&self, seat: u32) {
         self.published.fetch_add(1, SeqCst);
-        if seat < 2 && self.of(seat).load(SeqCst) % 2 == 0 {
-            self.wrong.fetch_add(1, SeqCst);
-        }
+        let is_wrong = self.of(seat).load(SeqCst) % 2 == 0 && seat < 2;
+        self.wrong.fetch_add(u64::from(is_wrong), SeqCst);
         if self.rule == "unseen" {
-            // The second list was told of its first call's start and end.
-            self.wait_for(&self.second, 2);
+            // The first call of the second list has started and ended.
+            self.wait_for(&self.told.1, 2);
         }
     }
 }
 
-/// Calls of no list count with those of others.
-impl Progress for Watch {
+impl Progress for Watch<'_> {
     fn made(&self) {
-        self.others.fetch_add(1, SeqCst);
+        self.told.2.fetch_add(1, SeqCst);
     }
 }

@@ -1,18 +1,15 @@
-//! Texts of which both readers of traces have to tell the same, whatever it is.
-//!
-//! What is to be told of a text stands in the tables of `json`.
-
+//! Texts that both readers of traces have to take alike, whatever they say of them.
 use crate::support::*;
-use crate::trace::readers::told;
+use crate::trace::json::told;
 
 /// Places, each with the kind of what stands at its `◊`.
 static PLACES: &str = r#"# Numbers, once as each of those that a trace has.
-number|~page_first ◊
-number|~page_max ◊
-number|~min_pages ◊
-number|~retention ◊
-number|~low_water [◊,0]
-number|~low_water [5,◊]
+number|{"page_first":◊,"page_max":8256,"min_pages":2,"retention":10,"low_water":[5,0],"threads":[[]]}
+number|{"page_first":132,"page_max":◊,"min_pages":2,"retention":10,"low_water":[5,0],"threads":[[]]}
+number|{"page_first":132,"page_max":8256,"min_pages":◊,"retention":10,"low_water":[5,0],"threads":[[]]}
+number|{"page_first":132,"page_max":8256,"min_pages":2,"retention":◊,"low_water":[5,0],"threads":[[]]}
+number|{"page_first":132,"page_max":8256,"min_pages":2,"retention":10,"low_water":[◊,0],"threads":[[]]}
+number|{"page_first":132,"page_max":8256,"min_pages":2,"retention":10,"low_water":[5,◊],"threads":[[]]}
 number|[[{"op":"add","span":{"start":"61"},"time":[◊,0],"now":[20,0]}]]
 number|[[{"op":"add","span":{"start":"61"},"time":[20,◊],"now":[20,0]}]]
 number|[[{"op":"add","span":{"start":"61"},"time":[20,0],"now":[◊,0]}]]
@@ -21,7 +18,7 @@ number|[[],[{"op":"batch","marks":[{"span":{"start":"61"},"time":[◊,0]}],"now"
 number|[[],[{"op":"batch","marks":[{"span":{"start":"61"},"time":[20,◊]}],"now":[20,0]}]]
 number|[[],[{"op":"batch","marks":[],"now":[◊,0]}]]
 number|[[],[{"op":"batch","marks":[],"now":[20,◊]}]]
-# Texts, in the same way.
+# Texts, once as each of those that a trace has.
 text|[[{"op":◊}]]
 text|[[{"op":◊,"span":{"start":"61"}}]]
 text|[[{"op":◊,"span":{"start":"61"},"time":[20,0],"now":[20,0]}]]
@@ -56,7 +53,24 @@ call|[[◊]]
 call|{"threads":[[{"op":"low"}],[],[◊,{"op":"low"}]],"page_first":132,"page_max":8256,"min_pages":2,"retention":10,"low_water":[5,0]}
 call|{"threads":[[◊,{"op":"x"}]],"page_first":132,"page_max":8256,"min_pages":2,"retention":10,"low_water":[5,0]}
 call|[[{"op":"get","span":{"start":"6"}},◊]]
-call|{"threads":[[◊]],"page_first":132,"page_max":64,"min_pages":2,"retention":10,"low_water":[5,0]}"#;
+call|{"threads":[[◊]],"page_first":132,"page_max":64,"min_pages":2,"retention":10,"low_water":[5,0]}
+# What may stand around a trace.
+trace|◊
+trace| ␉␍␊◊␊␍␉ 
+trace|ï»¿◊
+trace|◊ï»¿
+trace|◊ {}
+trace|◊x
+trace|◊}
+trace|◊,
+trace|[◊]
+trace|{"x":◊}
+trace|␀◊
+trace|◊␀
+trace|/**/◊
+trace|◊//
+trace|{◊
+trace|"◊""#;
 
 /// Pieces, each of which is tried at each place of its kind.
 static PIECES: &str =
@@ -154,6 +168,10 @@ text|7
 text|[]
 text|{}
 text|"61
+# Texts with a letter of two bytes, and with bytes that JSON does not take.
+text|"Ã©"
+text|"6␁"
+text|"6␉"
 # Members: of one place or another, that repeat one or change it, unknown, or written otherwise.
 member|"x":1
 member|"\u0078":[{"y":null}]
@@ -218,112 +236,68 @@ call|{"span":{"start":"61"},"time":[20,0],"now":[20,0],"op":"get"}
 call|{"span":{"start":"61"},"time":[20,0],"now":[20,0],"op":"low"}
 call|{"marks":[{"span":{"start":"6"},"time":[20,0]}],"now":[20,0],"op":"add"}
 call|{"span":{"start":"61"},"time":[20,0],"owner":"x","op":"add"}
-call|{"now":[20,0],"marks":[{"time":[20,0]}],"op":"low"}"#;
+call|{"now":[20,0],"marks":[{"time":[20,0]}],"op":"low"}
+# A trace.
+trace|¦sample¦"#;
 
-/// Texts with a letter of two bytes, and with bytes that JSON does not take.
-static ODD_PIECES: &str = "text|\"\u{c3}\u{a9}\"
-text|\"6\u{1}\"
-text|\"6\t\"";
-
-/// What may stand around a trace.
-static AROUND: &str =
-    "◊| \t\r\n◊\n\r\t |\u{ef}\u{bb}\u{bf}◊|◊\u{ef}\u{bb}\u{bf}|◊ {}|◊x|◊}|◊,|[◊]|{\"x\":◊}|\0◊|◊\0|/**/◊|◊//|{◊|\"◊\"";
-
-/// A trace that has a bit of each kind.
-const SAMPLE: &str =
-    r#"{"page_first":132,"page_max":8256,"min_pages":2,"retention":10,"low_water":[5,0],"threads":[[{"op":"add","span":{"start":"61","end":"6F"},"time":[20,1],"owner":"11111111-1111-4111-8111-11111111111A","now":[21,2]},{"op":"get","span":{"start":"62","end":"61","ends":"(]"}}],[],[{"op":"batch","marks":[{"span":{"start":"","onward":"("},"time":[9,0],"owner":null}],"now":[20,0]},{"op":"low"}]]}"#;
-
-/// Whether the readers tell the same of a text with a piece in its place.
-fn is_told_alike(place: &str, alloc: Global, piece: &str) -> Holds {
-    let text = put(alloc, place, piece)?;
+/// Whether the readers take a text alike, with a piece in its place.
+fn is_told_alike(place: &str, alloc: Global, [piece, ..]: Cells) -> Holds {
+    let text = place.replace(alloc, '◊', piece)?;
     Ok(told(alloc, &trace_of(alloc, WIDE, text.as_str())?)?.as_str() != "apart")
 }
 
-/// Whether they do with a piece at each place of its kind, of which there are some.
+/// Whether the readers take a piece alike at each place of its kind, of which there are some.
 fn are_told_alike(alloc: Global, [wanted, piece, ..]: Cells) -> Holds {
-    let mut is_tried = false;
+    let mut holds = PLACES.lines().any(|row| row.starts_with(wanted));
     for row in PLACES.lines() {
         let [kind, place, ..] = cells(row);
-        if kind == wanted {
-            is_tried = true;
-            if !is_told_alike(place, alloc, piece)? {
-                return Ok(false);
-            }
-        }
+        holds &= kind != wanted || is_told_alike(place, alloc, cells(piece))?;
     }
-    Ok(is_tried)
+    Ok(holds)
 }
 
 #[test]
 fn both_readers_tell_the_same_of_pieces(rt: HostRuntime) -> Result<(), Fail> {
-    for place in AROUND.split('|') {
-        assert!(rt; is_told_alike(place, rt.alloc(), SAMPLE)?, "{place}");
-    }
-    all_hold!(rt; PIECES => are_told_alike(), ODD_PIECES => are_told_alike())
-}
-
-/// Bytes that are put in the place of another.
-static BYTES: [&[u8]; 8] = [b"", b"\"", b"\\", b"}", b"]", b",", b"0", b"\xff"];
-
-/// A copy of bytes with others in the place of one.
-fn changed(alloc: Global, bytes: &[u8], at: usize, other: &[u8]) -> Result<Vec<u8>, AllocError> {
-    let (before, rest) = bytes.split_at(at.min(bytes.len()));
-    let mut all = Vec::from_slice(alloc, before)?;
-    all.extend_from_slice(other)?;
-    all.extend_from_slice(&rest[rest.len().min(1)..])?;
-    Ok(all)
+    all_hold!(rt; are_told_alike() => PIECES)
 }
 
 #[test]
 fn both_readers_tell_the_same_of_changed_bytes(rt: HostRuntime) -> Result<(), Fail> {
-    let bytes = SAMPLE.as_bytes();
+    let bytes = bytes_of(rt.alloc(), "sample")?;
     for at in 0..bytes.len() {
-        assert!(rt;
-            told(rt.alloc(), &bytes[..at])?.as_str() != "apart",
-            "cut at {at}"
-        );
-        for other in &BYTES {
-            let all = changed(rt.alloc(), bytes, at, other)?;
-            assert!(rt;
-                told(rt.alloc(), &all)?.as_str() != "apart",
-                "changed at {at}"
-            );
+        let (front, rest) = (&bytes[..at], &bytes[at + 1..]);
+        assert!(rt; told(rt.alloc(), front)?.as_str() != "apart", "cut at {at}");
+        for other in ["", "\"", "\\", "}", "]", ",", "0", "ÿ"] {
+            let other = bytes_of(rt.alloc(), other)?;
+            let all = [front, other.as_slice(), rest].concat(rt.alloc())?;
+            let told = told(rt.alloc(), &all)?;
+            assert!(rt; told.as_str() != "apart", "changed at {at}");
         }
     }
     Ok(())
 }
 
-/// Texts with as many lists, one in another.
-static NESTED: &str = r#"[×126¦]×126
+#[test]
+fn both_readers_tell_the_same_of_nested_lists(rt: HostRuntime) -> Result<(), Fail> {
+    all_hold!(rt; is_told_alike("◊") => r#"
+[×126¦]×126
 [×127¦]×127
 [×128¦]×128
 [×129¦]×129
 {"x":¦[×126¦]×126¦}
 {"x":¦[×127¦]×127¦}
-~~¦[×126¦]×126¦
-~~¦[×127¦]×127¦
+{"page_first":132,"page_max":8256,"min_pages":2,"retention":10,"low_water":[5,0],"threads":¦[×126¦]×126¦}
+{"page_first":132,"page_max":8256,"min_pages":2,"retention":10,"low_water":[5,0],"threads":¦[×127¦]×127¦}
 [[{"op":"low","x":¦[×124¦]×124¦}]]
-[[{"op":"low","x":¦[×125¦]×125¦}]]"#;
-
-/// A trace, and texts with a fault in the head, in the last call, and in what JSON is.
-static FEW: &str =
-    r#"{"page_first":132,"page_max":8256,"min_pages":2,"retention":10,"low_water":[5,0],"threads":[[{"op":"add","span":{"start":"61","end":"6F"},"time":[20,1],"owner":"11111111-1111-4111-8111-11111111111A","now":[21,2]},{"op":"get","span":{"start":"62","end":"61","ends":"(]"}}],[],[{"op":"batch","marks":[{"span":{"start":"","onward":"("},"time":[9,0],"owner":null}],"now":[20,0]},{"op":"low"}]]}
-~low_water [5]~[[{"op":"low"}]]
-[[{"op":"low"},{"op":"get","span":{"start":"6"}}]]
-{"page_first":132,"page_max":8256,"min_pages":2,"retention":10,"low_water":[5,0],"threads":[[{"op":"low"}]]"#;
-
-/// Whether the readers tell the same of a text.
-fn is_told(alloc: Global, [text, ..]: Cells) -> Holds {
-    is_told_alike("◊", alloc, text)
+[[{"op":"low","x":¦[×125¦]×125¦}]]"#)
 }
 
-#[test]
-fn both_readers_tell_the_same_of_nested_lists(rt: HostRuntime) -> Result<(), Fail> {
-    all_hold!(rt; NESTED => is_told())
-}
-
-/// For `scripts/refuse-each-growth`.
+/// For `scripts/refuse-each-growth`: faults are in the head, in the last call, and in what JSON is.
 #[test]
 fn a_refused_growth_changes_no_answer(rt: HostRuntime) -> Result<(), Fail> {
-    all_hold!(rt; FEW => is_told())
+    all_hold!(rt; is_told_alike("◊") => r#"
+sample
+{"page_first":132,"page_max":8256,"min_pages":2,"retention":10,"low_water":[5],"threads":[[{"op":"low"}]]}
+[[{"op":"low"},{"op":"get","span":{"start":"6"}}]]
+{"page_first":132,"page_max":8256,"min_pages":2,"retention":10,"low_water":[5,0],"threads":[[{"op":"low"}]]"#)
 }

@@ -1,131 +1,92 @@
 //! Readers and writers whose calls are counted, and whole inputs and outputs.
 use crate::support::*;
-use std::io;
-use std::io::Read;
-use tsc_stream::fault_injection::FaultyStream;
-use tsc_stream::{AnyStreamFault, Limited, Sink, Source, StreamFault, read_input, write_output};
+use std::io::{self, Read};
+use tsc_stream::{AnyStreamFault, InputFault, Sink, Source, read_input, write_output};
 
-/// After how many calls reading or writing `abc` ends, and how, or what is written of it; how its
-/// calls go; and how many there may be.
-static WHOLE: &str = "read|4|abc|1 never|33554432
-read|2|abc|9 never|33554432
-read|8|abc|1 in turn|33554432
-read|1|read failed|1 0|33554432
-read|2|read failed|1 1|33554432
-read|3|read failed|1 2|33554432
-read|4|read failed|1 3|33554432
-read|4|abc|1 4|33554432
-read|0|read failed|1 never|0
-read|3|read failed|1 never|3
-read|4|abc|1 never|4
-read|1000|read failed|1 always|1000
-read|7|read failed|1 in turn|7
-write|3|abc|1 never|33554432
-write|1|abc|9 never|33554432
-write|1||0 never|33554432
-write|6|abc|1 in turn|33554432
-write|1||1 0|33554432
-write|2|a|1 1|33554432
-write|3|ab|1 2|33554432
-write|0||1 never|0
-write|2|ab|1 never|2
-write|3|abc|1 never|3
-write|1000||1 always|1000";
+/// Numbers of spaces, and what reading them gives: their number, or the fault.
+static SPACES: [(u64, Result<usize, InputFault>); 3] = [
+    (16_777_216, Ok(16_777_216)),
+    (16_777_217, Err(InputFault::TooLong)),
+    (u64::MAX, Err(InputFault::TooLong)),
+];
 
-/// How many calls the one inside has met, how they go, and what three reads of `a` give, or writes
-/// of `abc`. A failure is final, and so is the end.
-static CALLS: &str = "read|2|1 never|1 0 0
-read|1|1 0|failed failed failed
-read|3|1 in turn|interrupted 1 interrupted
-write|3|1 never|1 1 1
-write|2|1 1|1 failed failed
-write|3|1 in turn|interrupted 1 interrupted";
-
-/// What is read of so many spaces: how many, or the fault.
-static SPACES: &str = "16777216|16777216
-input too long|16777217
-input too long|18446744073709551615";
-
-/// How the calls go that move a long input and output.
-static STEPS: &str = "7 in turn
-65536 in turn
-1000000 in turn";
-
-/// Reads or writes `abc`.
-fn moves_all(alloc: Global, [what, calls, end, plan, turns, ..]: Cells) -> Holds {
-    let ((step, plan), turns) = (calls_of(plan), turns.parse()?);
-    let mut reader = Limited::with_turns(FaultyStream::new(&b"abc"[..], step, plan), turns);
-    let faulty = FaultyStream::new(Vec::new(alloc), step, plan);
-    let mut writer = Limited::with_turns(faulty, turns);
-    let ends = if what == "write" {
-        write_output(&mut writer, b"abc").is_ok() == (end == "abc")
-    } else {
-        match read_input(alloc, &mut reader) {
-            Ok(input) => input.as_slice() == end.as_bytes(),
-            Err(fault) => format!(in alloc; "{fault}")?.as_str() == end,
-        }
+/// Reads a text: the input or the fault, and after how many calls; the text, how its calls go, and
+/// how many there may be.
+fn reads(alloc: Global, [end, calls, text, words, turns, ..]: Cells) -> Holds {
+    let (text, end) = (bytes_of(alloc, text)?, bytes_of(alloc, end)?);
+    let inner = stream(text.as_slice(), words).into_inner();
+    let mut reader = Limited::with_turns(inner, turns.parse()?);
+    let ended = match read_input(alloc, &mut reader) {
+        Ok(input) => input,
+        Err(fault) => format!(in alloc; "{fault}")?.into_bytes(),
     };
-    let (read, wrote) = (reader.into_inner(), writer.into_inner());
-    let is_front = what == "read" || wrote.inner.as_slice() == end.as_bytes();
-    Ok(ends && is_front && read.calls.max(wrote.calls) == calls.parse()?)
+    Ok(ended.as_slice() == end.as_slice() && reader.into_inner().calls == calls.parse()?)
 }
 
-/// Whether a call gives what a word says.
-fn is_result(gave: Result<usize, StreamFault>, word: &str) -> bool {
-    match gave {
-        Ok(moved) => word.parse().unwrap_or(usize::MAX) == moved,
-        Err(StreamFault::Failed) => word == "failed",
-        Err(StreamFault::Interrupted) => word == "interrupted",
-    }
+/// Writes a text: what is written, which is all of it exactly where that ends well.
+fn writes(alloc: Global, [end, calls, text, words, turns, ..]: Cells) -> Holds {
+    let (bytes, wanted) = (bytes_of(alloc, text)?, bytes_of(alloc, end)?);
+    let inner = stream(Vec::new(alloc), words).into_inner();
+    let mut writer = Limited::with_turns(inner, turns.parse()?);
+    let is_ended = write_output(&mut writer, &bytes).is_ok() == (text == end);
+    let writer = writer.into_inner();
+    let is_written = writer.inner.as_slice() == wanted.as_slice();
+    Ok(is_ended && is_written && writer.calls == calls.parse()?)
 }
 
-/// Reads `a` or writes `abc`, call by call.
-fn moves_by_calls(alloc: Global, [what, calls, plan, results, ..]: Cells) -> Holds {
-    let mut reader = reader_of(b"a", calls_of(plan));
-    let mut writer = new_writer(alloc, calls_of(plan));
-    for word in results.split(' ') {
-        let gave = if what == "read" {
-            reader.read(&mut [0; 4])
-        } else {
-            writer.write(b"abc")
-        };
-        if !is_result(gave, word) {
-            return Ok(false);
-        }
-    }
-    let made = reader.into_inner().calls.max(writer.into_inner().calls);
-    Ok(made == calls.parse()?)
-}
-
-/// Reads spaces.
-fn reads_spaces(alloc: Global, [told, count, ..]: Cells) -> Holds {
-    let mut reader = Limited::new(AnyStreamFault(io::repeat(b' ').take(count.parse()?)));
-    let came = match read_input(alloc, &mut reader) {
-        Ok(input) => format!(in alloc; "{}", input.len())?,
-        Err(fault) => format!(in alloc; "{fault}")?,
+/// Reads `a` or writes `abc`, by three calls. A failure is final, as is the end of what is read.
+fn moves_by_calls(alloc: Global, [wanted, what, words, ..]: Cells) -> Holds {
+    let mut reader = stream(&b"a"[..], words);
+    let mut writer = stream(Vec::new(alloc), words);
+    let gave = match what {
+        "read" => [(); 3].map(|()| reader.read(&mut [0; 4])),
+        _ => [(); 3].map(|()| writer.write(b"abc")),
     };
-    Ok(came.as_str() == told)
-}
-
-/// Reads and writes 200,000 bytes that do not repeat soon.
-fn moves_long(alloc: Global, [plan, ..]: Cells) -> Holds {
-    let mut bytes = Vec::with_capacity(alloc, 200_000)?;
-    for i in 0..200_000u32 {
-        bytes.push((i % 251) as u8)?;
-    }
-    let mut reader = reader_of(&bytes, calls_of(plan));
-    let mut writer = new_writer(alloc, calls_of(plan));
-    let Ok(input) = read_input(alloc, &mut reader) else {
-        return Ok(false);
-    };
-    let is_moved = input.as_slice() == bytes.as_slice()
-        && write_output(&mut writer, &bytes).is_ok();
-    Ok(is_moved && written(writer).as_slice() == bytes.as_slice())
+    let calls = reader.into_inner().calls.max(writer.into_inner().calls);
+    Ok(format!(in alloc; "{gave:?} in {calls}")?.as_str() == wanted)
 }
 
 #[test]
 fn reading_and_writing(rt: HostRuntime) -> Result<(), Fail> {
-    all_hold!(rt;
-        WHOLE => moves_all(), CALLS => moves_by_calls(), SPACES => reads_spaces(),
-        STEPS => moves_long())
+    for (count, length) in &SPACES {
+        let mut spaces = Limited::new(AnyStreamFault(io::repeat(b' ').take(*count)));
+        assert!(rt; read_input(rt.alloc(), &mut spaces).map(|input| input.len()) == *length);
+    }
+    all_hold!(rt; reads() => "
+abc|4|abc|1 never|33554432
+abc|2|abc|9 never|33554432
+abc|8|abc|1 in turn|33554432
+read failed|1|abc|1 0|33554432
+read failed|2|abc|1 1|33554432
+read failed|3|abc|1 2|33554432
+read failed|4|abc|1 3|33554432
+abc|4|abc|1 4|33554432
+read failed|0|abc|1 never|0
+read failed|3|abc|1 never|3
+abc|4|abc|1 never|4
+read failed|1000|abc|1 always|1000
+read failed|7|abc|1 in turn|7
+abc⁺⁰×0..40000|57148|abc⁺⁰×0..40000|7 in turn|33554432
+abc⁺⁰×0..40000|10|abc⁺⁰×0..40000|65536 in turn|33554432
+abc⁺⁰×0..40000|8|abc⁺⁰×0..40000|1000000 in turn|33554432", writes() => "
+abc|3|abc|1 never|33554432
+abc|1|abc|9 never|33554432
+|1|abc|0 never|33554432
+abc|6|abc|1 in turn|33554432
+|1|abc|1 0|33554432
+a|2|abc|1 1|33554432
+ab|3|abc|1 2|33554432
+|0|abc|1 never|0
+ab|2|abc|1 never|2
+abc|3|abc|1 never|3
+|1000|abc|1 always|1000
+abc⁺⁰×0..40000|57144|abc⁺⁰×0..40000|7 in turn|33554432
+abc⁺⁰×0..40000|8|abc⁺⁰×0..40000|65536 in turn|33554432
+abc⁺⁰×0..40000|2|abc⁺⁰×0..40000|1000000 in turn|33554432", moves_by_calls() => "
+[Ok(1), Ok(0), Ok(0)] in 2|read|1 never
+[Err(Failed), Err(Failed), Err(Failed)] in 1|read|1 0
+[Err(Interrupted), Ok(1), Err(Interrupted)] in 3|read|1 in turn
+[Ok(1), Ok(1), Ok(1)] in 3|write|1 never
+[Ok(1), Err(Failed), Err(Failed)] in 2|write|1 1
+[Err(Interrupted), Ok(1), Err(Interrupted)] in 3|write|1 in turn")
 }
