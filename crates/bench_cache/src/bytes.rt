@@ -1,10 +1,10 @@
 //! What is measured with keys and an owner that are given as bytes, as programs in C and in Rust
 //! give them to the library.
 //!
-//! The keys lie side by side, and all is done in the order in which `speed.c` and `speed.rs` do it,
-//! so that heap and caches of the processor have the same to do. How long a key is, who makes the
-//! Adds and at which moment is read where the program runs, as the library reads it: a compiler
-//! that knew it would leave out what each store has to do.
+//! The keys lie side by side. All is done in the order in which `speed.c` and `speed.rs` do it, so
+//! that heap and caches of the processor have equal work. How long a key is, who makes the Adds and
+//! at which moment is read where the program runs, as the library reads it. A compiler that knew it
+//! would leave out what each store has to do.
 ghost use Rattle.std.specs.Prelude.{◌≤◌};
 
 use crate::figure::{Figure, Least};
@@ -89,7 +89,7 @@ fn key_of(place: u64) -> [u8; 8] {
     place.wrapping_mul(APART).to_be_bytes()
 }
 
-/// Keys from all over the page, side by side, each so many places behind one of the first nodes.
+/// Keys from all over the page, side by side, each `behind` places behind one of the first nodes.
 fn keys_of(alloc: Global, nodes: u32, behind: u64) -> Option<Vec<u8>> {
     let mut keys = Vec::new(alloc);
     let mut number: u64 = 0;

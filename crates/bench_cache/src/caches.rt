@@ -80,8 +80,8 @@ static ONE_BY_ONE: Course = Course {
     ..Course::RISING
 };
 
-/// A cache of so many full pages, each with keys of its own. All that is on them has one time, or
-/// that of a newer page is later.
+/// A cache of `pages` full pages, each with keys of its own. Where `is_rising`, all on a newer page
+/// has a later time; else all pages have one time.
 pub fn filled(alloc: Global, keys: Keys, pages: u32, is_rising: bool) -> Option<Cache> {
     let size = keys.page_size();
     let config = Config::new(size, size, pages, 0, Timestamp::ZERO).ok()?;
@@ -109,7 +109,7 @@ fn fill_front(alloc: Global, cache: &mut Cache, keys: Keys, wall: u64) -> bool {
     is_full
 }
 
-/// Measures caches of so many pages in [`ROUNDS`] rounds.
+/// Measures caches of `pages` pages in [`ROUNDS`] rounds.
 pub fn measure_cache(rt: &HostRuntime, nodes: u32, pages: u32, turns: u32) -> Option<Least> {
     let front = Keys::new(nodes, pages.saturating_sub(1));
     let mut board = Board::new(front.places(rt.alloc())?);

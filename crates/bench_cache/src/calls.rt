@@ -19,13 +19,13 @@ const SPREAD: u64 = 37;
 pub enum Work {
     /// Lookups, and Adds of keys that are there.
     Calls,
-    /// The same, and each Add is timed by itself.
+    /// Lookups, and Adds of keys that are there, of which each Add is timed by itself.
     TimedAdds,
-    /// The same, and each lookup is timed by itself.
+    /// Lookups, and Adds of keys that are there, of which each lookup is timed by itself.
     TimedLookups,
     /// Adds of marks one at a time.
     Marks,
-    /// The calls with the same marks as a batch.
+    /// Adds of several marks as a batch.
     Batches,
 }
 
@@ -45,7 +45,7 @@ pub struct Trial {
     pub lookups: u64,
     /// How many calls each seat makes, or how often it adds all of its marks.
     pub number: u64,
-    /// What it does.
+    /// What each seat does.
     pub work: Work,
 }
 

@@ -35,7 +35,7 @@ impl Figure {
         }
     }
 
-    /// The same, where there are both.
+    /// What two figures come to together, where there are both.
     pub fn of_both(one: Option<Figure>, other: Option<Figure>) -> Option<Figure> {
         match (one, other) {
             (Some(one), Some(other)) => Some(one.and(other)),
@@ -43,8 +43,8 @@ impl Figure {
         }
     }
 
-    /// The one of the same operations in which they took less, or the other one where there is none
-    /// so far.
+    /// The one of two figures of equal operations in which they took less, or `other` where there
+    /// is none so far.
     pub fn or_less(self, other: Figure) -> Figure {
         if self.operations == 0 || other.nanoseconds < self.nanoseconds {
             other
@@ -77,7 +77,7 @@ pub struct Times {
 }
 
 impl Times {
-    /// Those of calls in any order.
+    /// The times of calls, which may be in any order.
     pub fn of(mut nanoseconds: Vec<u64>) -> Times {
         nanoseconds.sort_unstable();
         Times { nanoseconds }
@@ -88,7 +88,7 @@ impl Times {
         self.nanoseconds.len()
     }
 
-    /// The nanoseconds that so many of 1,000 calls did not take.
+    /// The nanoseconds that `thousandths` of 1,000 calls took at the most.
     pub fn behind(&self, thousandths: usize) -> u64 {
         let place = self.nanoseconds.len().saturating_mul(thousandths) / 1000;
         match self.nanoseconds.get(place) {
@@ -97,7 +97,7 @@ impl Times {
         }
     }
 
-    /// Those of the call that took longest.
+    /// The nanoseconds of the call that took longest, or 0 where there is none.
     pub fn longest(&self) -> u64 {
         match self.nanoseconds.last() {
             Some(nanoseconds) => *nanoseconds,
@@ -105,7 +105,7 @@ impl Times {
         }
     }
 
-    /// Those that a call took on the average.
+    /// The nanoseconds that a call took on the average.
     pub fn each(&self) -> u64 {
         let mut all: u64 = 0;
         for nanoseconds in &self.nanoseconds {
@@ -121,7 +121,7 @@ pub type Least = [Figure; 13];
 /// The least figures of no turns.
 pub const NO_TURNS: Least = [Figure::NONE; 13];
 
-/// What is told of operations.
+/// What is printed of operations.
 #[derive(Clone, Copy)]
 pub enum Tells {
     /// How many they are.

@@ -95,7 +95,7 @@ impl Keys {
         Span::of(first, next).ok()
     }
 
-    /// The size of a page that has room for so many of these keys and no more.
+    /// The size of a page that has room for `nodes` of these keys and no more.
     pub fn page_size(self) -> u32
         ensures at_least { 64 ≤ result }
         ensures at_most { result ≤ 1073741824 }

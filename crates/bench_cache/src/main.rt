@@ -1,14 +1,14 @@
-//! `bench pages NODES..` fills a page with so many nodes, from 64 to 1,048,576, and then looks up
+//! `bench pages NODES..` fills a page with `NODES` nodes, from 64 to 1,048,576. Then it looks up
 //! and adds single keys, ranges of 16 and of 1,000 nodes and the whole page, and adds keys to
-//! copies of the page; first with keys of 8 bytes, and then with keys whose first 16 bytes are the
-//! same. It prints how many operations it made in a turn and the nanoseconds of one, in that turn
-//! of many in which they took least. For two sizes and more it prints by how much each operation
-//! grew from the first size to the last.
+//! copies of the page. First the keys have 8 bytes, and then 24 bytes, of which they share the
+//! first 16. It prints how many operations it made in a turn and the nanoseconds of one, in that
+//! turn of many in which they took least. For two sizes and more it prints by how much each
+//! operation grew from the first size to the last.
 //!
-//! `bench NODES..` does that, and then the same to caches, and prints too what each took as a
-//! percentage of what it took on the page, and compares lookups that stop at the newest of 17 pages
-//! with those in a single page, turn by turn. Then it measures a shared cache, as `bench shared
-//! NODES..` does alone.
+//! `bench NODES..` does that, and then looks up and adds in caches. It prints too what each
+//! operation took as a percentage of what it took on the page. It compares lookups that stop at the
+//! newest of 17 pages with those in a single page, turn by turn. Then it measures a shared cache,
+//! as `bench shared NODES..` does alone.
 //!
 //! `bench batch NODES..` adds known keys to the next version of a cache of one page, and prints
 //! what 64 of them as a batch take as a percentage of what one of them takes, from all over the
@@ -20,19 +20,19 @@
 //! nodes.
 //!
 //! `bench shared NODES..` has 1, 2 and 4 seats of a shared cache look up and add on threads, and
-//! prints how many calls they made in a second, with keys of 8 bytes; then one seat add beside
-//! seats that nobody uses, and prints the nanoseconds of an Add and what each idle seat costs it.
-//! Beside each figure stands that of the same calls on one thread to a cache of its own. Of several
-//! rounds it prints the one in the middle, the least and the greatest.
+//! prints how many calls they made in a second, with keys of 8 bytes. Then it has one seat add
+//! beside seats that nobody uses, and prints the nanoseconds of an Add and what each idle seat
+//! costs it. Beside each figure stands that of one thread that makes these calls to a cache of its
+//! own. Of several rounds it prints the one in the middle, the least and the greatest.
 //!
-//! `bench long NODES..` does the first of that with keys of 40 bytes.
+//! `bench long NODES..` does the first part of `bench shared` with keys of 40 bytes.
 //!
 //! `bench times NODES..` times each Add of 1, 2 and 4 seats by itself, and each lookup where there
 //! are no Adds, with keys of 8 and of 40 bytes, and prints what half of these took at the most, 99
 //! of 100, and the longest.
 //!
-//! `bench longest NODES..` has 8 seats make a million Adds, and lookups between them, and prints
-//! the same of the Adds.
+//! `bench longest NODES..` has 8 seats make a million Adds, and lookups between them, and prints of
+//! the Adds what `bench times` prints.
 //!
 //! `bench` alone makes a short run and prints no times.
 #![tactic(auto)]
@@ -85,12 +85,12 @@ const BYTES_TURNS: u32 = 225;
 /// The turns where two caches are compared.
 const STOP_TURNS: u32 = 40;
 
-/// The kinds of keys, of which all of the second begin with the same 16 bytes.
+/// The kinds of keys, of which all of the second kind share their first 16 bytes.
 const SHORT_KEYS: &str = "keys of 8 bytes";
 
 const LONG_KEYS: &str = "keys of 24 bytes";
 
-/// What is told of a measurement that was given up.
+/// What is printed of a measurement that was given up.
 const GIVEN_UP: &str = "no memory, or a call was refused, or what was measured can't be printed";
 
 /// What is measured.
@@ -270,7 +270,8 @@ fn print_pages(
     Some(())
 }
 
-/// Measures caches, and prints it beside what operations took on a page of the same size.
+/// Measures caches, and prints what operations on them took beside what they took on a page with
+/// `nodes` nodes.
 fn measure_caches(
     rt: &HostRuntime,
     nodes: u32,
@@ -291,7 +292,7 @@ fn measure_caches(
     Some(())
 }
 
-/// Prints what operations on a cache of so many pages took.
+/// Prints what operations on a cache of `pages` pages took.
 fn print_cache(rt: &HostRuntime, pages: u32, nodes: u32, table: Table<'_>) -> Option<()> {
     let head = format!(in rt.alloc(); "{pages} x {nodes} nodes").ok()?;
     print_lines(rt, &head, table)

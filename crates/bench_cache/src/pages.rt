@@ -62,7 +62,7 @@ static BY_BYTES: Course = Course {
     ..Course::RISING
 };
 
-/// Measures pages of keys with so many bytes before the 8 that differ, in [`ROUNDS`] rounds.
+/// Measures pages of keys with `prefix` bytes before the 8 that differ, in [`ROUNDS`] rounds.
 pub fn measure_page(rt: &HostRuntime, nodes: u32, prefix: u32, turns: u32) -> Option<Least> {
     let here = Keys {
         prefix,
@@ -76,9 +76,8 @@ pub fn measure_page(rt: &HostRuntime, nodes: u32, prefix: u32, turns: u32) -> Op
     board.end(is_done)
 }
 
-/// Makes a page, which has room for one more key than it gets, fills it with nodes, and then makes
-/// each operation at its places in each of so many turns. Tells whether the page has all of the
-/// nodes.
+/// Makes a page with room for one more key than it gets, and fills it with nodes. Then makes each
+/// operation at its places in each of `turns` turns. Tells whether the page has all of the nodes.
 fn measure_round(rt: &HostRuntime, here: Keys, turns: u32, board: &mut Board) -> bool {
     let nodes = here.nodes.saturating_add(1);
     let size = Keys { nodes, ..here }.page_size();

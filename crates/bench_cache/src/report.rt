@@ -72,7 +72,7 @@ static BATCH_SEATS: [u32; 2] = [1, 4];
 const BATCHES: u64 = 200;
 
 /// Prints how many calls in a second seats of a shared cache make, and one thread without sharing.
-/// The keys have so many bytes before the 8 that differ.
+/// The keys have `prefix` bytes before the 8 that differ.
 pub fn print_crowds<R: Threads + Wait + Sync>(
     host: &HostRuntime,
     rt: &R,
@@ -89,8 +89,8 @@ pub fn print_crowds<R: Threads + Wait + Sync>(
     Some(())
 }
 
-/// The same, and what Adds of one seat take beside idle ones, and by how much more each further
-/// idle seat makes an Add take.
+/// Prints what [`print_crowds`] prints for keys of 8 bytes, what Adds of one seat take beside idle
+/// ones, and by how much each further idle seat slows an Add.
 pub fn print_shared<R: Threads + Wait + Sync>(
     host: &HostRuntime,
     rt: &R,
@@ -195,7 +195,7 @@ pub fn print_all_times<R: Threads + Wait + Sync>(
     Some(())
 }
 
-/// What is timed where so many of 100 calls are lookups.
+/// What is timed where `lookups` of 100 calls are lookups.
 fn timed_of(lookups: u64) -> Work {
     if lookups < 100 {
         Work::TimedAdds
@@ -220,7 +220,7 @@ fn print_times(host: &HostRuntime, trial: Trial, times: &Times) -> Option<()> {
     ).ok()
 }
 
-/// Prints what seats of a shared cache take for marks one at a time, and for the same marks as a
+/// Prints what seats of a shared cache take for marks one at a time, and for these marks as a
 /// batch. Of each that round counts which took least; an operation is all marks of a seat.
 pub fn print_marks<R: Threads + Wait + Sync>(host: &HostRuntime, rt: &R, nodes: u32) -> Option<()> {
     for seats in BATCH_SEATS {

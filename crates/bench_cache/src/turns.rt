@@ -213,7 +213,7 @@ impl Board {
         (self.is_whole && is_done).then_some(self.least)
     }
 
-    /// Makes the steps of a course in so many turns, of which that counts in which an operation
+    /// Makes the steps of a course in `turns` turns, of which that counts in which an operation
     /// took least: in a short time others seldom come in between.
     pub fn go<S: Subject + Versions>(
         &mut self,

@@ -19,7 +19,7 @@ pub enum Call {
     Commit,
 }
 
-/// The nanoseconds of so many calls, in the round in which they took least.
+/// The nanoseconds of `calls` calls, in the round in which they took least.
 pub fn measure(rt: &HostRuntime, store: &mut Store, call: Call, calls: u64) -> Result<u64> {
     let mut least = u64::MAX;
     for round in 0..ROUNDS {
@@ -65,7 +65,7 @@ fn since(rt: &HostRuntime, start: Instant) -> Result<u64> {
     Ok(u64::try_from(start.elapsed(rt)?.as_nanos())?)
 }
 
-/// Reads a span of so many rows.
+/// Reads a span of `count` rows, and gives the nanoseconds of the read.
 fn read(rt: &HostRuntime, store: &mut Store, span: &Span, count: usize) -> Result<u64> {
     let mut transaction = store.begin();
     let start = Instant::now(rt)?;
@@ -75,7 +75,7 @@ fn read(rt: &HostRuntime, store: &mut Store, span: &Span, count: usize) -> Resul
     Ok(took)
 }
 
-/// Commits a transaction.
+/// Commits a transaction, and gives the nanoseconds of the commit.
 fn commit(rt: &HostRuntime, store: &mut Store, place: u64) -> Result<u64> {
     let transaction = store.prepared(place)?;
     let start = Instant::now(rt)?;

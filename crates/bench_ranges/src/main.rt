@@ -1,6 +1,6 @@
-//! `bench_ranges VERSIONS..` fills a range with so many keys, each with one version, and then reads
-//! single keys, scans 100 rows, and commits transactions that read four keys and write four. It
-//! prints the nanoseconds of one such call, in that round of nine in which they took least.
+//! `bench_ranges VERSIONS..` fills a range with `VERSIONS` keys, each with one version. Then it
+//! reads single keys, scans 100 rows, and commits transactions that read four keys and write four.
+//! It prints the nanoseconds of one such call, in that round of nine in which they took least.
 //!
 //! `bench_ranges` alone makes a short run and prints no times.
 #![tactic(auto)]
@@ -29,7 +29,7 @@ const CALLS: [(&str, Call); 3] = [
     ("a commit of 4 reads and 4 writes", Call::Commit),
 ];
 
-/// Measures each call on a range of so many versions, and prints what one takes.
+/// Measures each call on a range of `versions` versions, and prints what one takes.
 fn print_times(rt: &HostRuntime, versions: u64) -> Result<()> {
     let mut store = Store::open(rt.alloc(), versions)?;
     for (name, call) in CALLS {

@@ -13,7 +13,7 @@ const VALUE: [u8; 16] = [7; 16];
 /// Multiplied by this, numbers go about all keys, far from one to the next.
 const STRIDE: u64 = 1_696_631;
 
-/// A range of so many keys.
+/// A range of `keys` keys, and the time that its clock shows.
 #[derive(Drop)]
 pub struct Store {
     alloc: Global,
@@ -87,7 +87,7 @@ impl Store {
         Ok(Span::point(key(self.alloc, self.number(place))?))
     }
 
-    /// The span of so many keys.
+    /// The span of `count` keys.
     pub fn keys(&self, place: u64, count: u64) -> Result<Span> {
         let first = self.number(place).min(self.keys.saturating_sub(count));
         let end = first.saturating_add(count);

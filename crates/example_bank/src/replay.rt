@@ -13,8 +13,8 @@ pub struct Contents {
     amounts: BTreeMap<Key, Vec<u8>>,
 }
 
-/// What came of it: whether each transaction read what was there when its turn came, and what they
-/// leave.
+/// What a replay came to: whether each transaction read what stood there at its turn, and what all
+/// of them leave.
 #[derive(Drop)]
 pub struct Replayed {
     pub serial: bool,

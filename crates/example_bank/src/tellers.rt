@@ -201,7 +201,8 @@ fn withdraw<R: Wait>(
 }
 
 /// Opens an account with 5 from a teller's cash, under a number that tells how many there are; or
-/// where there are 5, closes the last one. Two tellers who count the same would open the same.
+/// where there are 5, closes the last one. Two tellers with equal counts would both open under that
+/// number.
 fn open<R: Wait>(
     rt: &R,
     bank: &Bank,

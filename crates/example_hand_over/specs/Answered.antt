@@ -16,13 +16,13 @@ pub record AnswersRead (read : Read) (old new : CacheView) : Type 0 where
   pub more : AnswersOneMore old new span (read_of (time_at read.wall) (id_of read.name))
       (time_at read.wall)
 
--- All of them are, one after another.
+-- All reads of the table are answered, one after another.
 pub data AnswersAll : CacheView → List Read → CacheView → Type 0 where
   all_answered : (cache : CacheView) → AnswersAll cache [] cache
   one_answered : (old next new : CacheView) (read : Read) (others : List Read) →
       AnswersRead read old next → AnswersAll next others new → AnswersAll old (read ∷ others) new
 
--- A new cache has answered all of them.
+-- A new cache has answered all reads of the table.
 pub record HasAll (cache : CacheView) (reads : List Read) : Type 0 where
   pub settings : Settings
   pub first : CacheView

@@ -30,35 +30,34 @@ reason_text key answer (Some read) =
 reason_text key answer None = codes "\"" ++
     (key ++ (codes "\" may have been read up to " ++ time_text answer.time))
 
--- what is told of a read of one key
+-- the text of a read of one key
 abbrev pub key_read_text : Read → List ℕ
 key_read_text read = encode_utf8 read.name ++
     (codes " read \"" ++ (read.from.now ++ (codes "\" at " ++ time_text (time_at read.wall))))
 
--- what is told of a read from one key up to another
+-- the text of a read from one key up to another
 abbrev pub range_read_text : Read → List ℕ
 range_read_text read = encode_utf8 read.name ++
     (codes " read \"" ++ (read.from.now ++
     (codes "\" up to \"" ++ (read.to.now ++ (codes "\" at " ++ time_text (time_at read.wall))))))
 
--- what is told of a read: up to which key, where there is one
+-- the text of a read: up to which key, where there is one
 abbrev pub read_text : Read → List ℕ
 read_text read = if length read.to.now == 0 then key_read_text read else range_read_text read
 
--- what is told of a summary: in how many marks it was to be told, its floor, and how many marks it
--- has
+-- the text of a summary: in how many marks it was to be told, its floor, and how many marks it has
 abbrev pub summary_text : ℕ → Time → ℕ → List ℕ
 summary_text most floor marks = codes "handed on in at most " ++
     (decimal most ++ (codes " marks: a floor of " ++
     (time_text floor ++ (codes " and " ++ (decimal marks ++ codes " marks")))))
 
--- what is told of a write at the time that it wants
+-- the text of a write at the time that it wants
 abbrev pub wanted_text : Write → Time → List ℕ
 wanted_text write at = encode_utf8 write.name ++
     (codes " may write \"" ++ (write.key.now ++
     (codes "\" at " ++ (time_text at ++ codes ", as it wanted"))))
 
--- what is told of a write that is pushed to a later time, and by what
+-- the text of a write that is pushed to a later time, and by what
 abbrev pub pushed_text : Write → Time → List ℕ → List ℕ
 pushed_text write at reason = encode_utf8 write.name ++
     (codes " wanted to write \"" ++
@@ -66,8 +65,8 @@ pushed_text write at reason = encode_utf8 write.name ++
     (time_text (time_at write.wall) ++
     (codes ", is pushed to " ++ (time_text at ++ (codes ": " ++ reason)))))))
 
--- what is told of a write: at which time it may be laid down, and where that is later than it
--- wants, what it is pushed by, and which of these reads that is
+-- the text of a write, which may be laid down at the time that it wants, or is pushed, perhaps by
+-- one of these reads
 abbrev pub write_text : Write → Time → OwnedTime → List Read → List ℕ
 write_text write at answer reads =
     if is_before (time_at write.wall) at then pushed_text write at

@@ -304,7 +304,8 @@ fn ask<F: Former, R: Print>(
     ask_on(rt, alloc, next, write, &span, reads)
 }
 
-/// The same question, where this is the span of its key.
+/// The next holder is asked for a write whose key has this span, and tells at which time that may
+/// be laid down.
 fn ask_on<F: Former, R: Print>(
     rt: &R,
     alloc: Global,
@@ -322,7 +323,7 @@ fn ask_on<F: Former, R: Print>(
     Ok(told)
 }
 
-/// The next holder is asked for all of them, and tells at which times these may be laid down, in
+/// The next holder is asked for all writes, and tells at which times these may be laid down, in
 /// their order.
 fn ask_all<F: Former, R: Print>(
     rt: &R,
@@ -340,8 +341,8 @@ fn ask_all<F: Former, R: Print>(
     Ok(all)
 }
 
-/// The next holder, who has answered nothing, and takes over what the former one tells in so many
-/// marks at the most.
+/// The next holder, who has answered nothing, and takes over what the former one tells in at most
+/// `most` marks.
 fn next_of<F: Former, R: Print>(
     rt: &R,
     alloc: Global,
@@ -358,7 +359,7 @@ fn next_of<F: Former, R: Print>(
     Next::<F>::take_over(alloc, config, &told, at(30))
 }
 
-/// Hands the lease on, in so many marks at the most, to a holder that is then asked for all writes.
+/// Hands the lease on, in at most `most` marks, to a holder that is then asked for all writes.
 fn hand_on<F: Former, R: Print>(
     rt: &R,
     alloc: Global,

@@ -30,18 +30,18 @@ reason_text key read (Some plan) =
 reason_text key read None = codes "\"" ++
     (key ++ (codes "\" may have been read up to " ++ time_text read.time))
 
--- what is told of a read: by whom, of which key, when, and what that is then
+-- the text of a read: by whom, of which key, when, and what that is then
 abbrev pub read_text : ℕ → List ℕ → Time → ℕ → List ℕ
 read_text name key at value = encode_utf8 name ++
     (codes " read \"" ++ (key ++ (codes "\" at " ++
     (time_text at ++ (codes ": " ++ decimal value)))))
 
--- what is told of a write at the time that it wanted
+-- the text of a write at the time that it wanted
 abbrev pub wanted_text : ℕ → List ℕ → Time → List ℕ
 wanted_text name key at = encode_utf8 name ++
     (codes " wrote \"" ++ (key ++ (codes "\" at " ++ (time_text at ++ codes ", as it wanted"))))
 
--- what is told of a write that was pushed to a later time, and by what
+-- the text of a write that was pushed to a later time, and by what
 abbrev pub pushed_text : Plan → Time → List ℕ → List ℕ
 pushed_text plan at reason = encode_utf8 plan.name ++
     (codes " wanted to write \"" ++
@@ -49,8 +49,8 @@ pushed_text plan at reason = encode_utf8 plan.name ++
     (time_text (time_at plan.write.1) ++
     (codes ", was pushed to " ++ (time_text at ++ (codes ": " ++ reason)))))))
 
--- what is told of a plan's write: at which time it was laid down, and where that is later than it
--- wanted, what it was pushed by, and which of these plans that is
+-- the text of a plan's write, which was laid down at the time that it wanted, or was pushed,
+-- perhaps by a read of one of these plans
 abbrev pub write_text : Plan → Written → List Plan → List ℕ
 write_text plan written plans = if is_before (time_at plan.write.1) written.at
     then pushed_text plan written.at

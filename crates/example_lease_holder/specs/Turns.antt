@@ -21,8 +21,8 @@ pub record ReadsAgain {X : Type 0} {G : Ghosts X} (old new : Worker X G) : Type 
   pub reads : HasReadsOf new.plan.now (since old.me.seat.seen new.me.seat.seen)
   pub wrote : new.wrote ≡ old.wrote
 
--- A worker has taken a turn: its plan is the same, its seat has seen all that it had seen before,
--- and it has read, or written at a time at which it may by what its seat has seen then.
+-- A worker has taken a turn: its plan is as before, and its seat has seen all that it had seen. The
+-- worker has read, or has written at a time at which it may by what its seat has seen then.
 pub record HasTaken {X : Type 0} {G : Ghosts X} (turn : Turn) (old new : Worker X G) : Type 0 where
   pub plan : new.plan ≡ old.plan
   pub begins : BeginsWith new.me.seat.seen old.me.seat.seen

@@ -115,7 +115,7 @@ impl<G: Range> Held<G> {
         })
     }
 
-    /// Whether it is of this key.
+    /// Whether the held key is this one.
     fn is_of(&self, key: &str) -> bool
         ensures { IsTrue result ↔ (self.now.span ≡ point key.now) }
     {
@@ -248,8 +248,9 @@ impl<G: Range> Lease<G> {
     }
 
     /// Writes a key, while its latch is held, at the earliest time from the wanted one on that is
-    /// clear of what the cache answers: of each read that the seat has seen, and so of each that
-    /// was answered before, on whichever thread. Where there is none, nothing is written.
+    /// clear of what the cache answers. The write is clear of each read that the seat has seen,
+    /// among them each that was answered before, on whichever thread. Where no time is clear,
+    /// nothing is written.
     pub fn write<R: Wait>(
         &self,
         rt: &R,

@@ -1,5 +1,5 @@
 //! How a store uses the cache: four threads serve a range under a lease. Each runs a transaction
-//! that reads some keys, writes one, and reads the same keys again. No write of another transaction
+//! that reads some keys, writes one, and reads these keys again. No write of another transaction
 //! has come to a time at which it would have changed an answer.
 #![tactic(auto)]
 
@@ -78,7 +78,7 @@ struct Served {
     wrote: Option<Timestamp>,
 }
 
-/// What all threads do at the same time.
+/// What all threads do at once.
 #[derive(Clone, Copy)]
 enum Turn {
     Read,
@@ -356,7 +356,7 @@ fn all_tell<G: Range, R: Print>(
     Ok(after)
 }
 
-/// Has all threads do the same at once, and prints what they tell, in their order.
+/// Has all threads take a turn at once, and prints what they tell, in their order.
 fn all_do<G: Range + Send + Sync, R: Threads + Wait + Sync + Print>(
     rt: &R,
     alloc: Global,

@@ -25,7 +25,7 @@ abbrev pub SeesOwn : RangeView → Transaction → Interval → List Row → Typ
 SeesOwn range t span rows = Matches (record { span = span; rows = rows })
     (executed (as_of t.at range.chains) t)
 
--- What a cache is to take over of a span was summarized, in so many marks at the most, and that it
+-- What a cache is to take over of a span was summarized, in at most `most` marks. That the summary
 -- is too large is told exactly where some mark fits no page of a cache of these settings.
 pub record TellsTooLarge (cache : CacheView) (span : Interval) (config : Settings) (most : ℕ)
     (told : Type 0) : Type 0 where

@@ -109,7 +109,8 @@ pub record MayCommit (range : RangeView) (t : Transaction) : Type 0 where
   pub refreshed : All (λ r. Matches r (as_of t.at range.chains)) t.reads
   pub free : IsFree range.cache range.chains t.by t.writes t.at
 
--- Its reads are remembered at that time, and its writes become versions of it.
+-- The reads of a transaction are remembered at its time, and its writes become versions of that
+-- time.
 pub record LaysDown (old new : RangeView) (t : Transaction) (now : Time) : Type 0 where
   pub span : new.span ≡ old.span
   pub threshold : new.threshold ≡ old.threshold

@@ -170,8 +170,8 @@ impl Range {
         Ok(Outcome::Committed(at))
     }
 
-    /// Hands the range on to a new lease: a new cache takes over what a summary of the old one
-    /// tells of the range's span, in at most so many marks.
+    /// Hands the range on to a new lease. A new cache takes over what a summary of the old one
+    /// tells of the range's span, in at most `most` marks.
     pub fn hand_on(&mut self, config: Config, most: usize, now: Timestamp) -> Result<(), CacheFault>
         ensures ok { OnOk result (HandsOn self.old self.new) }
         ensures err { OnErr result (self.new ≡ self.old) }
@@ -450,7 +450,7 @@ fn are_still_so(
     Ok(true)
 }
 
-/// A new cache that takes over what a summary of another one tells of a span, in at most so many
+/// A new cache that takes over what a summary of another one tells of a span, in at most `most`
 /// marks.
 fn taken_over(
     alloc: Global,

@@ -42,7 +42,7 @@ impl Transaction {
         }
     }
 
-    /// When it reads.
+    /// The time at which the transaction reads.
     pub fn time(&self) -> Timestamp
         ensures { result ≡ self.now.at }
     {
@@ -56,14 +56,14 @@ impl Transaction {
         self.by
     }
 
-    /// What it read, one read after another.
+    /// What the transaction read, one read after another.
     pub fn reads(&self) -> &[Read]
         ensures { result.now ≡ self.now.reads }
     {
         &self.reads
     }
 
-    /// What it is going to write, one write after another.
+    /// What the transaction is going to write, one write after another.
     pub fn writes(&self) -> &[Write]
         ensures { result.now ≡ self.now.writes }
     {
@@ -82,7 +82,7 @@ impl Transaction {
         Ok(())
     }
 
-    /// The same at another time, as once it has committed then.
+    /// The transaction at another time, as once it has committed then.
     pub fn moved_to(self, at: Timestamp) -> Transaction
         ensures { result ≡ moved self at }
     {

@@ -29,7 +29,7 @@ pub record EndsLogged (old new : Served) (t : Transaction) (now : Time)
   pub ends : Ends old.range new.range t now outcome
   pub log : IsLogged old.log new.log t outcome
 
--- A commit was refused: the range is as before, and so is the log.
+-- A commit was refused: the range and the log are as before.
 pub record IsSameServed (old new : Served) : Type 0 where
   pub range : IsSame old.range new.range
   pub log : new.log ≡ old.log

@@ -7,12 +7,12 @@ use Rattle.tsc_span.specs.Span.{key_cmp}
 use Rattle.timestamp_cache.specs.Words.{Time, Owner, KeyBytes}
 use Rattle.mvcc_versions.specs.Versions.{Version, Write, Chains}
 
--- There is a chain, and so many versions more can stand in it.
+-- There is a chain, and `n` versions more can stand in it.
 abbrev pub IsRoom : ℕ → Option (List Version) → Type 0
 IsRoom n None = ⊥
 IsRoom n (Some vs) = length vs + n < 2 ^ 63
 
--- A key has a chain, with room for so many versions more.
+-- A key has a chain, with room for `n` versions more.
 abbrev pub HasRoom : ℕ → Chains → KeyBytes → Type 0
 HasRoom n chains k = IsRoom n (lookup (is_at (key_cmp k)) chains)
 

@@ -223,7 +223,7 @@ fn make_chain(
     }
 }
 
-/// Whether so many versions more can stand in a chain.
+/// Whether `count` versions more can stand in a chain.
 fn check_room(chain: &LinkedList<Version>, count: usize) -> Result<(), NoMemory>
     ensures { OnOk result (length chain.now + count < 9223372036854775808) }
 {

@@ -223,7 +223,7 @@ fn is_scan_still_so(
     Ok(same_rows(&rows, &read.rows))
 }
 
-/// Whether some rows are the same.
+/// Whether two lists of rows are equal.
 fn same_rows(rows: &[Row], others: &[Row]) -> bool
     ensures { IsTrue result ↔ (rows.now ≡ others.now) }
 {
@@ -238,7 +238,7 @@ fn same_rows(rows: &[Row], others: &[Row]) -> bool
     true
 }
 
-/// Whether two rows are the same.
+/// Whether two rows are equal.
 fn same_row(row: &Row, other: &Row) -> bool
     ensures { IsTrue result ↔ (row.now ≡ other.now) }
 {

@@ -75,17 +75,17 @@ IsClearOfLast h (span ∷ []) by at = IsClearOfReads h span by at
 IsClearOfLast h (span ∷ next ∷ others) by at = IsClearOfLast h (next ∷ others) by at
 
 -- A seat asks for the earliest time, from one on, at which a write of all of some spans is clear:
--- it asks of them in turn. A time that it is told is not before the one from which it asked. There
--- the write is clear:
+-- it asks of them in turn. A time that it is told is not before the one from which it asked. The
+-- write is clear there of three kinds of reads.
 pub record AsksOfAllAt (old new : SeatView) (spans : List Interval) (by : Owner) (from : Time)
     (told : Option Time) : Type 0 where
   pub goes_on : GoesOn old new
   pub count : new.count ≡ old.count
   pub in_turn : AsksInTurn by old new spans from told
   pub from_on : IfSome told (λ t. is_before t from ≡ false)
-  -- of each read on each span that the seat had seen when it asked of that one
+  -- the write is clear of each read on each span that the seat had seen when it asked of that one
   pub each : IfSome told (λ t. IsClearInTurn by t old.seen spans new.seen)
-  -- so of each read on the last span that the seat has seen in the end
+  -- the write is clear of each read on the last span that the seat has seen in the end
   pub last : IfSome told (λ t. IsClearOfLast new.seen spans by t)
   -- the write is clear of each read on any span that the seat had seen when it was called
   pub reads : IfSome told (λ t. IsClearOfAllReads old.seen spans by t)

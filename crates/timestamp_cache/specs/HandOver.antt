@@ -1,4 +1,4 @@
--- What is told of the reads of a span to whoever takes its lease over: the read summaries of
+-- Summaries of the reads of a span, for whoever takes its lease over: the read summaries of
 -- CockroachDB's pkg/kv/kvserver/readsummary.
 use Rattle.std.specs.Prelude.{◌≡◌, ◌↔◌, ◌⊎◌, ℕ, ◌≤◌, List, [], ◌∷◌, length, true, false, Result, IsOk, IsErrOf}
 use Rattle.std.specs.List.{Contains}
@@ -33,17 +33,17 @@ IsWithin (between first end) (between from to) = (is_below first end ≡ true) �
     (is_below first from ≡ false) × (is_below to end ≡ false)
 
 -- A summary tells of a state: of each span within its own it tells the state's answer, raised to
--- the summary's floor. So it tells no less than the state answers, just that where the floors are
--- the same, and just that too wherever the answer is above the summary's floor.
+-- the summary's floor. The summary thus tells no less than the state answers. It tells just the
+-- state's answer where the floors are equal, and wherever that answer is above the summary's floor.
 abbrev pub TellsOf : CacheState → Summary → Type 0
 TellsOf s told = (inner : Interval) → IsWithin inner told.span →
     summary_answer told inner ≡ joint_above told.floor (look s inner ∷ [])
 
--- A summary of a cache on a span, with so many marks at the most.
+-- A summary of a cache on a span, with at most `most` marks.
 pub record Summarizes (cache : CacheView) (of : Interval) (most : ℕ) (told : Summary) : Type 0 where
   -- the summary is of that span
   pub span : told.span ≡ of
-  -- its floor is no lower than the cache's
+  -- the summary's floor is no lower than the cache's
   pub floor : is_before told.floor cache.floor ≡ false
   pub few : length told.marks ≤ most
   -- the floor is raised only where there is no room for one mark more

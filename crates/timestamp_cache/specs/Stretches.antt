@@ -32,8 +32,9 @@ pub record IsStretch (keys : List KeyBytes) (at to end : Cut) : Type 0 where
   pub goes_on : (end ≡ to) ⊎ ((k : KeyBytes) × (is_in k keys ≡ true) ×
       ((end ≡ before k) ⊎ (end ≡ after k)))
 
--- What is told with one stretch more: the same where its value is not above the floor, one mark
--- more where there is room, and else the floor is raised to it.
+-- A summary with one stretch more. Where the stretch's value is not above the floor, nothing
+-- changes. Else it has one mark more where there is room, or its floor is raised to the value's
+-- time.
 abbrev pub told_more : ℕ → Summary → Interval → OwnedTime → Summary
 told_more most told span v =
     if is_before told.floor v.time

@@ -159,8 +159,8 @@ told_by bytes = do
   told ← told_at bytes
   if length told.1 == 0 then Ok told.0 else Err Form
 
--- the content behind the version and its length, where so many bytes and a digest stand there, and
--- the digest is that of all before it
+-- the content behind the version and the content's length, where bytes of that length and a digest
+-- stand, and the digest is that of all before it
 unfoldable pub content_at : List ℕ → Read (List ℕ)
 content_at bytes =
     if nat_lt (length bytes) 41 then Err Length

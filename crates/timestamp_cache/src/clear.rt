@@ -6,8 +6,9 @@ use crate::next_time;
 use tsc_time::{Timestamp, Value};
 use uuid::Uuid;
 
-/// Whether a write of a transaction at some time is clear of a read, or of what a lookup answers:
-/// that one is earlier, or it is at the same time and the transaction's own.
+/// Whether a write of a transaction at the time `at` is clear of a read, or of what a lookup
+/// answers. The write is clear of what is earlier than `at`, and of what is at `at` and the
+/// transaction's own.
 ///
 /// An own read that is later is not passed over: where it is a lookup's answer, an earlier read of
 /// another transaction may lie behind it. Nobody owns a read of the nil UUID, so a writer with that
@@ -22,8 +23,8 @@ pub fn is_clear_of(read: Value, at: Timestamp, by: Uuid) -> bool
 /// what a lookup answers; `None` where there is none, since the read is at the last timestamp and
 /// not the transaction's own.
 ///
-/// It is `at` where that is clear, the time of an own read that is later, and else the timestamp
-/// after the read's.
+/// The answer is `at` where that is clear, the time of an own read that is later, and else the
+/// timestamp after the read's.
 pub fn earliest_clear_of(read: Value, at: Timestamp, by: Uuid) -> Option<Timestamp>
     ensures { TellsEarliest (λ t. IsClearOf read by t) at result }
 {

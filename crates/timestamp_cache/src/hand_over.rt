@@ -16,11 +16,11 @@ use tsc_cache::{Added, Cache, CacheFault, Mark, TimestampCache};
 use tsc_span::{Cut, Ends, Key, Span, SpanRef};
 use tsc_time::{NoMemory, Timestamp, Value};
 
-/// What is told of the reads of a span to whoever takes its lease over. How it is sent is the
-/// caller's.
+/// A summary of the reads of a span, for whoever takes its lease over. How it is sent is up to the
+/// caller.
 #[derive(Debug, Drop)]
 pub struct ReadSummary {
-    /// What is told of.
+    /// The span whose reads are summarized.
     pub span: Span,
     /// No read on the span that no mark tells of was later.
     pub floor: Timestamp,
@@ -36,15 +36,15 @@ impl Model for ReadSummary {
     ghost view = { λ s. record { span = s.span; floor = s.floor; marks = s.marks.items } };
 }
 
-/// What is told of the reads of a span by a cache, in no more than so many marks.
+/// Summarizes what a cache answers on a span, in at most `most` marks.
 ///
-/// It goes over the span from one end key of a mark to the next, and of each key and each gap
-/// between two keys it tells what [`get_max`](Cache::get_max) answers, where that is above the
+/// The function goes over the span from one end key of a mark to the next. For each key, and each
+/// gap between two keys, it tells what [`get_max`](Cache::get_max) answers, where that is above the
 /// cache's floor. Where there are more of these than `most`, the first ones are told, and the floor
 /// is raised to the latest of the others. It costs a lookup for each of them, and a search in each
 /// page for each end key. It takes the memory of the span's keys and of the marks.
 ///
-/// It restates `tscache.Cache.Serialize` of CockroachDB's `pkg/kv/kvserver/tscache`.
+/// The function restates `tscache.Cache.Serialize` of CockroachDB's `pkg/kv/kvserver/tscache`.
 pub fn summary(
     alloc: Global,
     cache: &Cache,
@@ -130,11 +130,11 @@ impl ReadSummary {
 /// answer on the summary's span is below what the summary tells there, so a write that is clear of
 /// an answer is clear of each read that the summary was made of.
 ///
-/// It is one [`add_all`](Cache::add_all) of the whole span at the summary's floor, without an
+/// The call is one [`add_all`](Cache::add_all) of the whole span at the summary's floor, without an
 /// owner, and of the summary's marks, and is refused where that is. Where none of them is kept
 /// nothing changes, and no memory is taken; else it takes that of the marks once more.
 ///
-/// It restates `applyReadSummaryToTimestampCache` of CockroachDB's
+/// The function restates `applyReadSummaryToTimestampCache` of CockroachDB's
 /// `pkg/kv/kvserver/replica_tscache.go`.
 pub fn apply(cache: &mut Cache, summary: &ReadSummary, now: Timestamp) -> Result<Added, CacheFault>
     ensures stands { OnOk result ((settings : Settings) (s : CacheState) →
@@ -197,7 +197,7 @@ fn stretch<'a>(from: Cut<'a>, to: Cut<'a>) -> SpanRef<'a>
     SpanRef::between(start_of(from, to), key_of(to), ends_of(from, to))
 }
 
-/// The same span, with keys of its own.
+/// The span between two cuts, with keys of its own.
 pub(crate) fn owned(alloc: Global, from: Cut<'_>, to: Cut<'_>) -> Result<Span, NoMemory>
     requires { is_below (cut_of from) (cut_of to) ≡ true }
     ensures { IfOk result (λ span. span ≡ between (cut_of from.entry) (cut_of to.entry)) }

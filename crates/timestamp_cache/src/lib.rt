@@ -18,9 +18,9 @@
 //! The limits are [`LONGEST_KEY`], in bytes, [`LEAST_SIZE`] and [`MOST_SIZE`] of a page,
 //! [`LEAST_MIN_PAGES`] and [`MOST_MIN_PAGES`], and [`LONGEST_RETENTION`], in nanoseconds.
 //!
-//! For who runs it, [`Cache::figures`] tells how many pages there are, how often they rotated, how
-//! many end keys they hold and what these cost, and where the floor stands, as [`Figures`];
-//! [`SharedCache::figures`] tells the same of what a seat was shown, as [`SeatFigures`].
+//! For who runs it, [`Cache::figures`] counts pages, their rotations, the end keys that they hold
+//! and what these cost, and tells where the floor stands, as [`Figures`]. [`SharedCache::figures`]
+//! tells these figures of what a seat was shown, as [`SeatFigures`].
 //!
 //! Contracts over this crate speak of keys, times, histories and seats by the definitions in
 //! `specs/`, of which `Words` has those of the crates below.

@@ -7,7 +7,8 @@ use tsc_time::Timestamp;
 /// The first timestamp after this one, or `None` after the last: `Timestamp.Next` of CockroachDB's
 /// `pkg/util/hlc`.
 ///
-/// It has one logical count more, or where that was the greatest the next nanosecond.
+/// The next timestamp has one logical count more, or where that was the greatest, the next
+/// nanosecond.
 pub fn next_time(time: Timestamp) -> Option<Timestamp>
     ensures { TellsEarliest (λ t. is_before time t ≡ true) time result }
 {

@@ -28,7 +28,7 @@ impl ReadSummary {
     /// The summary as bytes, to be sent to another process or kept; `docs/FORMATS.md` has their
     /// form. [`from_bytes`](ReadSummary::from_bytes) reads them back.
     ///
-    /// It takes the memory of the bytes, twice at the most while it writes.
+    /// The call takes the memory of the bytes, twice at the most while it writes.
     pub fn to_bytes(&self) -> Result<Vec<u8>, NoMemory>
         ensures written { IfOk result (λ bytes. bytes.items ≡ summary_bytes self.now) }
         ensures read_back { IfOk result (λ bytes. summary_of bytes.items ≡ Ok self.now) }

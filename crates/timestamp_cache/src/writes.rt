@@ -15,9 +15,9 @@ use uuid::Uuid;
 /// Whether a transaction may write a span at some time: whether that is clear of what a lookup of
 /// the span answers.
 ///
-/// Then it is clear of each read on the span that was added so far, also of one whose page is gone.
-/// Where it isn't, the transaction may still be pushed, to the time that [`earliest_write`] tells.
-/// It costs a lookup, and takes no memory.
+/// A write that may be made is clear of each read on the span that was added so far, also of one
+/// whose page is gone. Where it may not, the transaction may still be pushed, to the time that
+/// [`earliest_write`] tells. It costs a lookup, and takes no memory.
 pub fn may_write(cache: &Cache, span: &Span, at: Timestamp, by: Uuid) -> bool
     ensures value { IsTrue result ↔ IsClearOf (cache_answer cache.now span.now) by at }
     ensures reads { IsTrue result → (settings : Settings) (h : History) →
@@ -30,7 +30,7 @@ pub fn may_write(cache: &Cache, span: &Span, at: Timestamp, by: Uuid) -> bool
 /// the seat answers. The seat has then seen the history that is answered from, and the write is
 /// clear of each read on the span in it.
 ///
-/// It waits for nobody, takes no memory, and is never [`Gone`].
+/// The call waits for nobody, takes no memory, and is never [`Gone`].
 pub fn may_write_at(
     cache: &SharedCache,
     seat: &mut Seat,
@@ -49,8 +49,8 @@ pub fn may_write_at(
 /// The earliest time, not before `at`, at which a transaction may write all of these spans: at
 /// which it is clear of what a lookup of each answers. It is `None` where no timestamp is.
 ///
-/// It is then clear of each read on one of the spans that was added so far. It costs a lookup for
-/// each span, and takes no memory.
+/// A write at that time is clear of each read on one of the spans that was added so far. The call
+/// costs a lookup for each span, and takes no memory.
 pub fn earliest_write(cache: &Cache, spans: &[Span], at: Timestamp, by: Uuid) -> Option<Timestamp>
     ensures earliest { TellsEarliest (λ t. IsClearOfAnswers cache.now spans.now by t) at result }
     ensures reads { IfSome result (λ t. (settings : Settings) (h : History) →
@@ -71,11 +71,11 @@ pub fn earliest_write(cache: &Cache, spans: &[Span], at: Timestamp, by: Uuid) ->
 /// lookup's on that is clear of the next: it is exact for each of them, and `None` where one of
 /// them tells none.
 ///
-/// It is clear of each read on a span that the seat had seen when that span was looked up. So on
-/// the last span it is clear of each read that the seat has seen in the end, and on each other one
-/// of each that it had seen before the call, or more.
+/// A write at that time is clear of each read on a span that the seat had seen when that span was
+/// looked up. On the last span these are all reads that the seat has seen in the end. On each other
+/// span they are all that it had seen before the call, or more.
 ///
-/// It waits for nobody, takes no memory, and is never [`Gone`].
+/// The call waits for nobody, takes no memory, and is never [`Gone`].
 pub fn earliest_write_at(
     cache: &SharedCache,
     seat: &mut Seat,

@@ -53,14 +53,14 @@ StandsAfterNamed old new (Err fault) value now = ⊥
 StandsAfterNamed old new (Ok span) value now =
     StandsAfter old new (record { span = span; value = value }) now
 
--- and this is what an Add of it did
+-- The bytes name a span, and an Add of that span did what it tells.
 abbrev pub TellsAddedNamed : CacheView → Result Interval AddBetweenFault → OwnedTime → Time →
     Added → Type 0
 TellsAddedNamed old (Err fault) value now added = ⊥
 TellsAddedNamed old (Ok span) value now added =
     TellsAdded old (record { span = span; value = value }) now added
 
--- and what it made of all that can be seen
+-- The bytes name a span, and an Add of that span made this of all that can be seen of a cache.
 abbrev pub AddsNamed : CacheView → CacheView → Result Interval AddBetweenFault → OwnedTime → Time →
     Added → Type 0
 AddsNamed old new (Err fault) value now added = ⊥
@@ -72,12 +72,12 @@ abbrev pub is_kept_named : Time → Result Interval AddBetweenFault → OwnedTim
 is_kept_named floor (Err fault) value = true
 is_kept_named floor (Ok span) value = is_kept floor (record { span = span; value = value })
 
--- the same fault of an Add over bytes
+-- a fault of an Add of a span, as a fault of an Add over bytes
 abbrev pub of_cache_fault : CacheFault → AddBetweenFault
 of_cache_fault cache.TooLarge = TooLarge
 of_cache_fault cache.NoMemory = NoMemory
 
--- and the same one of a span
+-- a fault of making a span, as a fault of an Add over bytes
 abbrev pub of_span_fault : SpanFault → AddBetweenFault
 of_span_fault span.KeyTooLong = KeyTooLong
 of_span_fault span.Inverted = Inverted

@@ -29,8 +29,8 @@ AddsAll old new (m ∷ ms) now added =
     × Adds old middle m now first × AddsAll middle new ms now others ×
     (added ≡ added_with first others)
 
--- What is left where one of several marks was refused: so many were added, from the first on, and
--- not all.
+-- What is left where one of several marks was refused: a number of them were added, from the first
+-- on, and not all.
 abbrev pub AddsSome : CacheView → CacheView → List Mark → Time → Type 0
 AddsSome old new ms now = (count : ℕ) × (added : Added) × (count < length ms) ×
     AddsAll old new (take count ms) now added

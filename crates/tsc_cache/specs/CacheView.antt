@@ -27,26 +27,28 @@ EachRepresents [] (p ∷ ps) = ⊥
 EachRepresents (v ∷ vs) [] = ⊥
 EachRepresents (v ∷ vs) (p ∷ ps) = Represents v p × EachRepresents vs ps
 
--- A cache stands for a state under some settings where it is set up so, floor and count are the
--- same, and as many pages stand each for the one at its place.
+-- A cache stands for a state under some settings where it has these settings, and its floor and its
+-- count of rotations are those of the state. It has as many pages as the state, and each stands for
+-- the state's page at its place.
 pub record RepresentsState (v : CacheView) (settings : Settings) (s : CacheState) : Type 0 where
   pub set_up : v.settings ≡ settings
   pub floor : v.floor ≡ s.floor
   pub pages : EachRepresents v.pages s.pages
   pub rotations : v.rotations ≡ s.rotations
 
--- Whatever state a cache stood for, it stands for the one after an Add then.
+-- Whatever state a cache stood for before an Add, it now stands for that state after the Add.
 abbrev pub StandsAfter : CacheView → CacheView → Mark → Time → Type 0
 StandsAfter old new m now = (settings : Settings) (s : CacheState) →
     RepresentsState old settings s →
     RepresentsState new settings (step settings s m now).state
 
--- this is what an Add did, whatever state the cache stood for before it
+-- an Add did what it tells, whatever state the cache stood for before it
 abbrev pub TellsAdded : CacheView → Mark → Time → Added → Type 0
 TellsAdded old m now added = (settings : Settings) (s : CacheState) →
     RepresentsState old settings s → added ≡ (step settings s m now).added
 
--- The same of several marks, one after another at a moment.
+-- Whatever state a cache stood for before, it now stands for that state after the Adds of several
+-- marks, one after another at one moment.
 abbrev pub StandsAfterAll : CacheView → CacheView → List Mark → Time → Type 0
 StandsAfterAll old new ms now = (settings : Settings) (s : CacheState) →
     RepresentsState old settings s → RepresentsState new settings (step_all settings s ms now).state

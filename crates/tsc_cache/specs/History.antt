@@ -35,7 +35,7 @@ state_of settings h = state_from settings (opening settings) h
 abbrev pub marks_of : History → List Mark
 marks_of h = flat_map (λ e. e.marks) h
 
--- the values of those that overlap a span
+-- the values of a history's marks that overlap a span
 abbrev pub marks_on : Interval → History → List OwnedTime
 marks_on span h = values_on span (marks_of h)
 
@@ -66,15 +66,15 @@ abbrev pub CanAllBeAdded : Settings → List Mark → Time → Type 0
 CanAllBeAdded settings ms now = (seat number : ℕ) →
     IsMadeEntry settings (record { seat = seat; number = number; marks = ms; now = now })
 
--- The next entry of a seat after a history: its seat is one of so many, its number is how many
--- entries of that seat stand before it, and a caller can make it.
+-- The next entry of a seat after a history. Its seat is below the number of seats, and its number
+-- is how many entries of that seat stand before it. A caller can make the entry.
 pub record IsNext (settings : Settings) (seats : ℕ) (h : History) (e : Entry) : Type 0 where
   pub seat : e.seat < seats
   pub number : e.number ≡ own_count e.seat h
   pub made : IsMadeEntry settings e
 
--- A history is legal under some settings for so many seats where each of its entries is the next
--- one after those before it.
+-- A history is legal under some settings for a number of seats where each of its entries is the
+-- next one after those before it.
 abbrev pub IsLegal : Settings → ℕ → History → Type 0
 IsLegal settings seats h = (before : History) (e : Entry) → BeginsWith h (before ++ e ∷ []) →
     IsNext settings seats before e

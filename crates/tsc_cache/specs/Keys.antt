@@ -14,7 +14,7 @@ keys_on pages = flat_map (λ p. marked_keys p.marks) pages
 abbrev pub keys_seen : List PageView → List KeyBytes
 keys_seen pages = flat_map (λ p. p.keys) pages
 
--- the lesser of two keys, as far as there are any
+-- the lesser of two keys, or the only key where one is missing
 abbrev pub lesser : Option KeyBytes → Option KeyBytes → Option KeyBytes
 lesser None second = second
 lesser (Some k) None = Some k

@@ -54,8 +54,8 @@ abbrev pub Real : Type 0
 Real = (settings : Settings) (h : History) (s : Interval) →
     look (state_of settings h) s ≡ joint_above (state_of settings h).floor (marks_on s h)
 
--- A write of a transaction is clear of a read where it is later, or at the same time and the read
--- is the transaction's own.
+-- A write of a transaction is clear of a read where the write is later, or where both times are
+-- equal and the read is the transaction's own.
 abbrev pub IsClearOf : OwnedTime → Owner → Time → Type 0
 IsClearOf read writer time = (is_before read.time time ≡ true) ⊎
     ((read.time ≡ time) × (read.owner ≡ Some writer))
@@ -80,7 +80,7 @@ pub record PartsPages (settings : Settings) (now floor : Time) (pages : List Pag
   pub evicted : (evict settings now floor (reverse pages)).evicted ≡ length dropped
   pub raised : (evict settings now floor (reverse pages)).floor ≡ highest floor (map top dropped)
 
--- Whatever the settings, the moment, the floor and the pages are, an eviction does so.
+-- Whatever the settings, the moment, the floor and the pages are, an eviction parts the pages.
 abbrev pub EvictsExpired : Type 0
 EvictsExpired = (settings : Settings) (now floor : Time) (pages : List PageMarks) →
     PartsPages settings now floor pages
@@ -104,8 +104,8 @@ ListsJoin = (settings : Settings) (s : CacheState) (ms ns : List Mark) (now : Ti
     step_all settings s (ms ++ ns) now ≡
     record { state = second.state; added = added_with first.added second.added })
 
--- The size of a page for a cost behind a page of some size: that size, doubled so often and no more
--- than the most, is at least the cost, and doubled less often it is not.
+-- The size of a page for a cost behind a page of some size. That size, doubled `times` times and no
+-- more than the most, is at least the cost. Doubled less often it is not.
 pub record IsFirstDoubled (most size cost next : ℕ) : Type 0 where
   pub times : ℕ
   pub some : 1 ≤ times
@@ -113,7 +113,8 @@ pub record IsFirstDoubled (most size cost next : ℕ) : Type 0 where
   pub enough : cost ≤ next
   pub before : (fewer : ℕ) → 1 ≤ fewer → fewer < times → doubled most size fewer < cost
 
--- The sizes of pages double so, whatever they are, where the cost is no more than the most.
+-- A new page has the first doubled size, whatever the sizes are, where the cost is no more than the
+-- most.
 abbrev pub SizesDouble : Type 0
 SizesDouble = (most size cost : ℕ) → least_size ≤ size → most ≤ most_size → cost ≤ most →
     IsFirstDoubled most size cost (next_size most size cost)

@@ -24,7 +24,7 @@ are_page_sizes page_first page_max =
 abbrev pub is_min_pages : ℕ → Bool
 is_min_pages n = nat_le least_min_pages n && nat_le n most_min_pages
 
--- whether reads may be retained for so many nanoseconds
+-- whether reads may be retained for n nanoseconds
 abbrev pub is_retention : ℕ → Bool
 is_retention n = nat_le n longest_retention
 

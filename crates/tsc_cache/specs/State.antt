@@ -65,21 +65,21 @@ abbrev pub front_size : List PageMarks → ℕ
 front_size [] = 0
 front_size (front ∷ older) = front.size
 
--- a size doubled so often, and no more than the most
+-- a size doubled a number of times, and no more than the most
 abbrev pub doubled : ℕ → ℕ → ℕ → ℕ
 doubled most size times = min most (2 ^ times * size)
 
--- Of so many doublings, from one on, the first that comes to at least a cost, and the most where
--- none does.
+-- Of a number of doublings, from one on, the first that comes to at least a cost, and the most
+-- where none does.
 abbrev pub first_doubled : ℕ → ℕ → ℕ → ℕ → ℕ → ℕ
 first_doubled zero times most size cost = most
 first_doubled (suc more) times most size cost =
     if nat_le cost (doubled most size times) then doubled most size times else first_doubled more
     (suc times) most size cost
 
--- The size of a page for a span of some cost behind a page of a size: the first of the size doubled
--- once, twice and so on, each no more than the most, that comes to at least the cost. Thirty-two
--- doublings lead from the least size beyond the greatest.
+-- The size of a page for a span of some cost behind a page of a size: the first of 32 doublings
+-- that comes to at least the cost. Each doubling is no more than the most. Thirty-two doublings
+-- lead from the least size beyond the greatest.
 unfoldable pub next_size : ℕ → ℕ → ℕ → ℕ
 next_size most size cost = first_doubled 32 1 most size cost
 
@@ -138,11 +138,11 @@ is_kept floor m = not (is_empty_span m.span) && is_before floor m.value.time
 abbrev pub not_kept : Added
 not_kept = record { kept = false; rotated = false; evicted = 0 }
 
--- one that was kept, without a rotation
+-- what an Add answers that is kept without a rotation
 abbrev pub kept_without_rotation : Added
 kept_without_rotation = record { kept = true; rotated = false; evicted = 0 }
 
--- a kept Add before which the pages rotated
+-- what an Add answers that is kept after a rotation
 abbrev pub kept_after_rotation : ℕ → Added
 kept_after_rotation evicted = record { kept = true; rotated = true; evicted = evicted }
 

@@ -24,7 +24,7 @@ impl Added {
         }
     }
 
-    /// One that went to the front page as it was.
+    /// An Add that went to the front page as that stood.
     pub(crate) fn without_rotation() -> Added
         ensures { result ≡ kept_without_rotation }
     {
@@ -35,7 +35,7 @@ impl Added {
         }
     }
 
-    /// One before which the pages rotated.
+    /// An Add before which the pages rotated.
     pub(crate) fn after_rotation(evicted: u64) -> Added
         ensures { result ≡ kept_after_rotation evicted }
     {

@@ -70,9 +70,9 @@ impl TimestampCache for Cache {
         })
     }
 
-    /// One that is kept goes to the front page, in place where no other cache holds that page, and
-    /// to a copy of it else. Where the page has no room the pages rotate first, and a new one is
-    /// made.
+    /// An Add that is kept goes to the front page, in place where no other cache holds that page,
+    /// and to a copy of it else. Where the page has no room the pages rotate first, and a new one
+    /// is made.
     fn add(&mut self, span: &Span, value: Value, now: Timestamp) -> Result<Added, CacheFault> {
         if !self.config.fits(span) {
             return Err(CacheFault::TooLarge);
@@ -365,9 +365,9 @@ impl Cache {
     /// The cache after an Add, beside this one, which stays as it is. The two share the pages that
     /// the Add leaves as they are.
     ///
-    /// It costs a step for each of the newest pages, 256 at the most, and a copy of the front page
-    /// where the Add goes there. A rotation that drops pages of many costs as many steps again, and
-    /// one for each 256 pages.
+    /// The call costs a step for each of the newest pages, 256 at the most, and a copy of the front
+    /// page where the Add goes there. A rotation that drops pages of many costs as many steps
+    /// again, and one for each 256 pages.
     pub fn next(
         &self,
         span: &Span,
@@ -423,11 +423,11 @@ impl Cache {
     /// The cache after all of these marks, one after another at the moment `now`, beside this one,
     /// which stays as it is. The two share the pages that the marks leave as they are.
     ///
-    /// It costs a step for each of the newest pages, 256 at the most, a copy of the list at the top
-    /// of the front page, and for each mark an Add in place. Before it, each list on the way to a
-    /// mark's leaf and that leaf are copied where this cache shares them, which is once for all
-    /// marks. A mark for which a leaf is cut, or whose span reaches over several leaves that are
-    /// shared, copies the list at the top once more.
+    /// The call costs a step for each of the newest pages, 256 at the most, and a copy of the list
+    /// at the top of the front page. Each mark costs an Add in place. Before an Add, each list on
+    /// the way to the mark's leaf and that leaf are copied where this cache shares them, which is
+    /// once for all marks. A mark for which a leaf is cut, or whose span reaches over several
+    /// leaves that are shared, copies the list at the top once more.
     pub fn next_all(&self, marks: &[Mark], now: Timestamp) -> Result<(Cache, Added), CacheFault>
         ensures stands { IfOk result (λ next. StandsAfterAll self.now next.0 marks.now now) }
         ensures added { IfOk result (λ next. TellsAddedAll self.now marks.now now next.1) }
@@ -484,10 +484,10 @@ impl Cache {
     /// before it; `None` where none does. With the place right after it as the next cut, the cache
     /// tells its end keys one after another in their order, each of them once.
     ///
-    /// It costs a search in each page. It takes no memory, and copies no key.
+    /// The call costs a search in each page. It takes no memory, and copies no key.
     ///
-    /// It restates how the skiplist of each `sklPage` is gone over, for all of an `intervalSkl`'s
-    /// pages, in CockroachDB's `pkg/kv/kvserver/tscache/interval_skl.go`.
+    /// The call restates how the skiplist of each `sklPage` is gone over, for all pages of an
+    /// `intervalSkl`, in CockroachDB's `pkg/kv/kvserver/tscache/interval_skl.go`.
     pub fn key_above(&self, cut: Cut<'_>) -> Option<&Key>
         ensures value { IsLeastAbove (cut_of cut.entry) (keys_seen self.now.pages)
             (option_map (λ k. k.now) result) }
@@ -547,7 +547,7 @@ impl Cache {
         Ok(added)
     }
 
-    /// The same cache once more, which shares the pages.
+    /// A copy of the cache, which shares the pages.
     fn share(&self) -> Result<Cache, NoMemory>
         ensures { IfOk result (λ same. same ≡ self.now) }
     {

@@ -163,9 +163,9 @@ impl Config {
         true
     }
 
-    /// The size of a page for a span of this cost, behind one of this size: the first of twice that
-    /// size, four times that size and so on, each no more than `page_max`, that is at least the
-    /// cost.
+    /// The size of a page for a span of this cost, behind a page of this size: the first doubling
+    /// that is at least the cost. The doublings are twice that size, four times that size and on,
+    /// each no more than `page_max`.
     pub(crate) fn next_size(&self, size: u32, cost: u32) -> u32
         ensures value { result ≡ next_size self.now.page_max size cost }
         ensures enough { cost ≤ self.now.page_max → cost ≤ result }

@@ -23,7 +23,7 @@ impl Figures {
     ghost use Rattle.tsc_page_nodes.specs.PageView.{bytes_of};
     ghost use Rattle.tsc_cache.specs.Counts.{up_to_end};
 
-    /// The figures of so many pages, before what they hold is counted.
+    /// The figures of a number of pages, before what the pages hold is counted.
     pub(crate) fn of_pages(pages: u64, floor: Timestamp, rotations: u64) -> Figures
         ensures { result ≡ record {
           pages = pages;

@@ -55,8 +55,9 @@ pub fn real()
     ensures { Real }
 {}
 
-/// Where a write is later than what a lookup of its span answers, or at that time and the answer is
-/// the writer's own, it is so too of each read so far that was added on the span.
+/// A write is clear of a value where it is later, or at that value's time and the value is the
+/// writer's own. A write that is clear of what a lookup of its span answers is clear of each read
+/// that was added on the span before.
 pub fn no_write_below_a_read()
     ensures { NoWriteBelowARead }
 {}
@@ -74,7 +75,7 @@ pub fn one_mark_is_a_step()
 {}
 
 /// Adding a list of one mark makes of all that can be seen of a cache what an Add of that mark
-/// makes, and answers the same.
+/// makes, and answers what that answers.
 pub fn one_mark_is_an_add()
     ensures { OneMarkIsAnAdd }
 {}
@@ -85,8 +86,8 @@ pub fn lists_join()
     ensures { ListsJoin }
 {}
 
-/// A new page is the first of twice, four times, eight times the size and so on of the one before
-/// it, each no larger than the largest, that the span fits.
+/// A new page has the first size that the span fits, of twice, four times, eight times and further
+/// doublings of the size before it. Each of these is no larger than the largest.
 pub fn sizes_double()
     ensures { SizesDouble }
 {}

@@ -2,12 +2,12 @@
 //!
 //! A [`Cache`] remembers the latest time at which each span was read. What is added stands on pages
 //! of a bounded size in bytes. Where the newest page has no room for an Add, the pages *rotate*:
-//! the oldest ones are dropped, if they are old enough, and an empty one comes to the front, twice
-//! as large as the one before it, or larger where the span wants that, up to the largest size. For
-//! what was on a dropped page the *floor* answers from then on, which has risen to its top. So an
-//! answer may be later than the reads that there were, and never earlier.
+//! the oldest ones are dropped, if old enough, and an empty one comes to the front. The new page is
+//! twice as large as the one before it, or larger where the span wants that, up to the largest
+//! size. For what was on a dropped page the *floor* answers from then on, which has risen to its
+//! top. So an answer may be later than the reads that there were, and never earlier.
 //!
-//! It restates `intervalSkl` and `Cache` of CockroachDB's `pkg/kv/kvserver/tscache`
+//! The crate restates `intervalSkl` and `Cache` of CockroachDB's `pkg/kv/kvserver/tscache`
 //! (`interval_skl.go` and `cache.go`), where many threads add at once to a front page that is a
 //! skiplist. Here a call has the cache for itself, and [`Cache::next`] gives the cache after an Add
 //! beside the one before it: the two share their pages, which are never changed while another cache

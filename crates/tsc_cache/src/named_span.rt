@@ -7,7 +7,7 @@ use tsc_span::{AddSpan, Ends, KeyRef, SpanFault};
 
 /// The keys from a start to an end. Without an end there are all keys from the start on.
 ///
-/// It compares the two keys, takes no memory, and copies no key.
+/// The call compares the two keys, takes no memory, and copies no key.
 pub(crate) fn named_span<'a>(
     start: &'a [u8],
     end: Option<&'a [u8]>,

@@ -50,6 +50,6 @@ pub(crate) trait PageStack<P: IntervalPage> {
 pub(crate) struct Pages {
     pub(crate) front: Arc<Page>,
     pub(crate) older: OlderPages,
-    /// There are fewer than a machine has addresses for.
+    /// The pages are fewer than a machine has addresses for.
     ghost few: { length older < 2 ^ 63 },
 }

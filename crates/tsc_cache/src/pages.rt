@@ -76,7 +76,7 @@ impl Pages {
         })
     }
 
-    /// The same pages once more.
+    /// A copy of the list, which shares the pages.
     pub(crate) fn share(&self) -> Result<Pages, NoMemory>
         ensures { IfOk result (λ same. pages_of same ≡ pages_of self.now) }
     {
@@ -110,7 +110,7 @@ impl Pages {
     /// Adds a span with its value to the front page, or to a copy of it where others hold it too,
     /// and says whether that page has room. Without room nothing changes.
     ///
-    /// It copies no key that the page holds.
+    /// A key that the page holds is not copied.
     pub(crate) fn mark_span(&mut self, span: &AddSpan<'_>, value: Value) -> Result<bool, NoMemory>
         requires not_empty { is_empty_span span.now ≡ false }
         ensures room { IfOk result (λ done. done ≡ has_room_for (front_of self.old) span.now) }
@@ -218,7 +218,7 @@ fn is_passed(page: &Page, best: Value) -> bool
     page.top() < best.time()
 }
 
-/// The lesser of two keys, as far as there are any.
+/// The lesser of two keys, or the only key where one is missing.
 fn lesser<'a>(first: Option<&'a Key>, second: Option<&'a Key>) -> Option<&'a Key>
     ensures { option_map (λ k. k.now) result ≡ lesser (option_map (λ k. k.now) first.entry)
         (option_map (λ k. k.now) second.entry) }

@@ -19,9 +19,9 @@ use tsc_time::{NoMemory, Timestamp, Value, ratchet};
 
 /// The cache over plain lists of what was added.
 ///
-/// It makes the same promises as [`Cache`](crate::Cache), word for word, but has no `next`, no
-/// `next_all`, no `get_max_counted`, and no lookup by bytes. It is slow: a lookup looks at all that
-/// stands on its pages, and an Add compares all end keys of the front page with one another.
+/// A plain cache makes the promises of [`Cache`](crate::Cache), word for word, but has no `next`,
+/// no `next_all`, no `get_max_counted`, and no lookup by bytes. It is slow: a lookup looks at all
+/// that stands on its pages, and an Add compares all end keys of the front page with one another.
 #[derive(Debug, Drop)]
 pub struct PlainCache {
     config: Config,

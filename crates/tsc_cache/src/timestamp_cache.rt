@@ -13,7 +13,7 @@ use tsc_time::{NoMemory, Timestamp, Value};
 /// pages of sorted nodes, and [`PlainCache`](crate::PlainCache) over plain lists. What a call costs
 /// depends on the cache.
 ///
-/// It restates the interface `Cache` of CockroachDB's `pkg/kv/kvserver/tscache/cache.go`.
+/// The trait restates the interface `Cache` of CockroachDB's `pkg/kv/kvserver/tscache/cache.go`.
 pub trait TimestampCache: Drop {
     /// What can be seen of the cache.
     ghost view: { Self → CacheView };
@@ -32,7 +32,7 @@ pub trait TimestampCache: Drop {
     /// refused the cache is as before. An Add of the empty span, or with a time at or below the
     /// floor, is not kept: it changes nothing and takes no memory.
     ///
-    /// It restates `intervalSkl.AddRange` of CockroachDB's
+    /// The call restates `intervalSkl.AddRange` of CockroachDB's
     /// `pkg/kv/kvserver/tscache/interval_skl.go`.
     fn add(&mut self, span: &Span, value: Value, now: Timestamp) -> Result<Added, CacheFault>
         ensures stands { OnOk result

@@ -10,7 +10,7 @@ use Rattle.tsc_page_nodes.specs.PageView.{PageView}
 abbrev pub Chunk : Type 0
 Chunk = VecDeque (Arc PageView Global) Global
 
--- chunks of them
+-- a list of such chunks
 abbrev pub Chunks : Type 0
 Chunks = VecDeque (Arc Chunk Global) Global
 
@@ -33,7 +33,7 @@ AreFull [] = Unit {0}
 AreFull (xs ∷ []) = length xs ≤ 256
 AreFull (xs ∷ ys ∷ yss) = (length xs ≡ 256) × AreFull (ys ∷ yss)
 
--- Chunks that have lost what stands behind so many members, or a part of it.
+-- Chunks that have lost what stands behind their first k members, or a part of that.
 pub record IsCutTo {A : Type 0} (k : ℕ) (xss yss : List (List A)) : Type 0 where
   pub full : AreFull yss
   pub within : k ≤ length (joined yss)

@@ -12,8 +12,8 @@ use tsc_time::NoMemory;
 /// How many pages a chunk has.
 const CHUNK: usize = 256;
 
-/// From so many pages in chunks on no chunk is made: they are more than a machine has addresses
-/// for.
+/// From this number of pages in chunks on no further chunk is made. A machine has addresses for
+/// fewer.
 const MOST: usize = 1 << 62;
 
 /// Pages that caches share.
@@ -102,7 +102,7 @@ impl OlderPages {
         Some(self.get(len - 1))
     }
 
-    /// The same list once more.
+    /// A copy of the list, which shares the pages.
     pub fn share(&self) -> Result<OlderPages, NoMemory>
         ensures same { IfOk result (λ same. same ≡ self.now) }
         ensures few { IfOk result (λ same. length same < 2 ^ 63) }
@@ -188,7 +188,7 @@ fn push_chunk(chunks: &mut Arc<Chunks>, pages: &Chunk) -> Result<(), NoMemory>
     Ok(())
 }
 
-/// Leaves only so many pages in chunks, as far as memory for shorter lists is there.
+/// Cuts chunks to their first `kept` pages, as far as memory for shorter lists is there.
 fn trim_chunks(chunks: &mut Arc<Chunks>, kept: usize)
     requires full { AreFull (in_chunks (arc_value chunks.old)) }
     requires within { kept ≤ length (joined (in_chunks (arc_value chunks.old))) }
@@ -199,7 +199,7 @@ fn trim_chunks(chunks: &mut Arc<Chunks>, kept: usize)
     }
 }
 
-/// Leaves only so many pages in chunks, as far as memory for a shorter last one is there.
+/// Cuts chunks to their first `kept` pages, as far as memory for a shorter last chunk is there.
 fn cut(chunks: &mut Chunks, kept: usize)
     requires full { AreFull (in_chunks chunks.old) }
     requires within { kept ≤ length (joined (in_chunks chunks.old)) }
@@ -211,7 +211,7 @@ fn cut(chunks: &mut Chunks, kept: usize)
     }
 }
 
-/// Leaves only so many pages in a chunk, if memory for the shorter chunk is there.
+/// Cuts a chunk to its first `kept` pages, if memory for the shorter chunk is there.
 fn cut_chunk(chunk: &mut Arc<Chunk>, kept: usize)
     ensures { (in_chunk (arc_value chunk.new) ≡ in_chunk (arc_value chunk.old)) ⊎
         (in_chunk (arc_value chunk.new) ≡ take kept (in_chunk (arc_value chunk.old))) }
@@ -221,7 +221,7 @@ fn cut_chunk(chunk: &mut Arc<Chunk>, kept: usize)
     }
 }
 
-/// The same pages once more.
+/// A copy of a chunk, which shares the pages.
 fn copy_of(alloc: Global, pages: &Chunk) -> Result<Chunk, NoMemory>
     ensures { IfOk result (λ copy. in_chunk copy ≡ in_chunk pages.now) }
 {

@@ -40,12 +40,12 @@ adds_there lines p j = holds_at (λ line. is_add_at p line.said) (slice_get line
 abbrev pub looks_up_there : List Line → ℕ → ℕ → Bool
 looks_up_there lines f j = holds_at (λ line. is_lookup_at f line.said) (slice_get lines j)
 
--- Each line is of one of so many lists.
+-- Each line is of one of the lists, of which there are `lists`.
 abbrev pub AreOfLists : ℕ → List Line → Type 0
 AreOfLists lists lines = (j : ℕ) (line : Line) → slice_get lines j ≡ Some line → line.thread < lists
 
--- The first lines, so many of them, are in these slots, of which there is one for each place and
--- front up to the number of Adds, and a number for each list.
+-- The first i lines are in these slots. There is a slot for each place and front up to the number
+-- of Adds, and a number for each list.
 pub record ArePlaced (adds lookups earlier : List (Option ℕ)) (reached : List ℕ) (lines : List Line)
     (i : ℕ) : Type 0 where
   pub add_slots : length adds ≡ suc (adds_in lines)
@@ -74,11 +74,11 @@ abbrev pub call_in : Option (List Call) → ℕ → Option Call
 call_in None index = None
 call_in (Some calls) index = slice_get calls index
 
--- the state after the first Adds, so many of them
+-- the state after the first `front` Adds
 abbrev pub state_at : Trace → List Line → ℕ → CacheState
 state_at trace lines front = state_of trace.config (first_adds (calls_of trace) lines front)
 
--- A cache has made the first Adds of a log, so many of them.
+-- A cache has made the first `front` Adds of a log.
 abbrev pub HasAdded : CacheView → Trace → List Line → ℕ → Type 0
 HasAdded cache trace lines front = RepresentsState cache trace.config (state_at trace lines front)
 

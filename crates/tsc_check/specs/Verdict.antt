@@ -112,7 +112,7 @@ with_adds_at p (c ∷ calls) [] h = h
 with_adds_at p (c ∷ calls) (line ∷ lines) h =
     with_adds_at p calls lines (if is_add_at p line.said then after_call c.thread h c.call else h)
 
--- the first Adds, so many of them, in the order of their places
+-- the Adds whose places are below a number, in the order of their places
 abbrev pub first_adds : List PlacedCall → List Line → ℕ → History
 first_adds calls lines zero = []
 first_adds calls lines (suc p) = with_adds_at p calls lines (first_adds calls lines p)
@@ -127,7 +127,7 @@ is_same_added a b = is_same_bit a.kept b.kept && is_same_bit a.rotated b.rotated
 abbrev pub is_same_value : OwnedTime → OwnedTime → Bool
 is_same_value a b = is_same_time a.time b.time && is_same_owner a.owner b.owner
 
--- whether two answers say the same, whatever their places and fronts
+-- whether two answers are equal but for their places and fronts
 abbrev pub is_same_answer : CallAnswer → CallAnswer → Bool
 is_same_answer (said.Add p a) (said.Add q b) = is_same_added a b
 is_same_answer (said.Batch p a) (said.Batch q b) = is_same_added a b

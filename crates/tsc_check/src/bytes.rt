@@ -1,9 +1,9 @@
 //! Replays of recorded traces, and checks of logs, from bytes to bytes: for those who have the
 //! bytes at hand, and no streams.
 //!
-//! [`replay_bytes`] and [`check_bytes`] say what the commands of the program write, over the same
-//! readers and the same replay and check. A trace and a log have 16,777,216 bytes at the most, as
-//! there.
+//! [`replay_bytes`] and [`check_bytes`] say what the commands of the program write, by the readers,
+//! the replay and the check of those commands. As for a command, a trace and a log have 16,777,216
+//! bytes at the most.
 
 mod checks;
 mod replays;

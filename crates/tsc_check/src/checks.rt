@@ -32,7 +32,7 @@ pub fn check(alloc: Global, trace: &Trace, log: &Log) -> Result<Verdict, NoMemor
     check_with_progress(alloc, trace, log, &NoProgress)
 }
 
-/// The same verdict, where each call is told as it is made once more.
+/// The verdict as [`check`] gives it. `progress` is told of each call as it is made once more.
 pub fn check_with_progress<P: Progress>(
     alloc: Global,
     trace: &Trace,

@@ -56,7 +56,7 @@ pub fn count_adds(lines: &[Line]) -> usize
 }
 
 impl Order {
-    /// No lines, where there are so many lists.
+    /// An order without lines, for a trace of `lists` lists. It has slots for all Adds of `lines`.
     pub fn new(alloc: Global, lines: &[Line], lists: usize) -> Result<Order, NoMemory>
         requires few { length lines.now ≤ most_calls }
         requires lists { AreOfLists lists lines.now }
@@ -71,7 +71,7 @@ impl Order {
         })
     }
 
-    /// Whether a list has come to know of more Adds than so many.
+    /// Whether a list has come to know of more than `front` Adds.
     fn knows_more(&self, list: usize, front: u64) -> bool
         requires { list < length self.now.reached.items }
         ensures { (d : ℕ) → result ≡ nat_lt front (get_or self.now.reached.items list d) }

@@ -16,7 +16,7 @@ use tsc_stream::Progress;
 use tsc_time::{NoMemory, Value};
 use tsc_trace::{Call, CallAnswer, Line, Trace, add_all_fitting, add_fitting};
 
-/// Whether two values are not the same.
+/// Whether two values differ.
 fn differ(value: Value, other: Value) -> bool
     ensures { result ≡ not (is_same_value value other) }
 {

@@ -30,7 +30,8 @@ pub fn check_command<R: Source, L: Source, W: Sink, E: Sink>(
     check_with_progress(alloc, trace, log, writer, errors, &NoProgress)
 }
 
-/// The same, where each call is told as it is made once more.
+/// Checks a log as [`check_command`] does, and tells `progress` of each call as it is made once
+/// more.
 pub fn check_with_progress<R: Source, L: Source, W: Sink, E: Sink, P: Progress>(
     alloc: Global,
     trace: &mut R,

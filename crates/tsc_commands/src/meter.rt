@@ -5,10 +5,10 @@ use std::time::{Clock, Instant};
 use tsc_shared::Gate;
 use tsc_stream::Progress;
 
-/// A command is silent for so many seconds.
+/// How many seconds a command is silent.
 const SILENT: u64 = 2;
 
-/// One of so many calls looks at the clock.
+/// How many calls are made for each look at the clock.
 const CALLS: u64 = 64;
 
 /// Tells on standard error every two seconds how many calls of a trace were made, where that is a

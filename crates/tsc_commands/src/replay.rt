@@ -23,7 +23,8 @@ pub fn replay_command<R: Source, W: Sink, E: Sink>(
     replay_with_progress(alloc, reader, writer, errors, &NoProgress)
 }
 
-/// The same, where each call of the trace is told as soon as it was made.
+/// Replays a trace as [`replay_command`] does, and tells `progress` of each call as soon as it was
+/// made.
 pub fn replay_with_progress<R: Source, W: Sink, E: Sink, P: Progress>(
     alloc: Global,
     reader: &mut R,

@@ -1,6 +1,6 @@
 //! Where the program writes: one place for logs and verdicts, and another for faults.
 //!
-//! Their types differ, so that neither can be handed on as the other.
+//! The types of the two differ, so that neither can be handed on as the other.
 
 /// Where a log or a verdict goes, and nothing else.
 #[derive(Drop)]

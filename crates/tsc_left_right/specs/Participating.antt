@@ -31,7 +31,7 @@ use Rattle.tsc_left_right.specs.RequestSteps.{serving}
 abbrev pub Participant : Type 0
 Participant = TableSeat Slot Knowledge
 
--- a table for so many seats
+-- the table has the words and slots of `seats` seats
 pub record IsSized (table : TableId) (seats : ℕ) : Type 0 where
   pub words : table.words ≡ word_count seats
   pub slots : table.slots ≡ slot_count seats
@@ -92,12 +92,12 @@ published_in v own = with_state v (flipped (state_in v) own)
 abbrev pub released_in : Knowledge → Knowledge
 released_in v = with_state v (released (state_in v))
 
--- the writer, as it is in v, when so many seats are cleared and the next one was watched
+-- the writer, as it is in v, when `cleared` seats are cleared and the next one was watched
 abbrev pub cleared_in : Knowledge → ℕ → Option ℕ → Knowledge
 cleared_in v cleared watched = with_state v (clearing (state_in v) cleared watched)
 
--- The writer, as it is in v, has cleared so many seats, and may have watched the next one. In hand
--- are the slots of what it has collected, its own, and those of the seats that it has cleared.
+-- The writer, as it is in v, has cleared `cleared` seats, and may have watched the next one. In
+-- hand are the slots of what it has collected, its own, and those of the seats that it has cleared.
 pub record IsWriting (v : Knowledge) (me : At) (cleared : ℕ) (watched : Option ℕ) : Type 0 where
   pub slots : List (ℕ × Slot)
   pub is : me ≡ (cleared_in v cleared watched, hand_of (state_in v).collected slots)
@@ -168,7 +168,8 @@ pub record IsReady (v : Knowledge) (state : WriterState) : Type 0 where
   pub is_after : IsAfter v.setup (published (state_in v) (own_of state)) (state_in v).head state
 
 -- The writer of v could not publish, since some seat has left. All that it had collected is back.
--- What it works with is as before, without the Adds of others, and with what it knows of HEAD.
+-- What the writer works with is as before, without the Adds of others, and with what it knows of
+-- HEAD.
 pub record IsCalledOff (v : Knowledge) (old : WriterState) (me : At) (new : WriterState)
     : Type 0 where
   pub is : me.0 ≡ with_state v (serving (state_in v) [] new.head)

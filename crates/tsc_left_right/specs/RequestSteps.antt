@@ -148,7 +148,7 @@ pub record HearsMade (v w : Knowledge) (add : UnappliedAdd) (reply : Reply) : Ty
   pub below : length before < v.setup.limit
   pub tells : IsReply v.setup before add reply
 
--- what its slot says then
+-- what a seat's request slot says, once the request is answered
 abbrev pub Hears : Knowledge → Knowledge → UnappliedAdd → Slot → Type 0
 Hears v w add Empty = ⊥
 Hears v w add (Writer state) = ⊥

@@ -66,8 +66,8 @@ pub record MayWithdraw (me : At) (toggle : ℕ) : Type 0 where
   pub toggle_is : toggle ≡ (state_in me.0).toggle
   pub small : toggle < 2
 
--- It has taken back its Add, asks for nothing, and has its request slot in hand, which is empty. It
--- has seen all, and counts each of its Adds.
+-- A writer has taken back its Add, asks for nothing, and has its request slot in hand, which is
+-- empty. The writer has seen all, and counts each of its Adds.
 pub record IsWithdrawn (me me' : At) (toggle now : ℕ) (add : UnappliedAdd) : Type 0 where
   pub now_is : now ≡ 1 - toggle
   pub is : (state_in me.0).request ≡ Some add

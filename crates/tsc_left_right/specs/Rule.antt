@@ -31,7 +31,7 @@ use Rattle.tsc_left_right.specs.declared.table.Collected.{Collected}
 use Rattle.tsc_left_right.specs.declared.table.SeatState.{SeatState}
 use Rattle.tsc_left_right.specs.declared.table.Knowledge.{Knowledge}
 
--- a seat between two calls, which has seen this much, in which so many Adds are its own
+-- a seat between two calls, which has seen a history with `count` Adds of its own
 abbrev pub at_rest : ℕ → History → ℕ → SeatState
 at_rest number seen count = record {
   number = number;
@@ -50,7 +50,8 @@ at_rest number seen count = record {
   collected = [];
 }
 
--- the states of so many seats that have seen nothing, from a number on
+-- the states of seats that have seen nothing, as many as the second number, with numbers from the
+-- first one on
 abbrev pub fresh_states : ℕ → ℕ → List SeatState
 fresh_states number ℕ.zero = []
 fresh_states number (suc others) = at_rest number [] 0 ∷ fresh_states (suc number) others
@@ -71,7 +72,7 @@ one_if b = if b then 1 else 0
 abbrev pub states_of : ℕ → Knowledge → ℕ
 states_of number v = sum_by (λ (p : SeatState). one_if (p.number == number)) v.states
 
--- how many of them hold the writer lock
+-- how many of a participant's states hold the writer lock
 abbrev pub holders : Knowledge → ℕ
 holders v = sum_by (λ (p : SeatState). one_if p.holds) v.states
 
@@ -86,7 +87,7 @@ epoch_word seat = 152 * (seat / 8) + 16 * (seat % 8) + 56
 abbrev pub request_word : ℕ → ℕ
 request_word seat = 152 * (seat / 8) + seat % 8 + 32
 
--- how many words there are for so many seats, of which a few behind the last epoch serve nobody
+-- how many words a table of `seats` seats has, of which a few behind the last epoch serve nobody
 abbrev pub word_count : ℕ → ℕ
 word_count seats = 19 * seats + 53
 
@@ -97,7 +98,7 @@ side_slot seat side = 16 * seat + 8 * side + 8
 abbrev pub request_slot : ℕ → ℕ
 request_slot seat = 16 * seat + 9
 
--- how many slots there are for so many seats
+-- how many slots a table of `seats` seats has
 abbrev pub slot_count : ℕ → ℕ
 slot_count seats = 16 * seats + 8
 

@@ -91,7 +91,7 @@ Filled P side from (x ∷ xs) to = (x.0 ≡ side_slot from side) × P x.1
 abbrev pub Anything : Slot → Type 0
 Anything x = Unit {0}
 
--- a handle on this cache, which is after so many Adds
+-- a handle on this cache, which has had `adds` Adds
 abbrev pub IsHandleOn : CacheView → ℕ → Slot → Type 0
 IsHandleOn cache adds Empty = ⊥
 IsHandleOn cache adds (Writer state) = ⊥
@@ -148,7 +148,7 @@ released p = record p {
 abbrev pub releases : Step Slot → At → ℕ → At → Type 0
 releases st me stored me' = me' ≡ (with_state me.0 (released (state_in me.0)), [])
 
--- the writer, when so many seats are cleared, and the next one was watched
+-- the writer, when `cleared` seats are cleared, and the next one was watched
 abbrev pub clearing : SeatState → ℕ → Option ℕ → SeatState
 clearing p cleared watched = record p { cleared = cleared; watched = watched }
 

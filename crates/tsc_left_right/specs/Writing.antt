@@ -22,7 +22,7 @@ abbrev pub LaidAs : Bool → CacheView → ℕ → Slot → Type 0
 LaidAs true cache adds x = IsHandleOn cache adds x
 LaidAs false cache adds x = Unit {0}
 
--- what is in hand when the first went behind the others so many times
+-- what is in hand when the first went behind the others, as often as the number says
 abbrev pub rotated : ℕ → List (ℕ × Slot) → List (ℕ × Slot)
 rotated ℕ.zero hand = hand
 rotated (suc n) hand = turned (rotated n hand)
@@ -68,8 +68,8 @@ pub record MaySendBack (t : Setup) (h : History) (others : Hand) (me : At) (item
   pub are : AreSlotsOf (state_in me.0).collected slots
   pub made : AreMade t h (state_in me.0).collected items
 
--- The slots of all collected requests are at home. What the writer knows of HEAD is this, with the
--- same side.
+-- The slots of all collected requests are at home. What the writer knows of HEAD is `head`, which
+-- leaves the standby side as it was.
 pub record HasSentAll (others : Hand) (me me' : At) (head : ℕ) : Type 0 where
   pub is : me' ≡ (with_state me.0 (serving (state_in me.0) [] head), others)
   pub side : standby_side head ≡ standby_side (state_in me.0).head

@@ -1,8 +1,8 @@
 //! A cache that threads share: two copies, readers that wait for nobody, and a writer that makes
-//! the Adds of others. It is for `tsc_combining`, which keeps what these functions ask for.
+//! the Adds of others. `tsc_combining` uses these functions, and keeps what they ask for.
 //!
-//! It is *left-right* (Ramalhete and Correia): readers read the active copy, a writer changes the
-//! standby copy, and one step on HEAD swaps the two.
+//! The scheme is *left-right* (Ramalhete and Correia): readers read the active copy, a writer
+//! changes the standby copy, and one step on HEAD swaps the two.
 //!
 //! ```text
 //!  seat 0: epoch, request word | two handles, request slot    writer lock    writer's state
@@ -16,14 +16,14 @@
 //!          or set that bit oneself, which withdraws the request
 //! ```
 //!
-//! It departs from the paper in five ways:
+//! The crate departs from the paper in five ways:
 //!
 //! - Each seat has handles of its own, so a reader writes nothing that another one reads.
 //! - HEAD is both indexes of the paper at once. Its lowest bit is the active side, and the step
 //!   that turns it is the linearization point of all Adds of a batch.
 //! - The writer changes one copy a batch. The other one catches up before the next batch.
-//! - The writer makes what other seats ask for, as in *flat combining*, and the same step gives all
-//!   of them their replies.
+//! - The writer makes what other seats ask for, as in *flat combining*, and one step gives all of
+//!   them their replies.
 //! - A seat that asks can leave in a few steps of its own. The writer publishes only if HEAD is as
 //!   it knows it. Else it sends all requests back, and then publishes its own Add alone.
 //!

@@ -38,7 +38,7 @@ fn lay(slots: &mut Vec<Slot>, slot: Slot) -> Result<(), NoMemory>
 }
 
 /// What lies in the slots at the opening: the writer's state, and a handle on the active copy for
-/// each of so many seats.
+/// each of `seats` seats.
 fn first_slots(alloc: Global, state: Box<WriterState>, seats: u32) -> Result<Vec<Slot>, NoMemory>
     ensures { IfOk result (λ slots. IsLaidOut state seats slots.items) }
 {

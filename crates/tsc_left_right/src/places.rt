@@ -67,7 +67,7 @@ pub(crate) fn request_word(seat: u32) -> usize
     152 * (seat as usize / 8) + seat as usize % 8 + 32
 }
 
-/// How many words there are for so many seats: fifteen or more behind the last epoch.
+/// How many words a table of `seats` seats has: fifteen or more stand behind the last epoch.
 pub(crate) fn word_count(seats: u32) -> usize
     ensures value { result ≡ word_count seats }
     ensures room { (seat : ℕ) → seat < seats → epoch_word seat + 16 ≤ result }
@@ -90,7 +90,7 @@ pub(crate) fn side_slot(seat: u32, side: u64) -> usize
 }
 
 /// The slot with the request of a seat, beside that on side 0. While the seat asks it does not look
-/// up, so the writer takes nothing from its reach by the same line.
+/// up, so a writer that touches the line of both slots slows no lookup.
 pub(crate) fn request_slot(seat: u32) -> usize
     ensures value { result ≡ request_slot seat }
     ensures beside { result ≡ side_slot seat 0 + 1 }
@@ -98,7 +98,7 @@ pub(crate) fn request_slot(seat: u32) -> usize
     16 * seat as usize + 9
 }
 
-/// How many slots there are for so many seats.
+/// How many slots a table of `seats` seats has.
 pub(crate) fn slot_count(seats: u32) -> usize
     ensures value { result ≡ slot_count seats }
 {

@@ -117,7 +117,7 @@ pub fn hear(shared: &SharedReplicas, who: &mut Participant, number: u32, toggle:
 /// Withdraws the Add that the seat asks for, unless it was answered before. An Add that is
 /// withdrawn is in no history. An answer is as that of [`hear`].
 ///
-/// Either takes a few steps, which wait for no thread. A withdrawn Add stays in the request slot
+/// The call takes a few steps, which wait for no thread. A withdrawn Add stays in the request slot
 /// until the seat posts again, or the table is closed.
 pub fn leave(shared: &SharedReplicas, who: &mut Participant, number: u32, toggle: u64) -> Heard
     requires of { IsOf who.old shared.now.table_id }

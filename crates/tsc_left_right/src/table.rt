@@ -53,7 +53,7 @@ pub struct Lagging {
 pub struct WriterState {
     /// The copy that lookups read, which is after all Adds.
     pub active: Arc<Cache>,
-    /// The other copy, if it is there: it is after all Adds but those of `lagging`.
+    /// The standby copy, if it is there, which is after all Adds but those of `lagging`.
     pub standby: Option<Arc<Cache>>,
     pub lagging: Lagging,
     /// How many Adds there were.
@@ -71,7 +71,7 @@ pub struct Reply {
     pub kept: bool,
 }
 
-/// A handle on a copy, which is after so many Adds.
+/// A handle on a copy, which has had the first `length` Adds.
 #[derive(Drop)]
 pub struct ReadHandle {
     pub cache: Arc<Cache>,
@@ -100,12 +100,12 @@ pub struct SeatState {
     /// What the seat has seen, and how many of its own Adds are there.
     pub seen: LinkedList<Entry>,
     pub count: u64,
-    /// Whether it holds the writer lock.
+    /// Whether the seat holds the writer lock.
     pub holds: bool,
     /// 0 unpinned, 1 pinned, and 2 more than a side while it has its slot of that side in hand.
     pub stage: u64,
-    /// Its toggle, what it asks for, whether its request slot is in its hand, and whether it has
-    /// withdrawn what it asked for and is to flag its request word.
+    /// The toggle of the seat, what the seat asks for, and whether its request slot is in its hand.
+    /// `leaving` says whether it has withdrawn what it asked for and is to flag its request word.
     pub toggle: u64,
     pub request: Option<UnappliedAdd>,
     pub fetched: bool,
@@ -124,7 +124,7 @@ pub struct SeatState {
 /// What a participant knows: the states of the seats that it keeps, and the history that its front
 /// says. No value of it is made.
 pub struct Knowledge {
-    /// Whether it was joined to no other.
+    /// Whether the participant was joined to no other.
     pub live: bool,
     pub setup: Setup,
     pub states: LinkedList<SeatState>,
@@ -146,9 +146,9 @@ impl TableRule<Slot, Knowledge, Setup> for LeftRight {
 ///
 /// Word 0 is 0 where the writer lock is free, and else one more than the number of the seat that
 /// holds it. Word 16 is HEAD. Then come, for each eight seats, their request words, side by side,
-/// and their epochs, each with a line of its own. Slot 0 is the writer's, slot 16 * s + 8 * k + 8
-/// that of seat s on side k, and slot 16 * s + 9 that of its request. Sixteen words are 128 bytes,
-/// and so are fewer than eight slots (`places.rt`).
+/// and their epochs, each with a line of its own. Slot 0 is the writer's. Slot 16 * s + 8 * k + 8
+/// is that of seat s on side k, and slot 16 * s + 9 is that of its request. Sixteen words are 128
+/// bytes, and eight slots of sixteen bytes or more are at least that (`places.rt`).
 ///
 /// The lowest bit of HEAD is the side of the active copy, and bit s + 1 is the toggle of seat s
 /// once its request is answered. A seat withdraws its request by that bit. A request word is the
@@ -156,7 +156,7 @@ impl TableRule<Slot, Knowledge, Setup> for LeftRight {
 /// writer's hand.
 pub type Replicas = Table<Slot, Knowledge, Setup, LeftRight, Global>;
 
-/// The same as threads share them.
+/// The replicas as threads share them.
 pub type SharedReplicas = Shared<Slot, Knowledge, Setup, LeftRight>;
 
 /// One that takes part: a seat of the table.

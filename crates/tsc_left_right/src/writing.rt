@@ -1,7 +1,7 @@
 //! What a writer does: it acquires the writer lock, waits until each reader has left the standby
 //! copy, installs handles on that copy, publishes, and releases the lock.
 //!
-//! How it collects requests and sends them back stands in `serving.rt`.
+//! How a writer collects requests and sends them back stands in `serving.rt`.
 ghost use Rattle.std.specs.Prelude.{◌≡◌, [], ◌+◌, length, None, Some, IfSome};
 ghost use Rattle.std.specs.Prelude.{IfNone, true, List};
 ghost use Rattle.tsc_cache.specs.History.{History};
@@ -72,7 +72,7 @@ pub fn clear(
     None
 }
 
-/// The first so many slots in hand go behind the others.
+/// Puts the first `count` slots in hand behind the others.
 fn turn_past(who: &mut Participant, count: usize)
     ensures table { who.new.table_id ≡ who.old.table_id }
     ensures turned { who.new.me ≡ (who.old.me.0, rotated count who.old.me.1) }
@@ -82,7 +82,7 @@ fn turn_past(who: &mut Participant, count: usize)
     }
 }
 
-/// Whether there is memory for one more handle on this cache, which is after so many Adds, and that
+/// Whether there is memory for one more handle on this cache, which has had `length` Adds, and that
 /// handle.
 fn handle_on(active: &Arc<Cache>, length: u64) -> (bool, Slot)
     ensures { LaidAs result.0 (arc_value active.now) length result.1 }
@@ -93,7 +93,7 @@ fn handle_on(active: &Arc<Cache>, length: u64) -> (bool, Slot)
     }
 }
 
-/// Lays a handle on this cache, which is after so many Adds, into each slot that was cleared. The
+/// Lays a handle on this cache, which has had `adds` Adds, into each slot that was cleared. The
 /// result says whether there was memory for all of them.
 ///
 /// `cleared` has the number of seats and the standby side, and `requests` the number of collected
@@ -199,7 +199,7 @@ pub fn publish(
     Some(call_off(shared, who, seats as usize, count, known))
 }
 
-/// Takes what the writer works with out of its slot, behind so many handles and so many replies,
+/// Takes what the writer works with out of its slot, behind `seats` handles and `count` replies,
 /// and sends back all that was collected.
 fn call_off(
     shared: &SharedReplicas,
@@ -227,8 +227,8 @@ fn call_off(
     state
 }
 
-/// Makes the writer's own Add, if there is one, where it has collected nothing. It then releases
-/// the writer lock. Lookups read the copy on which the handles are.
+/// Publishes the writer's own Add, if there is one, where it has collected nothing. It then
+/// releases the writer lock. Lookups read the copy on which the handles are.
 pub fn publish_alone(shared: &SharedReplicas, who: &mut Participant, state: Box<WriterState>)
     requires of { IsOf who.old shared.now.table_id }
     requires installed { HasInstalled who.old.me.0 who.old.me (arc_value state.value.active)

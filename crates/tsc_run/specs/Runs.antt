@@ -22,8 +22,8 @@ abbrev pub AcceptsAs : SeatView → SeatView → Addition → ℕ → Added → 
 AcceptsAs old new a place added = (front : FrontView) ×
     Accepts old new a.marks a.now (record { place = place; added = added; front = front })
 
--- What is said of a call is what the shared cache answered, where the seat was as the first before
--- and is as the second then.
+-- What is said of a call is what the shared cache answered, where the seat was `old` before and is
+-- `new` after.
 abbrev pub AnswersCall : SeatView → SeatView → Call → CallAnswer → Type 0
 AnswersCall old new (Add span value now) (said.Add place added) =
     AcceptsAs old new (one_mark span value now) place added
@@ -31,12 +31,13 @@ AnswersCall old new (Batch marks now) (said.Batch place added) =
     AcceptsAs old new (several_marks marks now) place added
 AnswersCall old new (Get span) (said.Get front value) =
     AnswersLookup old new span (record { value = value; front = front })
-AnswersCall old new Low (said.Low front time) = ReadsFloor old new (record { time = time; front = front })
+AnswersCall old new Low (said.Low front time) =
+    ReadsFloor old new (record { time = time; front = front })
 AnswersCall old new call said = ⊥
 
--- Why a call was not answered, where the seat was as the first before and is as the second then: it
--- is an Add, and the seat has seen as many Adds as there may be; or it is said that memory was
--- refused, and it has seen fewer. The seat counts as many as before.
+-- Why a call was not answered, where the seat was `old` before and is `new` after. Either the call
+-- is an Add, and the seat has seen as many Adds as the limit allows. Or it is said that memory was
+-- refused, and the seat has seen fewer. The seat counts as many as before.
 abbrev pub IsRefusedAs : RunFault → Call → SeatView → SeatView → Type 0
 IsRefusedAs fault.HistoryFull call old new = (adds call ≡ true) × (new.count ≡ old.count) ×
     (length new.seen ≡ old.cache.limit)
@@ -90,8 +91,8 @@ StopsList fault.HistoryFull old calls new = (new.count < old.count + adds_of_lis
 StopsList fault.NoMemory old calls new = Unit {0}
 StopsList other old calls new = ⊥
 
--- How a list's run ends: its seat is of the same cache and has at most the list's Adds, whatever it
--- comes to.
+-- How a list's run ends: its seat stays at its cache and gets at most the list's Adds, whatever the
+-- run comes to.
 pub record EndsList (old : SeatView) (calls : List Call) (told : RunResult) (new : SeatView) : Type
     0 where
   pub cache : new.cache ≡ old.cache
@@ -103,8 +104,8 @@ pub record EndsList (old : SeatView) (calls : List Call) (told : RunResult) (new
 abbrev pub counted : List SeatView → ℕ
 counted seats = sum_by (λ (seat : SeatView). seat.count) seats
 
--- One of some seats has seen as many Adds as there may be, and together they count fewer than the
--- lists have.
+-- One of some seats has seen as many Adds as the limit allows, and the seats together count fewer
+-- than the lists have.
 pub record IsFullEarly (cache : SharedView) (lists : List (List Call)) (seats : List SeatView) :
     Type 0 where
   pub seat : SeatView

@@ -79,7 +79,7 @@ fn run_in<'s, E, R: Threads + Wait + Sync, G: Gate + Sync>(
     })
 }
 
-/// Runs each list on a thread of its own, at the seat of the same number, and waits for all.
+/// Runs each list on a thread of its own, at the seat with the list's number, and waits for all.
 pub(crate) fn run_lists<R: RefusesThreads + Threads + Wait + Sync, G: Gate + Sync>(
     rt: &R,
     alloc: Global,

@@ -4,8 +4,8 @@ use Rattle.std.specs.declared.cmp.Ordering.TheVariants.{Equal}
 use Rattle.std.specs.Cmp.{IsTotalOrder}
 use Rattle.tsc_span.specs.Span.{KeyBytes, Cut, before, after, cut_cmp, is_below, Interval, point, all_keys, overlaps, covers}
 
--- The order of cuts is total, and only the same cuts are equal in it. What is below the place after
--- a key is not above the place before it.
+-- The order of cuts is total, and a cut is equal in it to itself alone. What is below the place
+-- after a key is not above the place before it.
 pub record IsCutOrder : Type 0 where
   pub total : IsTotalOrder cut_cmp
   pub same : (a b : Cut) → cut_cmp a b ≡ Equal → a ≡ b

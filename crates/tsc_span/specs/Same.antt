@@ -1,9 +1,9 @@
--- When two spans are the same.
+-- When two cuts, or two spans, are equal.
 use Rattle.std.specs.Prelude.{Bool, true, false, ◌&&◌}
 use Rattle.std.specs.Str.{bytes_eq}
 use Rattle.tsc_span.specs.Span.{Cut, before, after, last, Interval, nothing, between}
 
--- whether two cuts are the same place
+-- whether two cuts are one place
 abbrev pub is_same_cut : Cut → Cut → Bool
 is_same_cut (before k) (before m) = bytes_eq k m
 is_same_cut (before k) (after m) = false
@@ -15,7 +15,7 @@ is_same_cut last (before m) = false
 is_same_cut last (after m) = false
 is_same_cut last last = true
 
--- whether two spans begin and stop at the same places, or both are empty
+-- whether two spans have equal starts and equal stops, or both are empty
 abbrev pub is_same_span : Interval → Interval → Bool
 is_same_span nothing nothing = true
 is_same_span nothing (between first end) = false

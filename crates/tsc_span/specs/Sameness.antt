@@ -1,4 +1,4 @@
--- The test of equal spans tells whether they are the same, which `==` has to be known for.
+-- The test says that two spans are equal exactly where they are, as `==` owes.
 use Rattle.std.proofs.Common.{◌≡◌, ◌∙◌, refl, sym, ap, subst, true, Decides, true≢false}
 use Rattle.std.specs.Cmp.{IsEquivalence, decided}
 use Rattle.std.proofs.lemmas.Bool.{and_parts, and_from}
@@ -12,7 +12,7 @@ is_same_cut-itself (before k) = (bytes_eq-Decides k k).1 refl
 is_same_cut-itself (after k) = (bytes_eq-Decides k k).1 refl
 is_same_cut-itself last = refl
 
--- where cuts are told to be the same, they are
+-- two cuts of which the test holds are equal
 pub is_same_cut-tells : (a b : Cut) → is_same_cut a b ≡ true → a ≡ b
 is_same_cut-tells (before k) (before m) e = ap before ((bytes_eq-Decides k m).0 e)
 is_same_cut-tells (before k) (after m) e = absurd (true≢false (sym e))
@@ -30,7 +30,7 @@ is_same_span-itself nothing = refl
 is_same_span-itself (between from to) =
     and_from _ _ (is_same_cut-itself from) (is_same_cut-itself to)
 
--- where spans are told to be the same, they are
+-- two spans of which the test holds are equal
 pub is_same_span-tells : (s t : Interval) → is_same_span s t ≡ true → s ≡ t
 is_same_span-tells nothing nothing e = refl
 is_same_span-tells nothing (between first end) e = absurd (true≢false (sym e))
@@ -40,7 +40,7 @@ is_same_span-tells (between from to) (between first end) e =
     ap (λ a. between a to) (is_same_cut-tells from first both.0) ∙
     ap (λ b. between first b) (is_same_cut-tells to end both.1)
 
--- so it decides whether two spans are the same
+-- the test decides whether two spans are equal
 pub is_same_span-Decides : (s t : Interval) → Decides (is_same_span s t) (s ≡ t)
 is_same_span-Decides s t = (
   is_same_span-tells s t,

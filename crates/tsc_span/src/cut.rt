@@ -33,7 +33,7 @@ impl<'a> Cut<'a> {
         }
     }
 
-    /// Whether two places are the same.
+    /// Whether two places are equal.
     pub(crate) fn is_same(self, other: Cut<'a>) -> bool
         ensures { result ≡ is_same_cut (cut_of self.entry) (cut_of other.entry) }
     {

@@ -44,8 +44,8 @@ impl Model for Key {
 }
 
 impl Key {
-    /// A copy of `bytes` as a key; more than 4096 bytes are [`SpanFault::KeyTooLong`]. It takes as
-    /// much memory as there are bytes, and asks for none where they are too many.
+    /// A copy of `bytes` as a key; more than 4096 bytes are [`SpanFault::KeyTooLong`]. The copy
+    /// takes as much memory as the key has bytes. For too many bytes no memory is asked for.
     pub fn new(alloc: Global, bytes: &[u8]) -> Result<Key, SpanFault>
         ensures value { IfOk result (λ key. key ≡ bytes.now) }
         ensures refused { IsErrOf result SpanFault.KeyTooLong ↔ (longest_key < length bytes.now) }

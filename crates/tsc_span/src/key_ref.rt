@@ -63,7 +63,7 @@ impl<'a> KeyRef<'a> {
 }
 
 impl Key {
-    /// The same key over the bytes that this one has.
+    /// The key as a [`KeyRef`] over its own bytes, of which none is copied.
     pub fn borrowed(&self) -> KeyRef<'_>
         ensures { result ≡ self.now }
     {

@@ -37,7 +37,7 @@ pub fn tells_same_key(a: &Key, b: &Key) -> bool
     a == b
 }
 
-/// `==` on spans says whether they are the same span, however they were made.
+/// `==` on spans says whether they are one span, however each was made.
 pub fn tells_same_span(a: &Span, b: &Span) -> bool
     ensures { IsTrue result ↔ (a.now ≡ b.now) }
 {

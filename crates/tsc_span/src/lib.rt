@@ -1,10 +1,10 @@
 //! Keys, and the spans of keys that reads of a store touch.
 //!
 //! A [`Key`] is a text of bytes. A [`Cut`] is a place right before or right after a key, or above
-//! all keys, and a [`Span`] lies between two cuts or is empty. They restate the bounds of
+//! all keys, and a [`Span`] lies between two cuts or is empty. Cuts restate the bounds of
 //! CockroachDB's `pkg/kv/kvserver/tscache`: `intervalSkl.AddRange` takes two keys with flags that
-//! exclude either, and no second key means no end. A [`SpanRef`] is the same over bytes that lie
-//! elsewhere, for lookups. An [`AddSpan`] is it for Adds, over keys that are each a [`KeyRef`].
+//! exclude either, and no second key means no end. A [`SpanRef`] is a span for lookups, over bytes
+//! that lie elsewhere. An [`AddSpan`] is a span for Adds, over keys that are each a [`KeyRef`].
 //!
 //! Only [`Key::new`], [`KeyRef::to_key`] and the two `try_copy` take memory.
 #![tactic(auto)]

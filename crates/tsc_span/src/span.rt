@@ -155,7 +155,7 @@ impl Span {
         }
     }
 
-    /// The same span over the keys that this one has.
+    /// The span as a [`SpanRef`] for a lookup, over its own keys, of which none is copied.
     pub fn borrowed(&self) -> SpanRef<'_>
         ensures { result ≡ self.now }
     {
@@ -165,7 +165,7 @@ impl Span {
         }
     }
 
-    /// The same span for an Add, over the keys that this one has.
+    /// The span as an [`AddSpan`] for an Add, over its own keys, of which none is copied.
     pub fn for_add(&self) -> AddSpan<'_>
         ensures { result ≡ self.now }
     {
@@ -275,7 +275,7 @@ fn cost_of(key: Option<&Key>) -> u32
     }
 }
 
-/// Two spans are equal where they begin and stop at the same places, or both are empty.
+/// Two spans are equal where their starts and their stops are equal, or both are empty.
 impl PartialEq for Span {
     ghost eq = { is_same_span };
 

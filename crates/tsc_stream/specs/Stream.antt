@@ -1,4 +1,4 @@
--- What is told of a reader and a writer that may be called a bounded number of times, and of a
+-- What is known of a reader and a writer that may be called a bounded number of times, and of a
 -- whole input and output.
 use Rattle.std.specs.Prelude.{◌≡◌, ◌≢◌, ◌⊎◌, ℕ, zero, suc, ◌+◌, ◌-◌, ◌<◌, ◌≤◌, List, [], length, take, Bool, true, false, ◌||◌, Option, Result, Ok, Err, IfErr}
 use Rattle.std.specs.declared.io.ErrorKind.{ErrorKind}
@@ -16,15 +16,15 @@ use Rattle.tsc_stream.specs.declared.input.InputFault.TheVariants.{Read, TooLong
 abbrev pub Troubles : Type 0
 Troubles = StreamFault → Bool
 
--- with none
+-- a call may end with no trouble
 abbrev pub no_trouble : Troubles
 no_trouble trouble = false
 
--- with each
+-- a call may end with any trouble
 abbrev pub any_trouble : Troubles
 any_trouble trouble = true
 
--- with a failure alone
+-- a call may end with a failure alone
 abbrev pub only_failures : Troubles
 only_failures Interrupted = false
 only_failures Failed = true
@@ -122,14 +122,13 @@ pub record HasReadWithin (old new : KnownReader) : Type 0 where
   pub consumed : Consumes old.bytes new.bytes read
   pub within : length read ≤ longest_input
 
--- As many reads were made as there might be. Where none may be interrupted, each gave at least one
--- of these bytes.
+-- Each read that was left was made. Where none may be interrupted, each gave at least one of these
+-- bytes.
 pub record HasUsedReads (old new : KnownReader) (read : List ℕ) : Type 0 where
   pub none_left : new.turns ≡ 0
   pub each_gave : old.troubles Interrupted ≡ false → old.turns ≤ length read
 
--- why a read failed after these bytes: one had failed before, or may fail, or as many were made as
--- there might be
+-- why a read failed after these bytes: one had failed before, or may fail, or no read is left
 abbrev pub WhyNotRead : KnownReader → KnownReader → List ℕ → Type 0
 WhyNotRead old new read = (old.phase ≡ phase.Failed) ⊎ (old.troubles Failed ≡ true) ⊎
     HasUsedReads old new read
@@ -167,14 +166,13 @@ pub record HasWritten (old new : KnownWriter) (text : List ℕ) : Type 0 where
   pub troubles : new.troubles ≡ old.troubles
   pub each_took : old.troubles Interrupted ≡ false → old.turns ≤ new.turns + length text
 
--- As many writes were made as there might be. Where none may be interrupted, each took at least one
--- of so many bytes.
+-- Each write that was left was made. Where none may be interrupted, each took at least one of the
+-- `written` bytes.
 pub record HasUsedWrites (old new : KnownWriter) (written : ℕ) : Type 0 where
   pub none_left : new.turns ≡ 0
   pub each_took : old.troubles Interrupted ≡ false → old.turns ≤ written
 
--- why a write failed after so many bytes: one had failed before, or may fail, or as many were made
--- as there might be
+-- why a write failed after a number of bytes: one had failed before, or may fail, or none is left
 abbrev pub WhyNotWritten : KnownWriter → KnownWriter → ℕ → Type 0
 WhyNotWritten old new written = (old.has_failed ≡ true) ⊎ (old.troubles Failed ≡ true) ⊎
     HasUsedWrites old new written

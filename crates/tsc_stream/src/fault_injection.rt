@@ -50,7 +50,7 @@ impl<T> FaultyStream<T> {
         }
     }
 
-    /// Counts a call that has so much to move, and says how much it may move.
+    /// Counts a call that has `len` bytes to move, and says how many it may move.
     fn begin(&mut self, len: usize) -> io::Result<usize> {
         let call = self.calls;
         self.calls = call.saturating_add(1);

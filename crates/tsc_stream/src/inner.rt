@@ -11,7 +11,7 @@ use std::io::{ErrorKind, Read, Write};
 
 /// A reader of `std`, of which it is known with which troubles a read may end.
 pub trait LimitedRead: Read {
-    /// The troubles. They stay the same.
+    /// The troubles, which never change.
     ghost troubles: { Self → Troubles };
 
     /// Reads once. Of an error the kind counts.
@@ -26,7 +26,7 @@ pub trait LimitedRead: Read {
 /// A writer of `std`, of which it is known with which troubles a write may end. One that takes
 /// nothing has failed.
 pub trait LimitedWrite: Write {
-    /// The troubles. They stay the same.
+    /// The troubles, which never change.
     ghost troubles: { Self → Troubles };
 
     /// Writes once. Of an error the kind counts.

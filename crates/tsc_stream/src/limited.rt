@@ -12,8 +12,8 @@ pub(crate) const MOST_TURNS: u32 = 33_554_432;
 /// A reader or a writer of `std` that may be called 33,554,432 times, unless it is made with
 /// another number.
 ///
-/// It fails only where the one inside did, or no call is left. Once a call has failed, or a read
-/// has told the end, the one inside is not asked again.
+/// A call fails only where the one inside did, or no call is left. Once a call has failed, or a
+/// read has told the end, the one inside is not asked again.
 #[derive(Drop)]
 pub struct Limited<T> {
     inner: T,
@@ -41,7 +41,8 @@ impl<T> Limited<T> {
         }
     }
 
-    /// `inner`, which may be called so many times. It is public so that tests reach the last call.
+    /// `inner`, which may be called `turns` times. The function is public so that tests reach the
+    /// last call.
     pub fn with_turns(inner: T, turns: u32) -> Limited<T>
         ensures inner { inner_of result ≡ inner }
         ensures turns { turns_of result ≡ turns }

@@ -6,7 +6,7 @@ pub trait Progress {
     fn made(&self);
 }
 
-/// Makes nothing of it.
+/// Makes nothing of the calls that were made.
 #[derive(Clone, Copy, Debug)]
 pub struct NoProgress;
 

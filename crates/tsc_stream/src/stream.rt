@@ -8,7 +8,7 @@ ghost use Rattle.tsc_stream.specs.Stream.{AfterRead, AfterWrite, IsSpentReader, 
 pub enum StreamFault {
     /// The call was interrupted, and may be made again.
     Interrupted,
-    /// The call failed, or there had been as many as there may be.
+    /// The call failed, or no call was left.
     Failed,
 }
 
@@ -23,7 +23,7 @@ pub enum Phase {
     Failed,
 }
 
-/// A reader that may be called a bounded number of times. Its end is final, and so is a failure.
+/// A reader that may be called a bounded number of times. Its end is final, as is a failure.
 pub trait Source {
     /// What is known of the reader.
     ghost known: { Self → KnownReader };

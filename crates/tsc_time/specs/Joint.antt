@@ -28,7 +28,7 @@ joint v vs = let t = latest v.time vs
 abbrev pub joint_above : Time → List OwnedTime → OwnedTime
 joint_above floor vs = joint (unowned floor) vs
 
--- the ratchet order: w is later, or as late and has no owner or the same one
+-- the ratchet order: w is later than v, or as late and has no owner or that of v
 abbrev pub IsAtMost : OwnedTime → OwnedTime → Type 0
 IsAtMost v w = IsTrue (is_before v.time w.time) ⊎
     ((v.time ≡ w.time) × ((w.owner ≡ None) ⊎ (w.owner ≡ v.owner)))

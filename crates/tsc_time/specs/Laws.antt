@@ -24,7 +24,7 @@ pub record IsLeastAbove : Type 0 where
   pub least : (v : OwnedTime) (vs : List OwnedTime) (u : OwnedTime) →
       ((x : OwnedTime) → Contains (v ∷ vs) x → IsAtMost x u) → IsAtMost (joint v vs) u
 
--- lists of the same values, in whatever order and however often, have one joint value
+-- lists that hold one set of values, in whatever order and however often, have one joint value
 abbrev pub SameJoint : Type 0
 SameJoint = (v w : OwnedTime) (vs ws : List OwnedTime) →
     ((x : OwnedTime) → Contains (v ∷ vs) x ↔ Contains (w ∷ ws) x) → joint v vs ≡ joint w ws

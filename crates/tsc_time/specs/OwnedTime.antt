@@ -22,7 +22,7 @@ unowned t = record { time = t; owner = None }
 abbrev pub owner_of : List ℕ → Option Owner
 owner_of uuid = if is_nil_bytes uuid then None else Some uuid
 
--- whether two name the same owner, or neither names one
+-- whether two name one owner, or neither names any
 abbrev pub is_same_owner : Option Owner → Option Owner → Bool
 is_same_owner None None = true
 is_same_owner None (Some b) = false

@@ -25,7 +25,7 @@ time_cmp a b = ordering_then (nat_cmp a.wall b.wall) (nat_cmp a.logical b.logica
 abbrev pub is_before : Time → Time → Bool
 is_before a b = is_lt (time_cmp a b)
 
--- whether both parts of two are the same
+-- whether two timestamps are equal in both parts
 abbrev pub is_same_time : Time → Time → Bool
 is_same_time a b = (a.wall == b.wall) && (a.logical == b.logical)
 
@@ -33,7 +33,7 @@ is_same_time a b = (a.wall == b.wall) && (a.logical == b.logical)
 abbrev pub later : Time → Time → Time
 later a b = if is_before a b then b else a
 
--- a timestamp that many nanoseconds earlier, with the same logical count, where there is one
+-- the timestamp `ns` nanoseconds before t, with an equal logical count, where there is one
 abbrev pub time_minus : Time → ℕ → Option Time
 time_minus t ns = if nat_le ns t.wall then Some (record { wall = t.wall - ns; logical = t.logical })
     else None

@@ -70,8 +70,8 @@ impl Timestamp {
         self.logical
     }
 
-    /// The timestamp `ns` nanoseconds earlier, with the same logical count, or `None` where the
-    /// wall time would fall below 0.
+    /// The timestamp `ns` nanoseconds earlier, with an equal logical count; `None` where the wall
+    /// time would fall below 0.
     pub const fn minus(self, ns: u64) -> Option<Timestamp>
         ensures { result ≡ time_minus self ns }
     {

@@ -141,7 +141,7 @@ fn small_bytes(bytes: &[u8]) -> &[u8]
     bytes
 }
 
-/// Whether two UUIDs are the same. They are compared as numbers, for the same reason.
+/// Whether two UUIDs are equal, by one comparison as numbers.
 fn same_uuid(a: Uuid, b: Uuid) -> bool
     ensures { result ≡ bytes_eq a b }
 {
@@ -150,7 +150,7 @@ fn same_uuid(a: Uuid, b: Uuid) -> bool
     a.as_u128() == b.as_u128()
 }
 
-/// Whether two name the same owner, or neither names one.
+/// Whether two name one owner, or neither names any.
 fn same_owner(a: Option<Uuid>, b: Option<Uuid>) -> bool
     ensures { result ≡ is_same_owner a b }
 {

@@ -16,7 +16,7 @@ use Rattle.tsc_trace.specs.declared.log.CallAnswer.TheVariants as said
 abbrev pub made : Settings → CacheState → Addition → Stepped
 made settings s a = step_all settings s a.marks a.now
 
--- what a call answers in a state, where so many Adds came before
+-- what a call answers in a state, where `front` Adds came before
 abbrev pub said_in : Settings → CacheState → ℕ → Call → CallAnswer
 said_in settings s front (Add span value now) =
     said.Add front (made settings s (one_mark span value now)).added

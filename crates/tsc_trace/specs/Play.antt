@@ -13,7 +13,7 @@ pub record Standing : Type 0 where
   pub state : CacheState
   pub adds : ℕ
 
--- what a call answers there
+-- what a call answers where a replay stands
 abbrev pub said_at : Settings → Standing → Call → CallAnswer
 said_at settings at call = said_in settings at.state at.adds call
 
@@ -25,11 +25,11 @@ with_made settings at (Some a) = record {
   adds = suc at.adds;
 }
 
--- after a call
+-- where the replay stands after a call
 abbrev pub next : Settings → Standing → Call → Standing
 next settings at call = with_made settings at (addition_of call)
 
--- after some calls
+-- where the replay stands after some calls
 abbrev pub next_all : Settings → Standing → List Call → Standing
 next_all settings at [] = at
 next_all settings at (call ∷ calls) = next_all settings (next settings at call) calls

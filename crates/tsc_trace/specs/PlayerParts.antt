@@ -6,7 +6,7 @@ use Rattle.tsc_trace_format.specs.declared.trace.Call.{Call}
 use Rattle.tsc_trace.specs.Play.{Standing, next_all}
 use Rattle.tsc_trace.specs.declared.player.Player.{Player}
 
--- its cache stands for the state, and it has made as many Adds
+-- a player stands where its cache stands for the state, and its count of Adds is that of `at`
 pub record StandsAt (p : Player) (settings : Settings) (at : Standing) : Type 0 where
   pub state : RepresentsState p.cache settings at.state
   pub adds : p.adds ≡ at.adds

@@ -150,7 +150,8 @@ pub fn play(alloc: Global, trace: &Trace) -> Result<Log, NoMemory>
     play_with_progress(alloc, trace, &NoProgress)
 }
 
-/// The same log, of which each call is told as soon as it was made.
+/// The log of a trace, as [`play`] makes it. `progress` is told of each call as soon as it was
+/// made.
 pub fn play_with_progress<P: Progress>(
     alloc: Global,
     trace: &Trace,

@@ -241,7 +241,7 @@ pub fn replay_stream<R: Source, W: Sink>(
     replay_stream_with_progress(alloc, reader, writer, &NoProgress)
 }
 
-/// The same, where each call of the trace is told as soon as it was made.
+/// Replays as [`replay_stream`] does. `progress` is told of each call as soon as it was made.
 pub fn replay_stream_with_progress<R: Source, W: Sink, P: Progress>(
     alloc: Global,
     reader: &mut R,

@@ -51,7 +51,7 @@ pub record KeepsCall (found : Members) (parts : CallParts) : Type 0 where
   pub marks : Keeps marks_of (codes "marks") found parts.marks
   pub now : Keeps time_of (codes "now") found parts.now
 
--- ---- lists, of which each item is read in the same way
+-- ---- lists, of which each item is read in one way
 
 -- what each of these JSON values is read as
 unfoldable pub each : {A : Type 0} → (Data → Part A) → List Data → Part (List A)
@@ -61,7 +61,7 @@ each f (d ∷ ds) = do
   xs ← each f ds
   Ok (x ∷ xs)
 
--- the items of an array, each read in the same way
+-- the items of an array, each read in one way
 abbrev pub list_of : {A : Type 0} → (Data → Part A) → Data → Part (List A)
 list_of f d = array_of d >>= each f
 
@@ -75,7 +75,7 @@ threads_in d = do
   threads ← at_call 0 (list_of call_list d)
   where_holds Config (fits_trace threads) threads
 
--- whether all of them fit a page
+-- whether all calls of some lists fit a page
 abbrev pub each_fits : Settings → List (List Call) → Bool
 each_fits settings threads = list_all (λ calls. list_all (call_fits settings) calls) threads
 

@@ -18,7 +18,7 @@ pub record Reads (deep : ℕ) (old : List Token) (d : Data) (new : List Token) :
 abbrev pub Got : {A F : Type 0} → ℕ → (Data → Result A F) → List Token → A → List Token → Type 0
 Got deep f old x new = (d : Data) × Reads deep old d new × (f d ≡ Ok x)
 
--- these items, and then the rest
+-- the values of a list as items, and then the rest
 abbrev pub prepend : List Data → Items → Items
 prepend [] rest = rest
 prepend (d ∷ ds) rest = item d (prepend ds rest)

@@ -19,7 +19,8 @@ abbrev pub Gives : {X Y : Type 0} → (X → Y) → Result X Refusal → Part Y 
 Gives view (Ok x) read = read ≡ Ok (view x)
 Gives view (Err e) read = Refuses e read
 
--- The same of what is read with the numbers of calls.
+-- What a reader returned whose faults have the numbers of calls, seen by a view, is what the
+-- definition reads, unless memory ran out.
 abbrev pub Tells : {X Y : Type 0} → (X → Y) → Result X TraceFault → Result Y TraceFault → Type 0
 Tells view (Ok x) read = read ≡ Ok (view x)
 Tells view (Err fault) read = (fault ≡ NoMemory) ⊎ (read ≡ Err fault)

@@ -11,9 +11,9 @@ use Rattle.tsc_trace_format.specs.TraceData.{trace_data, IsMadeTrace}
 abbrev pub ReadsWhatIsWritten : Type 0
 ReadsWhatIsWritten = (trace : Trace) → IsMadeTrace trace → trace_of (trace_data trace) ≡ Ok trace
 
--- JSON values that are the same but for the order of members, of any object in them, are read as
--- the same: as spans, as calls and as traces, and so are texts that hold such values. Objects in
--- which each name finds the same are such values.
+-- JSON values that differ only in the order of members, of any object in them, are read alike: as
+-- spans, as calls and as traces. Texts that hold such values are read alike too. Objects in which
+-- each name finds equal values are such values.
 pub record ReadsInAnyOrder : Type 0 where
   pub spans : (d e : Data) → IsReordered d e → span_form d ≡ span_form e
   pub calls : (d e : Data) → IsReordered d e → call_of d ≡ call_of e

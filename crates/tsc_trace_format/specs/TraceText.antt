@@ -55,7 +55,7 @@ unsigned_of d = do
   n ← ok_or (as_number d) Shape
   ok_or (as_u64 n) Number
 
--- such a number, below a limit
+-- a number that serde_json keeps as an unsigned integer, below a limit
 unfoldable pub number_below : ℕ → Data → Part ℕ
 number_below limit d = do
   n ← unsigned_of d
@@ -76,7 +76,7 @@ only_named names ms = where_holds Shape (names_only names ms) ms
 unfoldable pub needed : List ℕ → Members → Part Data
 needed name ms = ok_or (get_member name ms) Shape
 
--- such a member, as what it is read as
+-- a member that has to be there, as what it is read as
 abbrev pub needed_as : {A : Type 0} → List ℕ → (Data → Part A) → Members → Part A
 needed_as name f ms = needed name ms >>= f
 
@@ -363,7 +363,7 @@ abbrev pub page_sizes : Members → Part (ℕ × ℕ)
 page_sizes ms = both (needed_as (codes "page_first") (number_below (2 ^ 32)) ms)
     (needed_as (codes "page_max") (number_below (2 ^ 32)) ms)
 
--- these two, and `min_pages`
+-- `page_first`, `page_max` and `min_pages`
 abbrev pub page_numbers : Members → Part ((ℕ × ℕ) × ℕ)
 page_numbers ms = both (page_sizes ms) (needed_as (codes "min_pages") (number_below (2 ^ 32)) ms)
 

@@ -1,5 +1,5 @@
--- Proves the contract of `ask_all`. The next holder is asked for all of them, and tells at which
--- times these may be laid down, in their order.
+-- Proves the contract of `ask_all`. Asks the next holder for all writes, in their order. The holder
+-- tells for each write at which time it may be laid down.
 use Rattle.std.proofs.Common.{drop, slice_index_or, ◌+◌}
 use Rattle.example_hand_over.specs.Answered.{IsPushed}
 use Rattle.timestamp_cache.proofs.Rows.{one_more_made, all_made, left_at, none_left}

@@ -1,4 +1,5 @@
--- Proves the contract of `ask_on`. The same question, where this is the span of its key.
+-- Proves the contract of `ask_on`. Asks the next holder for a write whose key has this span. The
+-- holder tells at which time the write may be laid down.
 use Rattle.std.proofs.Common.{rules}
 use Rattle.timestamp_cache.specs.Words.{Time, cache_answer}
 use Rattle.timestamp_cache.specs.Clear.{IsClearOf}

@@ -1,5 +1,5 @@
--- Proves the contract of `next_of`. The next holder, who has answered nothing, and takes over what
--- the former one tells in so many marks at the most.
+-- Proves the contract of `next_of`. Makes the next holder, who has answered nothing. That holder
+-- takes over what the former one tells in at most `most` marks.
 use Rattle.std.proofs.Common.{subst}
 use Rattle.timestamp_cache.specs.Words.{CacheView}
 use Rattle.example_hand_over.specs.FormerReads.{TellsOfCache}

@@ -1,5 +1,5 @@
--- Proves the contract of `all_do`. Has all threads do the same at once, and prints what they tell,
--- in their order.
+-- Proves the contract of `all_do`. Has all threads take a turn at once. Then it prints what the
+-- threads tell, in their order.
 use Rattle.std.proofs.lemmas.Result.{IfOk-weaker}
 use Rattle.example_lease_holder.proofs.Turns.{have_told}
 use Rattle.example_lease_holder.proofs.all_do.Goals as goal

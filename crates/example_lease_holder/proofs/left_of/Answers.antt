@@ -1,4 +1,4 @@
--- Proves the contract of `left_of`. The threads are over.
+-- Proves the contract of `left_of`. The threads are over: what is left of each.
 use Rattle.std.proofs.Common.{refl, rules}
 use Rattle.example_lease_holder.specs.Turns.{IsLeftOf}
 use Rattle.timestamp_cache.proofs.Rows.{nothing_made, one_more_made, all_made}

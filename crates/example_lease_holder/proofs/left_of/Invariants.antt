@@ -1,4 +1,4 @@
--- Proves the loop invariants of `left_of`. The threads are over.
+-- Proves the loop invariants of `left_of`. The threads are over: what is left of each.
 use Rattle.example_lease_holder.specs.Turns.{IsLeftOf}
 use Rattle.timestamp_cache.proofs.Rows.{IsPartWay}
 use Rattle.example_lease_holder.proofs.left_of.Given as goal

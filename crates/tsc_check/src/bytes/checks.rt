@@ -18,7 +18,7 @@ use tsc_trace::{Log, ReplayFault, read_log};
 /// Checks a log against its trace, and gives the line of the verdict; or why the bytes are no
 /// trace, or no log.
 ///
-/// It takes the memory of both, and of a cache, which is freed when it returns.
+/// The check takes the memory of both, and of a cache, which is freed when the call returns.
 pub fn check_bytes(alloc: Global, trace: &[u8], log: &[u8]) -> Result<Outcome, NoMemory>
     ensures { IfOk result (λ outcome. SaysOfCheck trace.now log.now outcome) }
 {

@@ -15,8 +15,8 @@ pub(crate) const LONGEST_TEXT: usize = 16_777_216;
 
 /// Replays a trace on one thread, and gives the text of its log; or why the bytes are no trace.
 ///
-/// It takes the memory of the trace, of a cache and of the log, of which the trace is freed when it
-/// returns.
+/// The replay takes the memory of the trace, of a cache and of the log, of which the trace is freed
+/// when the call returns.
 pub fn replay_bytes(alloc: Global, trace: &[u8]) -> Result<Outcome, NoMemory>
     ensures { IfOk result (λ outcome. SaysOfReplay trace.now outcome) }
 {

@@ -57,7 +57,7 @@ impl<'a> CallParts<'a> {
         Some(())
     }
 
-    /// The Add that they are, which takes the span.
+    /// The Add that the members are. The span is taken out of them.
     fn add(&mut self) -> Option<Call>
         ensures { IfSome result (λ call. (found : Members) → KeepsCall found self.old →
             add_of found ≡ Ok call) }
@@ -72,7 +72,7 @@ impl<'a> CallParts<'a> {
         Some(Call::Add { span, value, now })
     }
 
-    /// The batch that they are, which takes the marks.
+    /// The batch that the members are. The marks are taken out of them.
     fn batch(&mut self) -> Option<Call>
         ensures { IfSome result (λ call. (found : Members) → KeepsCall found self.old →
             batch_of found ≡ Ok call) }
@@ -85,7 +85,7 @@ impl<'a> CallParts<'a> {
         Some(Call::Batch { marks, now })
     }
 
-    /// The lookup that they are, which takes the span.
+    /// The lookup that the members are. The span is taken out of them.
     fn get(&mut self) -> Option<Call>
         ensures { IfSome result (λ call. (found : Members) → KeepsCall found self.old →
             get_of found ≡ Ok call) }
@@ -102,7 +102,7 @@ impl<'a> CallParts<'a> {
         Some(Call::Get { span })
     }
 
-    /// The call for the floor that they are.
+    /// The call for the floor that the members are.
     fn low(&self) -> Option<Call>
         ensures { IfSome result (λ call. (found : Members) → KeepsCall found self.entry.now →
             low_of found ≡ Ok call) }
@@ -118,7 +118,7 @@ impl<'a> CallParts<'a> {
         Some(Call::Low)
     }
 
-    /// The call that they are, which takes what it has of them.
+    /// The call that the members are. What the call has is taken out of them.
     fn call(&mut self) -> Option<Call>
         ensures { IfSome result (λ call. (found : Members) → KeepsCall found self.old →
             call_of (object found) ≡ Ok call) }

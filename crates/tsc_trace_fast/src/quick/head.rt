@@ -63,7 +63,7 @@ fn list_fits(config: &Config, calls: &[Call]) -> bool
     true
 }
 
-/// Whether each call of these lists does.
+/// Whether each call of some lists fits the pages of a configuration.
 fn all_fit(config: &Config, lists: &[Vec<Call>]) -> bool
     ensures { result ≡ each_fits config.now (map (λ calls. calls.items) lists.now) }
 {
@@ -105,7 +105,7 @@ impl HeadParts {
         Some(())
     }
 
-    /// The trace that they are, which takes the lists. Whether its calls fit is judged only here,
+    /// The trace of the members, which takes the lists. Whether its calls fit is judged only here,
     /// since `page_max` may stand behind them.
     fn trace(&mut self) -> Option<Trace>
         ensures { IfSome result (λ trace. (found : Members) → KeepsHead found self.old →

@@ -25,7 +25,7 @@ fn owner_by_text(text: &str) -> Option<Uuid>
     Uuid::parse_str(text).ok()
 }
 
-/// The name of an owner. The nil UUID stands for none, and so does null.
+/// The name of an owner. The nil UUID stands for none, as does null.
 pub(super) fn owner(reader: &mut Reader<'_>) -> Option<Uuid>
     ensures { IfSome result (λ name. Got 0 owner_there reader.old (owner_of name) reader.new) }
 {
@@ -60,7 +60,7 @@ impl MarkParts {
         Some(())
     }
 
-    /// The mark that they are.
+    /// The mark that the members are.
     fn mark(self) -> Option<Mark>
         ensures { IfSome result (λ mark. (found : Members) → KeepsMark found self →
             mark_of (object found) ≡ Ok mark) }

@@ -74,7 +74,7 @@ impl SpanParts {
         Some(())
     }
 
-    /// The form that they are.
+    /// The form that the members are.
     fn form(self) -> Option<SpanForm>
         ensures { IfSome result (λ form. (found : Members) → KeepsSpan found self →
             form_in found ≡ Ok form) }

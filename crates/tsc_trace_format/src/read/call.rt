@@ -64,7 +64,7 @@ fn owner_by_text(text: &str) -> Result<Uuid, Refusal>
     }
 }
 
-/// The name of an owner. The nil UUID stands for none, and so does null.
+/// The name of an owner. The nil UUID stands for none, as does null.
 fn owner_name(value: &Value) -> Result<Uuid, Refusal>
     ensures { Gives (λ name. owner_of name) result (owner_member (Some (view value.now))) }
 {

@@ -1,4 +1,4 @@
--- Proves the contract of `Worker::read`. Reads a key at a time, while its latch is held.
+-- Proves the contract of `Worker::read`. Reads the keys of its transaction, one after another.
 use Rattle.std.proofs.Common.{◌∙◌, arith}
 use Rattle.tsc_cache.proofs.Beginnings.{begins_on}
 use Rattle.example_lease_holder.proofs.Plans.{one_read_more}

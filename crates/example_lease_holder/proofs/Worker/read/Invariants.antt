@@ -1,4 +1,5 @@
--- Proves the loop invariants of `Worker::read`. Reads a key at a time, while its latch is held.
+-- Proves the loop invariants of `Worker::read`. Reads the keys of its transaction, one after
+-- another.
 use Rattle.std.proofs.Common.{◌≡◌, ◌+◌, length}
 use Rattle.timestamp_cache.specs.Words.{BeginsWith}
 use Rattle.example_lease_holder.specs.Reads.{since}

@@ -1,5 +1,5 @@
--- Proves the contract of `taken_over`. A new cache that takes over what a summary of another one
--- tells of a span, in at most so many marks.
+-- Proves the contract of `taken_over`. Makes a new cache that takes over what a summary of another
+-- one tells of a span. The summary has at most `most` marks.
 use Rattle.std.proofs.Common.{◌≡◌, subst, inr, false}
 use Rattle.std.specs.Prelude.{◌↔◌, Ok, IsErrOf}
 use Rattle.tsc_cache.specs.Batch.{all_fit}

@@ -1,4 +1,4 @@
--- Proves the loop invariants of `same_rows`. Whether some rows are the same.
+-- Proves the loop invariants of `same_rows`. Tells whether two lists of rows are equal.
 use Rattle.std.proofs.Common.{◌≡◌, take}
 use Rattle.mvcc_versions.proofs.rows.same_rows.Given as goal
 

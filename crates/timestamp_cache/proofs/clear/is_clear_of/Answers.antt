@@ -1,5 +1,5 @@
--- Proves the contract of `is_clear_of`. Whether a write of a transaction at some time is clear of a
--- read, or of what a lookup answers.
+-- Proves the contract of `is_clear_of`. Whether a write of a transaction at the time `at` is clear
+-- of a read, or of what a lookup answers.
 use Rattle.std.proofs.Common.{rules}
 use Rattle.timestamp_cache.proofs.clear.is_clear_of.Goals as goal
 

@@ -1,4 +1,4 @@
--- Proves the contract of `owned`. The same span, with keys of its own.
+-- Proves the contract of `owned`. Makes the span between two cuts, with keys of its own.
 use Rattle.std.proofs.Common.{◌∙◌, rules}
 use Rattle.tsc_span.specs.Cuts.{cut_of}
 use Rattle.timestamp_cache.proofs.Walking.{between_own_keys}

@@ -1,5 +1,5 @@
--- Proves the contract of `summary`. What is told of the reads of a span by a cache, in no more than
--- so many marks.
+-- Proves the contract of `summary`. Summarizes what a cache answers on a span, in at most `most`
+-- marks.
 use Rattle.std.proofs.Common.{rules}
 use Rattle.timestamp_cache.proofs.hand_over.summary.Goals as goal
 

@@ -1,4 +1,4 @@
--- The earliest time for so many spans.
+-- Proves the loop invariants of `earliest_write`. A time stands for the spans that were asked of.
 use Rattle.timestamp_cache.specs.Earliest.{IsEarliest}
 use Rattle.timestamp_cache.proofs.Earliest.{ClearOfFirst}
 use Rattle.timestamp_cache.proofs.writes.earliest_write.Given as goal

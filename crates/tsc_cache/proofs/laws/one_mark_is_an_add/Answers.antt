@@ -1,5 +1,5 @@
--- Adding a list of one mark makes of all that can be seen of a cache what an Add of that mark
--- makes, and answers the same.
+-- An Add of a list of one mark changes a cache as an Add of that mark does, in all that can be
+-- seen. Both Adds give one answer.
 use Rattle.tsc_cache.proofs.Batches.{one_mark_is_an_add}
 use Rattle.tsc_cache.proofs.laws.one_mark_is_an_add.Goals as goal
 

@@ -1,4 +1,4 @@
--- Chunks behind so many pages go, and then what stands behind them in the last one.
+-- Chunks behind the pages that stay go, and then what stands behind these pages in the last chunk.
 use Rattle.std.proofs.Common.{◌≡◌, ◌⊎◌, ◌∙◌, refl, sym, ap, subst, ◌/◌, ◌%◌, length, map, take, get_or, arith}
 use Rattle.std.proofs.lemmas.List.{length-map, take-map, map-set}
 use Rattle.std.proofs.Math.ListN.{get_or-map, set}

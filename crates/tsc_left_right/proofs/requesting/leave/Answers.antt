@@ -1,5 +1,5 @@
--- Proves the contract of `leave`. Withdraws the Add that the seat asks for, by its bit of HEAD: it
--- is in no history then.
+-- Proves the contract of `leave`. Withdraws the Add that the seat asks for, unless it was answered
+-- before.
 use Rattle.std.proofs.Common.{◌≡◌, ◌≢◌, ◌∙◌, ◌+◌, ◌-◌, ap, sym, arith}
 use Rattle.std.specs.Prelude.{bit_and, bit_or}
 use mathlib.Core.Option as maybe

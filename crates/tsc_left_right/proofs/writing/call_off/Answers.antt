@@ -1,5 +1,5 @@
--- Proves the contract of `call_off`. Takes what the writer works with out of its slot, behind so
--- many handles and so many replies, and sends back all that was collected.
+-- Proves the contract of `call_off`. Takes what the writer works with out of its slot, behind
+-- `seats` handles and `count` replies. Then it sends back all that was collected.
 use Rattle.std.proofs.Common.{◌∙◌, sym, ap, ◌∷◌}
 use Rattle.atomic_table.specs.Table.{rest}
 use Rattle.tsc_left_right.specs.declared.table.Slot.TheVariants.{Empty}

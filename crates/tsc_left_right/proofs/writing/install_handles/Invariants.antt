@@ -1,5 +1,5 @@
--- Proves the loop invariants of `install_handles`. Lays a handle on this cache, which is after so
--- many Adds, into each slot that was cleared.
+-- Proves the loop invariants of `install_handles`. Lays a handle on this cache, which has had
+-- `adds` Adds, into each slot that was cleared.
 use Rattle.std.proofs.Common.{◌≡◌}
 use Rattle.std.specs.Arc.{arc_value}
 use Rattle.tsc_left_right.proofs.InstallCalls.{Installs}

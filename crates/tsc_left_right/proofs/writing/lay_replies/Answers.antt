@@ -1,5 +1,5 @@
--- Proves the contract of `lay_replies`. Lays a reply into the slot of each request that was made,
--- the last first.
+-- Proves the contract of `lay_replies`. Lays a reply into the slot of each request whose Add was
+-- made, the last first.
 use Rattle.std.proofs.Common.{◌≡◌, ◌∙◌, ◌-◌, refl, sym, ap, length, take, arith}
 use Rattle.tsc_left_right.proofs.Replying.{none_answered, last_left, last_first, last_small}
 use Rattle.tsc_left_right.proofs.Replying.{one_answered, all_answered}

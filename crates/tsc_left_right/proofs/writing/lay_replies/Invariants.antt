@@ -1,5 +1,5 @@
--- Proves the loop invariants of `lay_replies`. Lays a reply into the slot of each request that was
--- made, the last first.
+-- Proves the loop invariants of `lay_replies`. Lays a reply into the slot of each request whose Add
+-- was made, the last first.
 use Rattle.std.proofs.Common.{◌≡◌, ◌-◌, length, take}
 use Rattle.tsc_left_right.proofs.Replying.{Answers}
 use Rattle.tsc_left_right.proofs.writing.lay_replies.Given as goal

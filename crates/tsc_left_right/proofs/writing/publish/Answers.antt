@@ -1,5 +1,5 @@
--- Proves the contract of `publish`. Makes the writer's own Add, if there is one, and then all that
--- it has collected, in that order.
+-- Proves the contract of `publish`. Publishes the writer's own Add, if there is one, and then all
+-- that it has collected. If a seat has left, it publishes nothing.
 use Rattle.std.proofs.Common.{◌∙◌, refl, ap, arith}
 use Rattle.std.specs.Prelude.{bit_xor}
 use mathlib.Core.Option as maybe

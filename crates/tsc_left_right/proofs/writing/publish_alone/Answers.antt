@@ -1,5 +1,5 @@
--- Proves the contract of `publish_alone`. Makes the writer's own Add, if there is one, where it has
--- collected nothing.
+-- Proves the contract of `publish_alone`. Publishes the writer's own Add, if there is one, where
+-- the writer has collected nothing.
 use Rattle.std.proofs.Common.{◌∙◌, refl, ap, arith}
 use Rattle.std.specs.Prelude.{bit_xor}
 use mathlib.Core.Option as maybe

@@ -1,4 +1,4 @@
--- Proves the contract of `turn_past`. The first so many slots in hand go behind the others.
+-- Proves the contract of `turn_past`. Puts the first `count` slots in hand behind the others.
 use Rattle.std.proofs.Common.{◌∙◌, arith}
 use Rattle.tsc_left_right.proofs.HandsTurned.{turned_more, turned_all}
 use Rattle.tsc_left_right.proofs.writing.turn_past.Goals as goal

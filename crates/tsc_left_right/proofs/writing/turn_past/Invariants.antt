@@ -1,4 +1,5 @@
--- Proves the loop invariants of `turn_past`. The first so many slots in hand go behind the others.
+-- Proves the loop invariants of `turn_past`. Puts the first `count` slots in hand behind the
+-- others.
 use Rattle.std.proofs.Common.{◌≡◌}
 use Rattle.tsc_left_right.specs.Writing.{rotated}
 use Rattle.tsc_left_right.proofs.writing.turn_past.Given as goal

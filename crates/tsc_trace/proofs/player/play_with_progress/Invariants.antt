@@ -1,5 +1,5 @@
--- Proves the loop invariants of `play_with_progress`. The same log, of which each call is told as
--- soon as it was made.
+-- Proves the loop invariants of `play_with_progress`. Makes the log of a trace, as `play` does. It
+-- tells `progress` of each call as soon as the call was made.
 use Rattle.std.proofs.Common.{◌≡◌, ◌*◌, ◌≤◌, ◌++◌, drop}
 use Rattle.tsc_trace.specs.Log.{log_of}
 use Rattle.tsc_trace.specs.Play.{Standing, played_lists}

@@ -1,5 +1,5 @@
 -- Proves the loop invariants of `Config::next_size`. The size of a page for a span of this cost,
--- behind one of this size.
+-- behind a page of this size: the first doubling that is at least the cost.
 use Rattle.tsc_cache.proofs.Sizes.{Doubling}
 use Rattle.tsc_cache.proofs.config.Config.next_size.Given as goal
 

@@ -1,6 +1,6 @@
 -- Proves the contract of `OrderedLog::make_add`. Makes the Add of a line, and lowers a line number
--- to that of this line where its answer is another. (What answers share is stated in each: the
--- facts `c` of each goal have a type of their own.)
+-- to that of this line if its answer is another. (What answers share is stated in each: the facts
+-- `c` of each goal have a type of their own.)
 use Rattle.std.proofs.Common.{◌≡◌, sym, subst, refl, length, Some, ap, get_or}
 use Rattle.std.specs.Prelude.{slice_get}
 use Rattle.std.proofs.lemmas.Option.{slice_get_read}

@@ -1,5 +1,5 @@
--- Proves the contract of `SystemFilesFileSystem::open`. Opens the file of a name, to be read from its
--- first byte on.
+-- Proves the contract of `SystemFilesFileSystem::open`. Opens the file of a name, to be read from
+-- its first byte on.
 use Rattle.std.proofs.Common.{◌∙◌, sym, ap}
 use Rattle.tsc_stream.specs.Stream.{any_trouble}
 use Rattle.tsc_commands.specs.FileSystem.{file_of, fresh_file}

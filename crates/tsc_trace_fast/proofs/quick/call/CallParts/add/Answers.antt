@@ -1,4 +1,5 @@
--- Proves the contract of `CallParts::add`. The Add that they are, which takes the span.
+-- Proves the contract of `CallParts::add`. Makes the Add that the members are. It takes the span
+-- out of the members.
 use Rattle.std.proofs.Common.{◌∙◌, ap, sym, Ok}
 use Rattle.std.specs.Prelude.{unwrap_or}
 use Rattle.tsc_time.specs.OwnedTime.{owner_of}

@@ -1,4 +1,5 @@
--- Proves the contract of `CallParts::batch`. The batch that they are, which takes the marks.
+-- Proves the contract of `CallParts::batch`. Makes the batch that the members are. It takes the
+-- marks out of the members.
 use Rattle.std.proofs.Common.{◌∙◌, sym}
 use Rattle.tsc_trace_fast.proofs.CallMembers.{batch_is, not_there}
 use Rattle.tsc_trace_fast.proofs.quick.call.CallParts.batch.Goals as goal

@@ -1,5 +1,5 @@
--- Proves the contract of `CallParts::call`. The call that they are, which takes what it has of
--- them.
+-- Proves the contract of `CallParts::call`. Makes the call that the members are. It takes what the
+-- call has out of the members.
 use Rattle.tsc_trace_fast.proofs.CallMembers.{is_add, is_batch, is_get, is_low}
 use Rattle.tsc_trace_fast.proofs.quick.call.CallParts.call.Goals as goal
 

@@ -1,4 +1,5 @@
--- Proves the contract of `CallParts::get`. The lookup that they are, which takes the span.
+-- Proves the contract of `CallParts::get`. Makes the lookup that the members are. It takes the span
+-- out of the members.
 use Rattle.std.proofs.Common.{◌∙◌, ap, sym, Ok}
 use Rattle.tsc_trace_format.specs.declared.trace.Call.TheVariants.{Get}
 use Rattle.tsc_trace_fast.proofs.CallMembers.{get_is, not_there}

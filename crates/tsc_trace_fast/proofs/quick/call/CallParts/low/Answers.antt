@@ -1,4 +1,4 @@
--- Proves the contract of `CallParts::low`. The call for the floor that they are.
+-- Proves the contract of `CallParts::low`. Makes the call for the floor that the members are.
 use Rattle.tsc_trace_fast.proofs.CallMembers.{low_is, not_there}
 use Rattle.tsc_trace_fast.proofs.quick.call.CallParts.low.Goals as goal
 

@@ -1,4 +1,5 @@
--- Proves the contract of `HeadParts::trace`. The trace that they are, which takes the lists.
+-- Proves the contract of `HeadParts::trace`. Makes the trace that the members are. It takes the
+-- lists out of the members.
 use Rattle.std.proofs.Common.{◌≡◌, true, sym, ap, ◌∙◌}
 use Rattle.tsc_trace_fast.specs.Kept.{each_fits}
 use Rattle.tsc_trace_fast.proofs.HeadMembers.{trace_is, asked_ok}

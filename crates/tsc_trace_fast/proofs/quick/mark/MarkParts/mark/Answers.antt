@@ -1,4 +1,4 @@
--- Proves the contract of `MarkParts::mark`. The mark that they are.
+-- Proves the contract of `MarkParts::mark`. Makes the mark that the members are.
 use Rattle.std.proofs.Common.{◌∙◌, ap, sym, Ok}
 use Rattle.std.specs.Prelude.{unwrap_or}
 use Rattle.tsc_time.specs.OwnedTime.{owner_of}

@@ -1,4 +1,4 @@
--- Proves the contract of `SpanParts::form`. The form that they are.
+-- Proves the contract of `SpanParts::form`. Makes the form of a span that the members are.
 use Rattle.tsc_trace_fast.proofs.SpanMembers.{form_start, form_start_to_end, form_range, form_onward}
 use Rattle.tsc_trace_fast.proofs.quick.span.SpanParts.form.Goals as goal
 
