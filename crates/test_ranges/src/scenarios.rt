@@ -18,9 +18,10 @@ use mvcc_range::{Outcome, Range, RangeError, Reason, Transaction, Write};
 use mvcc_shared::SharedRange;
 use std::alloc::{AllocGlobal, Global};
 use std::fmt::InlineText;
+use std::str;
 use std::sync::Wait;
 use std::test::Fail;
-use std::{array, str};
+use test_support::{at, words};
 use timestamp_cache::{Config, Key, Span, Uuid};
 use tsc_time::Timestamp;
 
@@ -227,14 +228,6 @@ read 2 a..z -> a=1 b=2 c=3";
 /// A text that takes no memory, so that no answer is lost for want of it.
 pub type Text = InlineText<120>;
 
-/// A call, and its answer.
-pub type Row = (Text, Text);
-
-/// What answers calls, behind the rows so far.
-pub trait Store: Drop {
-    fn answer(&mut self, rows: &[Row], call: &str) -> Result<Text>;
-}
-
 /// A range, and the transactions that have begun there.
 pub type Scene = (Range, Vec<Transaction>);
 
@@ -245,17 +238,11 @@ pub fn open(alloc: Global, keys: &str, pages: &str) -> Result<Scene> {
 
 /// The configuration of a cache by its pages. Small ones rotate, and narrow ones take no long key.
 fn config(pages: &str) -> Result<Config> {
-    let floor = time("5")?;
     Ok(match pages {
-        "small" => Config::new(128, 256, 1, 4, floor)?,
-        "narrow" => Config::new(72, 72, 2, 1000, floor)?,
-        _ => Config::new(4096, 4096, 2, 1000, floor)?,
+        "small" => Config::new(128, 256, 1, 4, at(5, 0))?,
+        "narrow" => Config::new(72, 72, 2, 1000, at(5, 0))?,
+        _ => Config::new(4096, 4096, 2, 1000, at(5, 0))?,
     })
-}
-
-pub fn words(call: &str) -> [&str; 4] {
-    let mut words = call.splitn(4, ' ');
-    array::from_fn(|_| words.next().unwrap_or(""))
 }
 
 pub fn time(text: &str) -> Result<Timestamp> {
@@ -271,15 +258,14 @@ fn span(alloc: Global, keys: &str) -> Result<Span> {
 }
 
 /// A transaction whose read is refused has none more than before.
-fn read(range: &mut Range, reader: &mut Transaction, span: &Span) -> Result<Text> {
+fn read(range: &mut Range, reader: &mut Transaction, span: &Span) -> Result<Text, RangeError> {
     let count = reader.reads().len();
     let mut answer = Text::new();
-    match range.read(reader, span, time("30")?) {
+    match range.read(reader, span, at(30, 0)) {
         Err(_) if reader.reads().len() != count => answer = Text::of("a refused read is kept"),
-        Err(RangeError::TooEarly) => answer = Text::of("too early"),
         rows => for row in &rows? {
-            let key = str::from_utf8(row.key.bytes())?;
-            let value = str::from_utf8(&row.value)?;
+            let key = str::from_utf8(row.key.bytes()).unwrap_or("no text");
+            let value = str::from_utf8(&row.value).unwrap_or("no text");
             answer = answer.and(format_args!("{key}={value} "), 120);
         }
     }
@@ -298,40 +284,41 @@ pub fn text_of(outcome: Outcome) -> Text {
     Text::of(format_args!("{word} {}.{}", at.wall(), at.logical()))
 }
 
-fn commit(range: &mut Range, writer: &Transaction) -> Result<Text> {
-    match range.commit(writer, time("30")?) {
+fn commit(range: &mut Range, writer: &Transaction) -> Result<Text, RangeError> {
+    match range.commit(writer, at(30, 0)) {
         Ok(outcome) => Ok(text_of(outcome)),
-        Err(RangeError::TooEarly) => Ok(Text::of("too early")),
-        Err(error) => Err(error.into()),
+        Err(error) => Err(error),
     }
 }
 
-impl Store for Scene {
-    fn answer(&mut self, _rows: &[Row], call: &str) -> Result<Text> {
-        let (range, begun) = self;
-        let alloc = *begun.allocator();
-        let [verb, first, second, third] = words(call);
-        match (verb, begun.get_mut(first.parse().unwrap_or(usize::MAX))) {
-            ("read", Some(reader)) => return read(range, reader, &span(alloc, second)?),
-            ("commit", Some(writer)) => return commit(range, writer),
-            ("put", Some(writer)) => {
-                let content = (!third.is_empty()).then(|| Vec::from_slice(alloc, third.as_bytes()));
-                let content = content.transpose()?;
-                let key = Key::new(alloc, second.as_bytes())?;
-                writer.write(Write { key, content })?;
-            }
-            ("begin", _) => {
-                let id = Uuid::from_bytes([first.parse()?; 16]);
-                begun.push(Transaction::new(alloc, time(second)?, id))?;
-            }
-            ("hand_on", _) => range
-                .hand_on(config(first)?, second.parse()?, time("30")?)
-                .map_err(RangeError::from)?,
-            ("collect", _) => range.collect_garbage(time(first)?),
-            ("", _) => {}
-            _ => bail!("no such call"),
+/// Makes a call.
+pub fn answer((range, begun): &mut Scene, call: &str) -> Result<Text> {
+    let (alloc, mut told) = (*begun.allocator(), Ok(Text::new()));
+    let [verb, first, second, third, more, ..] = words(call, ' ');
+    match (verb, begun.get_mut(first.parse().unwrap_or(usize::MAX))) {
+        ("", _) => {}
+        _ if !more.is_empty() => bail!("too many words"),
+        ("read", Some(reader)) => told = read(range, reader, &span(alloc, second)?),
+        ("commit", Some(writer)) => told = commit(range, writer),
+        ("put", Some(writer)) => {
+            let content = Vec::from_slice(alloc, third.as_bytes())?;
+            let content = (!third.is_empty()).then_some(content);
+            let key = Key::new(alloc, second.as_bytes())?;
+            writer.write(Write { key, content })?;
         }
-        Ok(Text::new())
+        ("begin", _) => {
+            let id = Uuid::from_bytes([first.parse()?; 16]);
+            begun.push(Transaction::new(alloc, time(second)?, id))?;
+        }
+        ("hand_on", _) => range
+            .hand_on(config(first)?, second.parse()?, at(30, 0))
+            .map_err(RangeError::from)?,
+        ("collect", _) => range.collect_garbage(time(first)?),
+        _ => bail!("no such call"),
+    }
+    match told {
+        Err(RangeError::TooEarly) => Ok(Text::of("too early")),
+        told => Ok(told?),
     }
 }
 
@@ -343,12 +330,12 @@ pub fn play(alloc: Global, pages: &str, first: &str, scenarios: &str) -> Result<
         let mut scene = open(alloc, "a..z", pages).or_else(|_| open(alloc, "a..z", pages))?;
         for row in first.lines().chain(scenario.lines()) {
             let (call, wanted) = row.split_once(" -> ").unwrap_or((row, ""));
-            let mut answer = scene.answer(&[], call).unwrap_or_else(Text::of);
-            if answer.as_str().contains("memory") {
-                answer = scene.answer(&[], call).unwrap_or_else(Text::of);
+            let mut told = answer(&mut scene, call).unwrap_or_else(Text::of);
+            if told.as_str().contains("memory") {
+                told = answer(&mut scene, call).unwrap_or_else(Text::of);
             }
-            let answer = answer.as_str().trim_end();
-            ensure!(answer == wanted, "{row}, behind:{name}: {answer}");
+            let told = told.as_str().trim_end();
+            ensure!(told == wanted, "{row}, behind:{name}: {told}");
         }
     }
     Ok(())
@@ -362,10 +349,11 @@ fn scenarios_go_as_said(rt: HostRuntime) -> Result<(), Fail> {
 /// Why a shared range refuses a read at a time, where it does. No clause can name what a call makes
 /// of the range under its lock, so each one is followed by a read that it changes.
 fn refusal<R: Wait + AllocGlobal>(rt: &R, range: &SharedRange, row: &str) -> Result<Text> {
-    let [at, keys, ..] = words(row);
-    let mut reader = Transaction::new(rt.alloc(), time(at)?, Uuid::from_bytes([1; 16]));
-    let span = span(rt.alloc(), keys)?;
-    let refusal = range.read(rt, &mut reader, &span, time("30")?).err();
+    let [time_of, keys, ..] = words(row, ' ');
+    let mut reader = Transaction::new(rt.alloc(), time(time_of)?, Uuid::from_bytes([1; 16]));
+    let refusal = range
+        .read(rt, &mut reader, &span(rt.alloc(), keys)?, at(30, 0))
+        .err();
     Ok(Text::of(format_args!("{refusal:?}")))
 }
 

@@ -2,12 +2,12 @@
 //! order of the times at which they committed. A plain store may leave a step out.
 ghost use Rattle.std.specs.Prelude.{◌≤◌, ◌<◌};
 
-use crate::scenarios::{Row, Store, Text, open, text_of, time, words};
+use crate::scenarios::{Text, answer, open, text_of, time};
 use anyhow::{Context, Result};
 use mvcc_range::{Outcome, Reason};
 use std::alloc::Global;
-use std::fmt::Display;
 use std::test::Fail;
+use test_support::words;
 use timestamp_cache::next_time;
 use tsc_time::Timestamp;
 
@@ -15,6 +15,9 @@ use tsc_time::Timestamp;
 static KEYS: [&str; 7] = ["a", "b", "c", "d", "e", "f", "g"];
 
 type Values = [Option<u8>; 7];
+
+/// A call, and its answer.
+type Row = (Text, Text);
 
 /// A sequence of numbers that look random.
 #[derive(Drop)]
@@ -32,56 +35,42 @@ impl Sequence {
 
     /// What a transaction does if it lives, or what happens to the store.
     fn call(&mut self, number: usize, lives: bool, turn: usize) -> Text {
-        match self.below(10) {
-            0..4 if lives => {
-                let from = self.below(6);
-                let to = from + 1 + self.below(6 - from);
-                Text::of(format_args!("read {number} {}..{}", KEYS[from], KEYS[to]))
-            }
-            4..7 if lives => match (KEYS[self.below(6)], self.below(4)) {
-                (key, 0) => Text::of(format_args!("put {number} {key}")),
-                (key, _) => Text::of(format_args!("put {number} {key} {turn}")),
-            },
-            7..9 if lives => Text::of(format_args!("commit {number}")),
-            9 => match self.below(6) {
-                0 | 1 => Text::of(format_args!("hand_on small {}", self.below(4))),
-                2 => Text::of(format_args!("collect {}", 8 + self.below(10))),
-                _ => Text::new(),
-            },
+        let from = self.below(6);
+        let to = from + 1 + self.below(6 - from);
+        let (key, end) = (KEYS[from], KEYS[to]);
+        match self.below(60) {
+            0..24 if lives => Text::of(format_args!("read {number} {key}..{end}")),
+            24..28 if lives => Text::of(format_args!("put {number} {key}")),
+            28..42 if lives => Text::of(format_args!("put {number} {key} {turn}")),
+            42..54 if lives => Text::of(format_args!("commit {number}")),
+            54 | 55 => Text::of(format_args!("hand_on small {}", self.below(4))),
+            56 => Text::of(format_args!("collect {}", 8 + self.below(10))),
             _ => Text::new(),
         }
     }
 
-    /// Plays a history on a store. The last transaction reads what the others leave.
-    fn play<S: Store>(&mut self, alloc: Global, mut store: S) -> Result<Vec<Row>> {
-        let mut rows = Vec::new(alloc);
+    /// The calls of a history, one a line. The last transaction reads what the others leave.
+    fn history(&mut self, alloc: Global) -> Result<String> {
+        let mut calls = String::new(alloc);
         let count = 2 + self.below(7);
         for _ in 0..count {
             let (id, wall) = (self.below(6), 10 + self.below(12));
-            ask(&mut store, &mut rows, format_args!("begin {id} {wall}"))?;
+            writeln!(calls, "begin {id} {wall}")?;
         }
-        ask(&mut store, &mut rows, "begin 7 1000")?;
+        writeln!(calls, "begin 7 1000")?;
         let mut live = [true; 8];
         for turn in 0..count * 6 {
             let number = self.below(count);
             let call = self.call(number, live[number], turn);
             live[number] &= !call.as_str().starts_with("commit");
-            ask(&mut store, &mut rows, call.as_str())?;
+            writeln!(calls, "{}", call.as_str())?;
         }
         for number in (0..count).filter(|number| live[*number]) {
-            ask(&mut store, &mut rows, format_args!("commit {number}"))?;
+            writeln!(calls, "commit {number}")?;
         }
-        ask(&mut store, &mut rows, format_args!("read {count} a..g"))?;
-        ask(&mut store, &mut rows, format_args!("commit {count}"))?;
-        Ok(rows)
+        writeln!(calls, "read {count} a..g\ncommit {count}")?;
+        Ok(calls)
     }
-}
-
-/// Makes a call, whose row comes behind the others.
-fn ask<S: Store, C: Display + Drop>(store: &mut S, rows: &mut Vec<Row>, call: C) -> Result<()> {
-    let call = Text::of(call);
-    let answer = store.answer(rows, call.as_str())?;
-    Ok(rows.push((call, answer))?)
 }
 
 /// Whether keys as `a..c`, or `d` alone, have one among them.
@@ -92,7 +81,7 @@ fn covers(keys: &str, key: &str) -> bool {
 
 /// Executes a call where keys have these values, and answers it.
 fn execute(values: &mut Values, call: &str) -> Text {
-    let [verb, _, keys, value] = words(call);
+    let [verb, _, keys, value, ..] = words(call, ' ');
     let mut answer = Text::new();
     for (key, held) in KEYS.iter().zip(values) {
         match held {
@@ -107,7 +96,7 @@ fn execute(values: &mut Values, call: &str) -> Text {
 
 /// What a transaction reads and writes.
 fn operations(alloc: Global, rows: &[Row], number: &str) -> Result<Vec<Row>> {
-    let is_own = |call| matches!(words(call), ["read" | "put", by, ..] if by == number);
+    let is_own = |call| matches!(words(call, ' '), ["read" | "put", by, ..] if by == number);
     let own = rows.iter().filter(|(call, _)| is_own(call.as_str()));
     Ok(own.copied().collect(alloc)?)
 }
@@ -124,32 +113,30 @@ fn is_serial(alloc: Global, rows: &[Row]) -> Result<bool> {
     let mut values = [None; 7];
     let mut is_same = rows.last().map(|(_, answer)| answer.as_str()) == Some("at 1000.0");
     for (_, commit) in &order {
-        for (call, answer) in &operations(alloc, rows, words(commit.as_str())[1])? {
+        for (call, answer) in &operations(alloc, rows, words(commit.as_str(), ' ')[1])? {
             is_same &= execute(&mut values, call.as_str()).as_str() == answer.as_str();
         }
     }
     Ok(is_same)
 }
 
+/// A store without a range, of which each read and each version pushes what is written later.
 #[derive(Drop)]
 struct Plain {
-    /// What it doesn't do. Else it refreshes reads at the time of a commit, remembers reads, writes
-    /// nothing at or below a version, and has a transaction see its own writes.
+    /// What it doesn't do: to refresh reads at the time of a commit, to have a transaction see its
+    /// own writes, or to mind what is kept of a verb.
     left_out: &'static str,
-    /// Each read and each version, with the id of its transaction and its time.
-    kept: Vec<(u8, Timestamp, Text)>,
+    /// Each read, and what committed, with its time.
+    kept: Vec<(Timestamp, Text)>,
 }
 
 impl Plain {
     /// What keys have as of a time, and whether a transaction reads as before then.
     fn refresh(&self, operations: &[Row], time: Timestamp) -> (Values, bool) {
-        let mut values = [None; 7];
-        for (_, at, call) in &self.kept {
-            if *at <= time {
-                execute(&mut values, call.as_str());
-            }
+        let (mut values, mut is_same) = ([None; 7], true);
+        for (_, call) in self.kept.iter().filter(|(at, _)| *at <= time) {
+            execute(&mut values, call.as_str());
         }
-        let mut is_same = true;
         for (call, answer) in operations {
             if self.left_out != "see own writes" || call.as_str().starts_with("read") {
                 is_same &= execute(&mut values, call.as_str()).as_str() == answer.as_str();
@@ -158,48 +145,41 @@ impl Plain {
         (values, is_same)
     }
 
-    /// The earliest time, not before one, that is free for a write of a key by an id.
-    fn free_time(&self, key: &str, time: Timestamp, by: u8) -> Timestamp {
+    /// The earliest time, not before one, that is free for a write of a key.
+    fn free_time(&self, key: &str, time: Timestamp) -> Timestamp {
         let mut free = time;
-        for (id, at, call) in &self.kept {
-            let [verb, _, keys, _] = words(call.as_str());
-            free = free.max(match verb {
-                _ if !covers(keys, key) => time,
-                "read" if self.left_out == "remember reads" => time,
-                "put" if self.left_out == "mind versions" => time,
-                "read" if *id == by && by != 0 => *at,
-                _ => next_time(*at).unwrap_or(*at),
-            });
+        for (at, call) in &self.kept {
+            let [verb, _, keys, ..] = words(call.as_str(), ' ');
+            if covers(keys, key) && verb != self.left_out {
+                free = free.max(next_time(*at).unwrap_or(*at));
+            }
         }
         free
     }
-}
 
-impl Store for Plain {
     fn answer(&mut self, rows: &[Row], call: &str) -> Result<Text> {
-        let [verb, number, ..] = words(call);
+        let [verb, number, ..] = words(call, ' ');
         if verb != "read" && verb != "commit" {
             return Ok(Text::new());
         }
         let (begin, _) = rows.get(number.parse::<usize>()?).context("not begun")?;
-        let [_, id, at, _] = words(begin.as_str());
-        let (by, mut at) = (id.parse()?, time(at)?);
+        let mut at = time(words(begin.as_str(), ' ')[2])?;
         let operations = operations(*self.kept.allocator(), rows, number)?;
         if verb == "read" {
             let (mut values, _) = self.refresh(&operations, at);
-            self.kept.push((by, at, Text::of(call)))?;
+            self.kept.push((at, Text::of(call)))?;
             return Ok(execute(&mut values, call));
         }
         for (call, _) in &operations {
-            if let ["put", _, key, _] = words(call.as_str()) {
-                at = self.free_time(key, at, by);
+            if let ["put", _, key, ..] = words(call.as_str(), ' ') {
+                at = self.free_time(key, at);
             }
         }
         if !self.refresh(&operations, at).1 && self.left_out != "refresh reads" {
             return Ok(text_of(Outcome::Restart(Reason::Changed(at))));
         }
         for (call, _) in operations {
-            self.kept.push((by, at, call))?;
+            self.kept.push((at, call))?;
         }
         Ok(text_of(Outcome::Committed(at)))
     }
@@ -210,8 +190,8 @@ fn count(rows: &[Row], verb: &str, word: &str) -> usize {
     let rows = rows
         .iter()
         .filter(|(call, _)| call.as_str().starts_with(verb));
-    rows.filter(|(_, told)| told.as_str().starts_with(word))
-        .count()
+    let rows = rows.filter(|(_, told)| told.as_str().starts_with(word));
+    rows.count()
 }
 
 /// A range has no violation in 10,000 histories, in which most transactions commit and many
@@ -221,7 +201,12 @@ fn ranges_are_serializable(rt: HostRuntime) -> Result<(), Fail> {
     let mut sequence = Sequence(1);
     let (mut committed, mut restarts, mut refused) = (0_usize, 0_usize, 0_usize);
     for _ in 0..10_000 {
-        let rows = sequence.play(rt.alloc(), open(rt.alloc(), "a..g", "small")?)?;
+        let calls = sequence.history(rt.alloc())?;
+        let mut scene = open(rt.alloc(), "a..g", "small")?;
+        let mut rows = Vec::new(rt.alloc());
+        for call in calls.lines() {
+            rows.push((Text::of(call), answer(&mut scene, call)?))?;
+        }
         assert!(rt; is_serial(rt.alloc(), &rows)?);
         committed = committed.saturating_add(count(&rows, "commit", "at"));
         restarts = restarts.saturating_add(count(&rows, "commit", "changed"));
@@ -237,8 +222,8 @@ fn ranges_are_serializable(rt: HostRuntime) -> Result<(), Fail> {
 static ROWS: [(&str, bool); 5] = [
     ("nothing", false),
     ("refresh reads", true),
-    ("remember reads", true),
-    ("mind versions", true),
+    ("read", true),
+    ("put", true),
     ("see own writes", true),
 ];
 
@@ -248,8 +233,13 @@ fn violations_are_found(rt: HostRuntime) -> Result<(), Fail> {
         let mut sequence = Sequence(1);
         let mut is_found = false;
         for _ in 0..1_000 {
+            let calls = sequence.history(rt.alloc())?;
             let (left_out, kept) = (*left_out, Vec::new(rt.alloc()));
-            let rows = sequence.play(rt.alloc(), Plain { left_out, kept })?;
+            let (mut plain, mut rows) = (Plain { left_out, kept }, Vec::new(rt.alloc()));
+            for call in calls.lines() {
+                let answer = plain.answer(&rows, call)?;
+                rows.push((Text::of(call), answer))?;
+            }
             is_found |= !is_serial(rt.alloc(), &rows)?;
         }
         assert_eq!(rt; is_found, *found, "{left_out}");

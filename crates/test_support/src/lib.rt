@@ -32,7 +32,7 @@ static OWNERS: [(char, u128); 3] = [('¹', FIRST), ('²', SECOND), ('⁷', 7)];
 #[macro_export]
 macro_rules! all_hold {
     ($rt:ident, $between:literal; $($holds:ident($($given:expr),*) => $table:expr),+) => {
-        $(for row in $table.lines().filter(|row| !row.starts_with('#')) {
+        $(for row in $table.lines().filter(|row| !row.is_empty() && !row.starts_with('#')) {
             assert!($rt; $holds($($given,)* $crate::words(row, $between))?, "{row}");
         })+
     };
@@ -57,7 +57,7 @@ macro_rules! again {
 pub type Words = [&'static str; 9];
 
 /// The words of a row, of which there are nine at most, with a sign between them.
-pub fn words(row: &'static str, between: char) -> Words {
+pub fn words<'w>(row: &'w str, between: char) -> [&'w str; 9] {
     let mut words = row.split(between);
     array::from_fn(|_| words.next().unwrap_or(""))
 }
