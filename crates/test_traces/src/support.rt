@@ -1,7 +1,4 @@
-//! Rows of tables, the bytes that their texts stand for, and streams over memory.
-//!
-//! A table has a row a line, with bars between its cells. A line that begins with `#` is a remark.
-//! A row that begins with `№M..N|` stands for a row of each number from M to below N, as its `№`.
+//! The bytes that texts of rows stand for, and streams over memory.
 pub(crate) mod watch;
 
 pub(crate) use crate::commands::traces::*;
@@ -12,8 +9,12 @@ use std::ops::Range;
 use std::sync::Wait;
 pub(crate) use std::test::Fail;
 use std::thread::Threads;
-pub(crate) use tsc_stream::Limited;
+pub(crate) use test_support::{all_hold, words};
+pub(crate) use tsc_check::*;
+pub(crate) use tsc_commands::*;
 use tsc_stream::fault_injection::{FaultPlan, FaultyStream};
+pub(crate) use tsc_stream::*;
+pub(crate) use tsc_trace::*;
 
 /// What a trace says before its lists: of usual pages, of those that are large enough for any span,
 /// and of those that have room for short keys alone.
@@ -26,7 +27,8 @@ pub(crate) const WIDE: &str =
 pub(crate) const NARROW: &str =
     r#""page_first":66,"page_max":264,"min_pages":2,"retention":10,"low_water":[5,0]"#;
 
-pub(crate) type Cells<'r> = [&'r str; 8];
+/// The words of a row, which stand between bars.
+pub(crate) type Cells<'r> = [&'r str; 9];
 
 pub(crate) type Holds = Result<bool, Fail>;
 
@@ -34,39 +36,27 @@ pub(crate) trait Runtime: AllocGlobal + Threads + Wait + Sync {}
 
 impl<R: AllocGlobal + Threads + Wait + Sync> Runtime for R {}
 
-pub(crate) fn cells(row: &str) -> Cells<'_> {
-    let mut cells = [""; 8];
-    for (i, cell) in row.split('|').enumerate().take(8) {
-        cells[i] = cell;
-    }
-    cells
-}
-
 /// The numbers of `M..N` or of `N`.
-pub(crate) fn numbers(text: &str) -> Range<u32> {
+fn numbers(text: &str) -> Range<u32> {
     let (from, to) = text.split_once("..").unwrap_or(("0", text));
     from.parse().unwrap_or(0)..to.parse().unwrap_or(0)
 }
 
-/// Checks that each row of some tables holds, as a function of its cells says.
-macro_rules! all_hold {
-    ($rt:ident; $($holds:ident($($given:expr),*) => $table:expr),*) => {{
-        $(for row in $table.lines() {
-            let numbered = row.strip_prefix('№').and_then(|row| row.split_once('|'));
-            let (times, row) = numbered.unwrap_or(("1", row));
-            for number in numbers(times) {
-                let number = format!(in $rt.alloc(); "{number}")?;
-                let row = row.replace($rt.alloc(), '№', number.as_str())?;
-                let is_remark = row.is_empty() || row.starts_with('#');
-                let holds = is_remark || $holds($($given,)* $rt.alloc(), cells(row.as_str()))?;
-                assert!($rt; holds, "{row}");
-            }
-        })*
-        Ok(())
-    }};
+/// A table in which a row that begins with `№M..N|` has become a row of each number from M to below
+/// N, as its `№`.
+pub(crate) fn numbered(alloc: Global, table: &str) -> Result<String, AllocError> {
+    let mut rows = String::new(alloc);
+    for row in table.lines() {
+        let numbered = row.strip_prefix('№').and_then(|row| row.split_once('|'));
+        let (times, row) = numbered.unwrap_or(("1", row));
+        for number in numbers(times) {
+            let number = format!(in alloc; "{number}")?;
+            let row = row.replace(alloc, '№', number.as_str())?;
+            writeln!(rows, "{row}")?;
+        }
+    }
+    Ok(rows)
 }
-
-pub(crate) use all_hold;
 
 /// Adds what the signs of a piece stand for, at a number.
 fn add(bytes: &mut Vec<u8>, piece: &str, number: u32) -> Result<(), AllocError> {
@@ -114,13 +104,16 @@ pub(crate) fn trace_of(alloc: Global, head: &str, text: &str) -> Result<Vec<u8>,
 pub(crate) type Writer = Limited<FaultyStream<Vec<u8>>>;
 
 /// A reader or a writer whose calls go as words say: how many bytes a call moves, and which call
-/// fails, from 0, or whether calls are interrupted `in turn` or `always`.
+/// fails, from 0, or whether calls are interrupted `in turn` or `always`; and behind `of` how many
+/// calls there may be.
 pub(crate) fn stream<T>(inner: T, words: &str) -> Limited<FaultyStream<T>> {
+    let (words, turns) = words.split_once(" of ").unwrap_or((words, "33554432"));
     let (step, plan) = words.split_once(' ').unwrap_or(("65536", words));
     let plan = match plan {
         "in turn" => FaultPlan::InterruptedNowAndThen,
         "always" => FaultPlan::AlwaysInterrupted,
         call => call.parse().map_or(FaultPlan::Never, FaultPlan::FailsAt),
     };
-    Limited::new(FaultyStream::new(inner, step.parse().unwrap_or(0), plan))
+    let inner = FaultyStream::new(inner, step.parse().unwrap_or(0), plan);
+    Limited::with_turns(inner, turns.parse().unwrap_or(0))
 }

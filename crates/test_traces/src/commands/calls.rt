@@ -1,16 +1,14 @@
 //! Commands over memory, whose readers and writers may go wrong, and over bytes.
 use crate::support::*;
-use tsc_check::{Outcome, check_bytes, replay_bytes};
-use tsc_commands::*;
+use tsc_commands::check_with_progress;
 
-/// A command's status, output, line of a fault, and watch.
-type Came<'w> = (u8, Vec<u8>, Vec<u8>, Watch<'w>);
+/// A call's status, output, and line of a fault.
+type Came = (u8, Vec<u8>, Vec<u8>);
 
 /// What comes of a command that reads a trace, or a log beside it. Its ways name the streams of
-/// `trace`, `log`, `output` and `errors` whose calls do not move all bytes, and the watch's rule.
-fn call<'w, R: Runtime>(rt: &R, [command, ways]: [&'w str; 2], bytes: [&[u8]; 2]) -> Came<'w> {
-    let (alloc, [trace, log]) = (rt.alloc(), bytes);
-    let watch = Watch::new(way_of(ways, "rule:"));
+/// `trace`, `log`, `output` and `errors` whose calls do not move all bytes.
+fn call<R: Runtime>(rt: &R, watch: &Watch, row: [&str; 2], bytes: [&[u8]; 2]) -> Came {
+    let (alloc, [command, ways], [trace, log]) = (rt.alloc(), row, bytes);
     let trace = &mut stream(trace, way_of(ways, "trace:"));
     let log = &mut stream(log, way_of(ways, "log:"));
     let mut output = stream(Vec::new(alloc), way_of(ways, "output:"));
@@ -18,13 +16,12 @@ fn call<'w, R: Runtime>(rt: &R, [command, ways]: [&'w str; 2], bytes: [&[u8]; 2]
     let (out, err) = (&mut output, &mut errors);
     let status = match command {
         "replay" => replay_command(alloc, trace, out, err),
-        "watched replay" => replay_with_progress(alloc, trace, out, err, &watch),
+        "watched replay" => replay_with_progress(alloc, trace, out, err, watch),
         "check" => check_command(alloc, trace, log, out, err),
-        "watched check" => check_with_progress(alloc, trace, log, out, err, &watch),
-        _ => run_command(rt, alloc, trace, out, err, &watch),
+        "watched check" => check_with_progress(alloc, trace, log, out, err, watch),
+        _ => run_command(rt, alloc, trace, out, err, watch),
     };
-    let (written, told) = (output.into_inner().inner, errors.into_inner().inner);
-    (status, written, told, watch)
+    (status, output.into_inner().inner, errors.into_inner().inner)
 }
 
 fn way_of<'w>(ways: &'w str, name: &str) -> &'w str {
@@ -32,48 +29,52 @@ fn way_of<'w>(ways: &'w str, name: &str) -> &'w str {
     ways.find_map(|way| way.strip_prefix(name)).unwrap_or("")
 }
 
+fn said_of_bytes(alloc: Global, outcome: Outcome) -> Came {
+    match outcome {
+        Outcome::Text(text) => (0, text, Vec::new(alloc)),
+        Outcome::Refused(text) => (1, Vec::new(alloc), text),
+    }
+}
+
 /// Calls a command. A row has the status, the output and the line of a fault; the command, its
-/// trace, its log, and its ways; and what the watch counts.
-pub(crate) fn calls<R: Runtime>(rt: &R, alloc: Global, row: Cells) -> Holds {
-    let [status, output, told, command, trace, log, ways, counts] = row;
+/// trace, its log, and its ways with the watch's rule; and what the watch counts.
+pub(crate) fn calls<R: Runtime>(rt: &R, row: Cells) -> Holds {
+    let [status, output, told, command, trace, log, ways, counts, _] = row;
+    let (alloc, watch) = (rt.alloc(), Watch::new(way_of(ways, "rule:")));
     let (trace, log) = (trace_of(alloc, HEAD, trace)?, trace_of(alloc, HEAD, log)?);
-    let (ended, written, errors, watch) = call(rt, [command, ways], [&trace, &log]);
-    let is_written = written.as_slice() == bytes_of(alloc, output)?.as_slice();
-    let is_told = errors.as_slice() == bytes_of(alloc, told)?.as_slice();
+    let came = match command {
+        "replay bytes" => said_of_bytes(alloc, replay_bytes(alloc, &trace)?),
+        "check bytes" => said_of_bytes(alloc, check_bytes(alloc, &trace, &log)?),
+        _ => call(rt, &watch, [command, ways], [&trace, &log]),
+    };
     let is_counted = counts.is_empty() || watch.counts(alloc)?.as_str() == counts;
-    Ok(ended == status.parse()? && is_written && is_told && is_counted)
+    Ok(
+        is_counted
+            && came
+                == (
+                    status.parse()?,
+                    bytes_of(alloc, output)?,
+                    bytes_of(alloc, told)?,
+                ),
+    )
 }
 
 /// Whether a check finds the log of each of `runs` runs right.
-fn is_right<R: Runtime>(runs: u32, rt: &R, alloc: Global, row: Cells) -> Holds {
-    let (trace, right) = (trace_of(alloc, HEAD, row[4])?, bytes_of(alloc, "right¶")?);
-    let mut holds = true;
+fn is_right<R: Runtime>(runs: u32, rt: &R, row: Cells) -> Holds {
+    let (trace, mut holds) = (trace_of(rt.alloc(), HEAD, row[4])?, true);
     for _ in 0..runs {
-        let (status, log, told, _) = call(rt, ["run", ""], [&trace, b""]);
-        holds &= status == 0 && told.is_empty();
-        let (status, verdict, told, _) = call(rt, ["check", ""], [&trace, &log]);
-        holds &= status == 0 && told.is_empty() && verdict.as_slice() == right.as_slice();
+        let watch = Watch::default();
+        let (ran, log, refused) = call(rt, &watch, ["run", ""], [&trace, b""]);
+        let (checked, verdict, told) = call(rt, &watch, ["check", ""], [&trace, &log]);
+        holds &= ran == 0 && refused.is_empty() && checked == 0 && told.is_empty();
+        holds &= verdict.as_slice() == "right\n".as_bytes();
     }
     Ok(holds)
 }
 
-/// Replays bytes, or checks a log of them: an outcome's kind and text, the trace and the log.
-fn says_of_bytes(alloc: Global, [kind, said, trace, log, ..]: Cells) -> Holds {
-    let trace = trace_of(alloc, HEAD, trace)?;
-    let outcome = match log {
-        "-" => replay_bytes(alloc, &trace)?,
-        log => check_bytes(alloc, &trace, &bytes_of(alloc, log)?)?,
-    };
-    let came = match outcome {
-        Outcome::Text(text) => ("text", text),
-        Outcome::Refused(text) => ("refused", text),
-    };
-    Ok(came == (kind, bytes_of(alloc, said)?))
-}
-
 #[test]
 fn replays_end_as_their_rows_say(rt: HostRuntime) -> Result<(), Fail> {
-    all_hold!(rt; calls(&rt) => REPLAYS, calls(&rt) => r#"
+    all_hold!(rt, '|'; calls(&rt) => REPLAYS, calls(&rt) => r#"
 # A batch of which one mark is too large.
 1||trace refused: fault 9 at call 1¶|replay|{"page_first":64,"page_max":65,"min_pages":2,"retention":10,"low_water":[5,0],"threads":[[¶{"op":"batch","marks":[¶{"span":{"start":"61"},"time":[20,0]},¶{"span":{"start":"61","end":"62"},"time":[5,0]}],"now":[20,0]}]]}
 # No JSON.
@@ -104,12 +105,13 @@ fn replays_end_as_their_rows_say(rt: HostRuntime) -> Result<(), Fail> {
 4||rea|replay|abc||trace:1 0;errors:1 3
 1|||replay|abc||errors:9 0
 1||tra|replay|abc||errors:1 3
-4|||replay|reads||output:9 0;errors:9 0"#)
+4|||replay|reads||output:9 0;errors:9 0"#);
+    Ok(())
 }
 
 #[test]
 fn checks_end_as_their_rows_say(rt: HostRuntime) -> Result<(), Fail> {
-    all_hold!(rt; calls(&rt) => r#"
+    let table = r#"
 0|right¶||check|reads|reads log
 0|right¶||check|[[]]
 3|wrong call 1¶||check|[[]]|0 0 low 0 5.0¶
@@ -143,8 +145,8 @@ fn checks_end_as_their_rows_say(rt: HostRuntime) -> Result<(), Fail> {
 3|wrong call 4¶||check|race|0 0 add 0 1 0 0¶1 0 add 1 1 0 0¶2 0 get 1 20.0 ¹¶2 1 low 2 5.0¶
 3|wrong call 1¶||check|race|1 0 add 1 1 0 0¶0 0 add 0 1 0 0¶2 0 get 1 20.0 ¹¶
 # Readers and writers that go wrong.
-0|right¶||check|race|race log|all 1 never
-3|wrong call 1¶||check|race||all 1 never
+0|right¶||check|race|race log|trace:1 never;log:1 never;output:1 never;errors:1 never
+3|wrong call 1¶||check|race||trace:1 never;log:1 never;output:1 never;errors:1 never
 4||read failed¶|check|race|race log|trace:65536 0
 4||read failed¶|check|race|race log|log:65536 0
 4||read failed¶|check|race|race log|log:1 9
@@ -170,53 +172,61 @@ fn checks_end_as_their_rows_say(rt: HostRuntime) -> Result<(), Fail> {
 3|wrong call 5¶||check|reads|reads log✂103
 №104..123|1||log refused: fault 1 at line 5¶|check|reads|reads log✂№
 3|wrong call 6¶||check|reads|reads log✂123
-№124..137|1||log refused: fault 1 at line 6¶|check|reads|reads log✂№"#)
+№124..137|1||log refused: fault 1 at line 6¶|check|reads|reads log✂№"#;
+    all_hold!(rt, '|'; calls(&rt) => numbered(rt.alloc(), table)?);
+    Ok(())
 }
 
 #[test]
 fn runs_end_as_their_rows_say(rt: HostRuntime) -> Result<(), Fail> {
-    all_hold!(rt; calls(&rt) => r#"
+    all_hold!(rt, '|'; calls(&rt) => r#"
 0|reads log||run|reads
 0|two readers log||run|two readers
 0|||run|[[],[]]
 1||trace refused: fault 7¶|run|{"page_first":132,"page_max":132,"min_pages":2,"retention":10,"low_water":[5,0],"threads":[]}
 1||trace refused: fault 1¶|run
-1||trace refused: fault 2 at call 1¶|run|[[{"op":"low","x":1}]]"#)
+1||trace refused: fault 2 at call 1¶|run|[[{"op":"low","x":1}]]"#);
+    Ok(())
 }
 
 #[test]
 fn checks_find_the_logs_of_runs_right(rt: HostRuntime) -> Result<(), Fail> {
-    all_hold!(rt; is_right(20, &rt) => REPLAYS, is_right(100, &rt) => "0|||run|race")
+    all_hold!(rt, '|'; is_right(20, &rt) => REPLAYS, is_right(100, &rt) => "0|||run|race");
+    Ok(())
 }
 
 /// Two lists have one log in any order.
 #[test]
 fn lists_of_the_command_run_at_the_same_time(rt: HostRuntime) -> Result<(), Fail> {
-    all_hold!(rt; calls(&rt) => r#"
-0|0 0 get 0 5.0 none¶0 1 low 0 5.0¶1 0 low 0 5.0¶1 1 get 0 5.0 none¶||run|[[{"op":"get","span":{"start":"61"}},{"op":"low"}],¶[{"op":"low"},{"op":"get","span":{"start":"61"}}]]||rule:2|2 (4, 4, 0) 0"#)
+    all_hold!(rt, '|'; calls(&rt) => r#"
+0|0 0 get 0 5.0 none¶0 1 low 0 5.0¶1 0 low 0 5.0¶1 1 get 0 5.0 none¶||run|[[{"op":"get","span":{"start":"61"}},{"op":"low"}],¶[{"op":"low"},{"op":"get","span":{"start":"61"}}]]||rule:2|2 (4, 4, 0) 0"#);
+    Ok(())
 }
 
 #[test]
 fn the_command_shows_no_add_before_its_gate_was_told(rt: HostRuntime) -> Result<(), Fail> {
-    all_hold!(rt; calls(&rt) => r#"
-0|0 0 add 0 1 0 0¶1 0 get 0 5.0 none¶||run|[[{"op":"add","span":{"start":"61"},"time":[20,0],"owner":"¹","now":[20,0]}],¶[{"op":"get","span":{"start":"61"}}]]||rule:unseen|2 (2, 2, 0) 1"#)
+    all_hold!(rt, '|'; calls(&rt) => r#"
+0|0 0 add 0 1 0 0¶1 0 get 0 5.0 none¶||run|[[{"op":"add","span":{"start":"61"},"time":[20,0],"owner":"¹","now":[20,0]}],¶[{"op":"get","span":{"start":"61"}}]]||rule:unseen|2 (2, 2, 0) 1"#);
+    Ok(())
 }
 
 /// Each beginning of a trace, and one with the byte `ff` in place of a letter.
 #[test]
 fn bytes_that_are_no_trace(rt: HostRuntime) -> Result<(), Fail> {
-    all_hold!(rt; calls(&rt) => r#"
+    let table = r#"
 №0..447|1||trace refused: fault 1¶|replay|reads✂№
 №0..447|1||trace refused: fault 1¶|run|reads✂№
 №0..447|1||trace refused: fault 1¶|check|reads✂№
 1||trace refused: fault 1¶|replay|[[¶{"op":"add","span":{"start":"61","end":"63"},"time":[20,0],"owner":"¹","now":[20,0]},¶{"op":"ÿet","span":{"start":"62"}},¶{"op":"get","span":{"start":"63"}},¶{"op":"add","span":{"start":"62"},"time":[20,0],"owner":"²","now":[20,0]},¶{"op":"get","span":{"start":"62"}},¶{"op":"low"}]]
 1||trace refused: fault 1¶|run|[[¶{"op":"add","span":{"start":"61","end":"63"},"time":[20,0],"owner":"¹","now":[20,0]},¶{"op":"ÿet","span":{"start":"62"}},¶{"op":"get","span":{"start":"63"}},¶{"op":"add","span":{"start":"62"},"time":[20,0],"owner":"²","now":[20,0]},¶{"op":"get","span":{"start":"62"}},¶{"op":"low"}]]
-1||trace refused: fault 1¶|check|[[¶{"op":"add","span":{"start":"61","end":"63"},"time":[20,0],"owner":"¹","now":[20,0]},¶{"op":"ÿet","span":{"start":"62"}},¶{"op":"get","span":{"start":"63"}},¶{"op":"add","span":{"start":"62"},"time":[20,0],"owner":"²","now":[20,0]},¶{"op":"get","span":{"start":"62"}},¶{"op":"low"}]]"#)
+1||trace refused: fault 1¶|check|[[¶{"op":"add","span":{"start":"61","end":"63"},"time":[20,0],"owner":"¹","now":[20,0]},¶{"op":"ÿet","span":{"start":"62"}},¶{"op":"get","span":{"start":"63"}},¶{"op":"add","span":{"start":"62"},"time":[20,0],"owner":"²","now":[20,0]},¶{"op":"get","span":{"start":"62"}},¶{"op":"low"}]]"#;
+    all_hold!(rt, '|'; calls(&rt) => numbered(rt.alloc(), table)?);
+    Ok(())
 }
 
 #[test]
 fn inputs_at_their_limits(rt: HostRuntime) -> Result<(), Fail> {
-    all_hold!(rt; calls(&rt) => r#"
+    all_hold!(rt, '|'; calls(&rt) => r#"
 1||trace refused: fault 1¶|replay| ×16777216
 1||trace refused: fault 1¶|run| ×16777216
 1||trace refused: fault 1¶|check| ×16777216
@@ -230,25 +240,27 @@ fn inputs_at_their_limits(rt: HostRuntime) -> Result<(), Fail> {
 1||trace refused: fault 7¶|replay|[[],¦[],×63¦[]]
 1||trace refused: fault 7¶|replay|[[¦{"op":"low"},×65536¦{"op":"low"}]]
 3|wrong call 1¶||check|[[]]|0 0 low 0 5.0¶×65536
-1||log refused: fault 2¶|check|[[]]|0 0 low 0 5.0¶×65536¦x"#)
+1||log refused: fault 2¶|check|[[]]|0 0 low 0 5.0¶×65536¦x"#);
+    Ok(())
 }
 
 #[test]
 fn bytes_are_said_of_as_their_rows_say(rt: HostRuntime) -> Result<(), Fail> {
-    all_hold!(rt; says_of_bytes() => r#"
-text|one key log|one key|-
-refused|trace refused: fault 1|[|-
-refused|trace refused: fault 2 at call 0|{"threads":[[{"op":"low"}]]}|-
-text|right¶|one key|one key log
-text|wrong call 1¶|one key|
-text|wrong answer 2¶|one key|0 0 add 0 1 0 0¶0 1 get 1 5.0 none¶
-refused|log refused: fault 1 at line 1|one key|0 0 add
-refused|trace refused: fault 1|[|one key log
+    all_hold!(rt, '|'; calls(&rt) => r#"
+0|one key log||replay bytes|one key
+1||trace refused: fault 1|replay bytes|[
+1||trace refused: fault 2 at call 0|replay bytes|{"threads":[[{"op":"low"}]]}
+0|right¶||check bytes|one key|one key log
+0|wrong call 1¶||check bytes|one key|
+0|wrong answer 2¶||check bytes|one key|0 0 add 0 1 0 0¶0 1 get 1 5.0 none¶
+1||log refused: fault 1 at line 1|check bytes|one key|0 0 add
+1||trace refused: fault 1|check bytes|[|one key log
 # As many bytes as there may be, and one more.
-text|one key log|one key¦ ×16777025|-
-text|right¶|one key¦ ×16777025|one key log
-refused|log refused: fault 1 at line 1|one key|one key¦ ×16777025
-refused|input too long|one key¦ ×16777026|-
-refused|input too long|one key¦ ×16777026|one key log
-refused|input too long|one key|one key¦ ×16777026"#)
+0|one key log||replay bytes|one key¦ ×16777025
+0|right¶||check bytes|one key¦ ×16777025|one key log
+1||log refused: fault 1 at line 1|check bytes|one key|one key¦ ×16777025
+1||input too long|replay bytes|one key¦ ×16777026
+1||input too long|check bytes|one key¦ ×16777026|one key log
+1||input too long|check bytes|one key|one key¦ ×16777026"#);
+    Ok(())
 }

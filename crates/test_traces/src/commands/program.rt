@@ -6,7 +6,6 @@ use std::env::{Env, FillError};
 use std::process::ExitCode;
 use tsc_commands::cli::parse;
 use tsc_commands::program::program;
-use tsc_commands::*;
 
 /// Names, of which some are words of other kinds elsewhere, and what each file holds, or a fault.
 static FILES: [(&str, Result<&str, OpenFault>); 9] = [
@@ -46,15 +45,13 @@ struct MemoryWords<'w>(&'w str);
 impl Env for MemoryWords<'_> {
     fn arg(&self, i: usize, buf: &mut [u8]) -> Result<usize, FillError> {
         let mut words = self.0.split(',').skip(1);
-        let bytes = words.nth(i).ok_or(FillError::NotPresent)?.as_bytes();
-        if bytes.len() > buf.len() {
-            return Err(FillError::TooLong);
+        let word = words.nth(i).ok_or(FillError::NotPresent)?;
+        let place = buf.get_mut(..word.len()).ok_or(FillError::TooLong)?;
+        place.copy_from_slice(word.as_bytes());
+        if word.starts_with('¿') {
+            place.fill(0xff);
         }
-        buf[..bytes.len()].copy_from_slice(bytes);
-        if bytes.starts_with("¿".as_bytes()) && !bytes.is_empty() {
-            buf[0] = 0xff;
-        }
-        Ok(bytes.len())
+        Ok(word.len())
     }
 
     fn var(&self, _name: &str, _buf: &mut [u8]) -> Result<usize, FillError> {
@@ -73,8 +70,8 @@ fn asks(alloc: Global, [wanted, words, ..]: Cells) -> Holds {
 
 /// Calls the program with words, or where these are `refused` memory, and with no way to write a
 /// fault. A row has the status, the output, the line of a fault, and the words.
-fn calls<R: Runtime, F: FileSystem>(rt: &R, files: &F, alloc: Global, row: Cells) -> Holds {
-    let [status, output, told, words, ..] = row;
+fn calls<R: Runtime, F: FileSystem>(rt: &R, files: &F, row: Cells) -> Holds {
+    let ([status, output, told, words, ..], alloc) = (row, rt.alloc());
     let (text, told) = (bytes_of(alloc, output)?, bytes_of(alloc, told)?);
     let (wanted, mut holds) = (ExitCode::from(status.parse::<u8>()?), true);
     for (telling, told) in [("9 never", told.as_slice()), ("9 0", b"")] {
@@ -97,7 +94,7 @@ fn calls<R: Runtime, F: FileSystem>(rt: &R, files: &F, alloc: Global, row: Cells
 
 #[test]
 fn words_ask_for_what_their_row_says(rt: HostRuntime) -> Result<(), Fail> {
-    all_hold!(rt; asks() => r#"
+    all_hold!(rt, '|'; asks(rt.alloc()) => r#"
 Ok(Replay { file: "x" })|,tscache,replay,x
 Ok(Replay { file: "x" })|,another,replay,x
 Ok(Replay { file: "a file with spaces" })|,tscache,replay,a file with spaces
@@ -144,14 +141,15 @@ Err(2)|,tscache,--help
 Err(2)|,tscache,-h
 Err(2)|,tscache,help
 Err(2)|,tscache,--version
-Err(2)|,tscache,replay,--help"#)
+Err(2)|,tscache,replay,--help"#);
+    Ok(())
 }
 
 /// Files of the system: none, an empty one, one that cannot be read, and one without end.
 #[test]
 fn calls_end_as_their_rows_say(rt: HostRuntime) -> Result<(), Fail> {
     let system = SystemFiles::of(&rt);
-    all_hold!(rt; calls(&rt, &MemoryFiles) => "
+    all_hold!(rt, '|'; calls(&rt, &MemoryFiles) => "
 0|two readers log||,tscache,replay, a b .json
 0|two readers log||,tscache,run, a b .json
 0|right¶||,tscache,check, a b .json,two_readers.log
@@ -215,10 +213,12 @@ fn calls_end_as_their_rows_say(rt: HostRuntime) -> Result<(), Fail> {
 4||input too long¶|,tscache,replay,/dev/zero
 4||read failed¶|,tscache,check,/no/such/file,/dev/null
 4||read failed¶|,tscache,check,/dev/null,/no/such/file
-1||trace refused: fault 1¶|,tscache,check,/dev/null,/dev/zero")
+1||trace refused: fault 1¶|,tscache,check,/dev/null,/dev/zero");
+    Ok(())
 }
 
 #[test]
 fn a_call_without_memory_for_its_words(rt: HostRuntime) -> Result<(), Fail> {
-    all_hold!(rt; calls(&rt, &MemoryFiles) => "5||out of memory¶|refused")
+    all_hold!(rt, '|'; calls(&rt, &MemoryFiles) => "5||out of memory¶|refused");
+    Ok(())
 }

@@ -4,7 +4,6 @@ use std::sync::atomic::AtomicU64;
 use std::sync::atomic::Ordering::SeqCst;
 use std::thread;
 use tsc_shared::Gate;
-use tsc_stream::Progress;
 
 /// Holds threads up by a rule, and counts the starts and the ends of calls: of the first list, of
 /// the second and of all others.

@@ -1,6 +1,5 @@
 //! What both readers tell of a trace, and what its calls are read as.
 use crate::support::*;
-use tsc_trace::{Call, TraceFault, read_trace};
 use tsc_trace_format::read_trace as read_values;
 
 /// Calls, with a `◊` in place of their number.
@@ -79,6 +78,9 @@ Err(Shape(◊))|{"op":"batch","marks":[{"span":{"start":"6"},"time":[20,0]},{"sp
 Err(Uuid(◊))|{"op":"batch","marks":[{"span":{"start":"63","end":"61"},"time":[20,0]},{"span":{"start":"61"},"time":[20,0],"owner":"xyz"}],"now":[20,0]}
 Err(Hex(◊))|{"op":"batch","marks":[{"span":{"start":"61"},"time":[20,0],"owner":"xyz"},{"span":{"start":"6"},"time":[20,0]},{"span":{"start":"63","end":"61"},"time":[20,0]}],"now":[20,0]}"#;
 
+/// The place of a whole text.
+const WHOLE: [&str; 3] = ["◊", "", ""];
+
 /// What a reader gives. Where memory is refused it is asked once more.
 macro_rules! again {
     ($reading:expr) => {
@@ -106,16 +108,12 @@ pub(crate) fn told(alloc: Global, bytes: &[u8]) -> Result<String, AllocError> {
     format!(in alloc; "Ok({count})")
 }
 
-fn reads(head: &str, alloc: Global, [wanted, text, ..]: Cells) -> Holds {
-    Ok(told(alloc, &trace_of(alloc, head, text)?)?.as_str() == wanted)
-}
-
-/// Reads a call at a place, with its number there, and the number of all calls.
-fn reads_at(place: [&str; 3], alloc: Global, [wanted, call, ..]: Cells) -> Holds {
+/// Reads a text at a place, with the number of a call there, and the number of all calls.
+fn reads(head: &str, place: [&str; 3], alloc: Global, [wanted, text, ..]: Cells) -> Holds {
     let number = place[if wanted.starts_with("Ok") { 2 } else { 1 }];
     let wanted = wanted.replace(alloc, '◊', number)?;
-    let lists = place[0].replace(alloc, '◊', call)?;
-    Ok(told(alloc, &trace_of(alloc, WIDE, lists.as_str())?)?.as_str() == wanted.as_str())
+    let text = place[0].replace(alloc, '◊', text)?;
+    Ok(told(alloc, &trace_of(alloc, head, text.as_str())?)?.as_str() == wanted.as_str())
 }
 
 /// Reads a call of a trace: a lookup of some of four keys, or an Add.
@@ -138,7 +136,7 @@ fn reads_calls(alloc: Global, [wanted, call, ..]: Cells) -> Holds {
 /// Faults of heads count as a call 0.
 #[test]
 fn tells_what_decides_in_the_head(rt: HostRuntime) -> Result<(), Fail> {
-    all_hold!(rt; reads(HEAD) => r#"
+    all_hold!(rt, '|'; reads(HEAD, WHOLE, rt.alloc()) => r#"
 Err(Shape(0))|{"page_first":132,"page_max":132,"min_pages":2,"retention":10,"low_water":[5],"threads":[[]]}
 Err(Shape(0))|{"page_first":132,"page_max":132,"min_pages":2,"retention":10,"low_water":[5,0,0],"threads":[[]]}
 Err(Shape(0))|{"page_first":132,"page_max":132,"min_pages":2,"retention":10,"low_water":[5,null],"threads":[[]]}
@@ -179,15 +177,17 @@ Err(NotJson)|1e999
 Err(NotJson)|{"page_first":132
 Err(NotJson)|{} {}
 Err(NotJson)|[×200
-Err(NotJson)|{"threads":"ÿ"}"#)
+Err(NotJson)|{"threads":"ÿ"}"#);
+    Ok(())
 }
 
 /// Calls are numbered on through all lists. The first that has a fault decides.
 #[test]
 fn tells_what_decides_in_calls(rt: HostRuntime) -> Result<(), Fail> {
     let third = r#"[[{"op":"low"}],[{"op":"low"},◊,{"op":"low"}]]"#;
-    all_hold!(rt; reads_at(["[[◊]]", "1", "1"]) => CALLS, reads_at([third, "3", "4"]) => CALLS,
-        reads(WIDE) => r#"
+    all_hold!(rt, '|'; reads(WIDE, ["[[◊]]", "1", "1"], rt.alloc()) => CALLS,
+        reads(WIDE, [third, "3", "4"], rt.alloc()) => CALLS,
+        reads(WIDE, WHOLE, rt.alloc()) => r#"
 Ok(0)|[[]]
 Ok(0)|[[],[]]
 Ok(3)|[[{"op":"low"}],[{"op":"low"},{"op":"low"}]]
@@ -197,13 +197,14 @@ Err(Shape(0))|[[],7]
 Err(Shape(0))|{"page_first":132,"page_max":8256,"min_pages":2,"retention":10,"low_water":[5,0],"threads":null}
 Err(Hex(3))|[[{"op":"low"}],[],[{"op":"low"},{"op":"get","span":{"start":"6"}},{"op":"x"}]]
 Err(Hex(2))|[[{"op":"low"},{"op":"get","span":{"start":"6"}}],[{"op":"x"}]]
-Err(Shape(1))|[[],[{"op":"x"}]]"#)
+Err(Shape(1))|[[],[{"op":"x"}]]"#);
+    Ok(())
 }
 
 /// Lists at their limits, and calls that cost as much as the largest of small pages, or more.
 #[test]
 fn tells_what_decides_in_long_traces(rt: HostRuntime) -> Result<(), Fail> {
-    all_hold!(rt; reads(WIDE) => r#"
+    all_hold!(rt, '|'; reads(WIDE, WHOLE, rt.alloc()) => r#"
 Ok(0)|{"page_first":132,"page_max":8256,"min_pages":2,"retention":10,"low_water":[5,0],"threads":[¦[],×63¦[]]}
 Err(Config)|{"page_first":132,"page_max":8256,"min_pages":2,"retention":10,"low_water":[5,0],"threads":[¦[],×64¦[]]}
 Err(Config)|{"page_first":132,"page_max":8256,"min_pages":2,"retention":10,"low_water":[5,0],"threads":[¦[],×64¦[{"op":"x"}]]}
@@ -219,7 +220,7 @@ Ok(1)|[[{"op":"batch","now":[20,0],"marks":[¦{"span":{"start":"61"},"time":[20,
 Err(Shape(1))|[[{"op":"batch","now":[20,0],"marks":[¦{"span":{"start":"61"},"time":[20,0]},×1024¦{"span":{"start":"61"},"time":[20,0]}]}]]
 Err(Shape(1))|[[{"op":"batch","now":[20,0],"marks":[¦7,×1024¦7]}]]
 Err(Shape(1))|[[{"op":"batch","now":[-1,0],"marks":[¦{"span":{"start":"61"},"time":[20,0]},×1024¦{"span":{"start":"61"},"time":[20,0]}]}]]
-Err(Span(1))|[[{"op":"batch","now":[20,0],"marks":[{"span":{"start":"¦61×4097¦"},"time":[20,0]}]}]]"#, reads(NARROW) => r#"
+Err(Span(1))|[[{"op":"batch","now":[20,0],"marks":[{"span":{"start":"¦61×4097¦"},"time":[20,0]}]}]]"#, reads(NARROW, WHOLE, rt.alloc()) => r#"
 Ok(1)|[[{"op":"add","span":{"start":"¦61×232¦"},"time":[20,0],"now":[20,0]}]]
 Err(TooLarge(1))|[[{"op":"add","span":{"start":"¦61×233¦"},"time":[20,0],"now":[20,0]}]]
 Err(TooLarge(1))|[[{"op":"add","span":{"start":"¦61×233¦"},"time":[5,0],"now":[20,0]}]]
@@ -235,12 +236,13 @@ Ok(1)|[[{"op":"batch","now":[20,0],"marks":[{"span":{"start":"61"},"time":[20,0]
 Err(TooLarge(1))|[[{"op":"batch","now":[20,0],"marks":[{"span":{"start":"61"},"time":[20,0]},{"span":{"start":"¦61×233¦"},"time":[20,0]}]}]]
 Err(TooLarge(1))|[[{"op":"batch","now":[20,0],"marks":[{"span":{"start":"¦61×233¦"},"time":[5,0]},{"span":{"start":"61"},"time":[20,0]}]}]]
 Err(Hex(1))|[[{"op":"batch","now":[20,0],"marks":[{"span":{"start":"¦61×233¦"},"time":[20,0]},{"span":{"start":"6"},"time":[20,0]}]}]]
-Err(TooLarge(2))|[[{"op":"low"},{"op":"batch","now":[20,0],"marks":[{"span":{"start":"¦61×233¦"},"time":[20,0]}]},{"op":"x"}]]"#)
+Err(TooLarge(2))|[[{"op":"low"},{"op":"batch","now":[20,0],"marks":[{"span":{"start":"¦61×233¦"},"time":[20,0]}]},{"op":"x"}]]"#);
+    Ok(())
 }
 
 #[test]
 fn reads_spans_and_owners(rt: HostRuntime) -> Result<(), Fail> {
-    all_hold!(rt; reads_calls() => r#"
+    all_hold!(rt, '|'; reads_calls(rt.alloc()) => r#"
 covers [false, true, false, false]|{"op":"get","span":{"start":"62"}}
 covers [true, true, false, false]|{"op":"get","span":{"start":"61","end":"63"}}
 covers [false, true, false, false]|{"op":"get","span":{"start":"62","end":""}}
@@ -261,5 +263,6 @@ Timestamp { wall: 20, logical: 1 } None Timestamp { wall: 30, logical: 2 }|{"op"
 Timestamp { wall: 20, logical: 1 } Some(00112233-4455-6677-8899-aabbccddeeff) Timestamp { wall: 30, logical: 2 }|{"op":"add","span":{"start":"61"},"time":[20,1],"now":[30,2],"owner":"00112233-4455-6677-8899-AABBCCDDEEFF"}
 Timestamp { wall: 20, logical: 1 } Some(00112233-4455-6677-8899-aabbccddeeff) Timestamp { wall: 30, logical: 2 }|{"op":"add","span":{"start":"61"},"time":[20,1],"now":[30,2],"owner":"00112233445566778899aabbccddeeff"}
 Timestamp { wall: 20, logical: 1 } Some(00112233-4455-6677-8899-aabbccddeeff) Timestamp { wall: 30, logical: 2 }|{"op":"add","span":{"start":"61"},"time":[20,1],"now":[30,2],"owner":"{00112233-4455-6677-8899-aabbccddeeff}"}
-Timestamp { wall: 20, logical: 1 } Some(00112233-4455-6677-8899-aabbccddeeff) Timestamp { wall: 30, logical: 2 }|{"op":"add","span":{"start":"61"},"time":[20,1],"now":[30,2],"owner":"urn:uuid:00112233-4455-6677-8899-aabbccddeeff"}"#)
+Timestamp { wall: 20, logical: 1 } Some(00112233-4455-6677-8899-aabbccddeeff) Timestamp { wall: 30, logical: 2 }|{"op":"add","span":{"start":"61"},"time":[20,1],"now":[30,2],"owner":"urn:uuid:00112233-4455-6677-8899-aabbccddeeff"}"#);
+    Ok(())
 }

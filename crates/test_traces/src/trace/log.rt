@@ -1,6 +1,5 @@
 //! Logs from their texts, and back.
 use crate::support::*;
-use tsc_trace::{log_text, read_log};
 
 /// How many lines are read, or the first that is no line of a log, or that there are too many.
 static TEXTS: &str = "# No lines.
@@ -111,16 +110,15 @@ Err(Text(1))|x¶¦0 0 low 0 5.0¶×65536";
 /// Reads logs, and writes them again.
 fn reads_logs(alloc: Global, [wanted, text, ..]: Cells) -> Holds {
     let text = bytes_of(alloc, text)?;
-    let read = read_log(alloc, &text);
-    let is_same = match &read {
-        Ok(log) => log_text(alloc, log)?.as_slice() == text.as_slice(),
-        Err(_) => true,
+    let count = match read_log(alloc, &text) {
+        Ok(log) if log_text(alloc, &log)?.as_slice() != text.as_slice() => return Ok(false),
+        read => read.map(|log| log.lines.slice().len()),
     };
-    let count = read.map(|log| log.lines.slice().len());
-    Ok(is_same && format!(in alloc; "{count:?}")?.as_str() == wanted)
+    Ok(format!(in alloc; "{count:?}")?.as_str() == wanted)
 }
 
 #[test]
 fn reads_texts(rt: HostRuntime) -> Result<(), Fail> {
-    all_hold!(rt; reads_logs() => TEXTS)
+    all_hold!(rt, '|'; reads_logs(rt.alloc()) => TEXTS);
+    Ok(())
 }

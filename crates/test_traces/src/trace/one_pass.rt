@@ -17,12 +17,12 @@ pub(crate) fn reads_once(head: &str, alloc: Global, [text, wanted, ..]: Cells) -
 }
 
 fn reads_replayed(alloc: Global, [_, _, _, _, text, ..]: Cells) -> Holds {
-    reads_once(HEAD, alloc, cells(text))
+    reads_once(HEAD, alloc, words(text, '|'))
 }
 
 #[test]
 fn reads_what_has_no_fault_in_one_pass(rt: HostRuntime) -> Result<(), Fail> {
-    all_hold!(rt; reads_once(NARROW) => r#"
+    all_hold!(rt, '|'; reads_once(NARROW, rt.alloc()) => r#"
 [[],¦[],×62¦[]]|same
 [[¦{"op":"low"},×110¦{"op":"low"}]]|same
 [[{"op":"get","span":{"start":"¦61×4096¦"}}]]|same
@@ -63,5 +63,6 @@ fn reads_what_has_no_fault_in_one_pass(rt: HostRuntime) -> Result<(), Fail> {
 [[{"op":"add","span":{"start":"61"},"time":[20,4294967296],"now":[20,0]}]]|none
 {"low_water":[5,0],"page_first":4294967362,"page_max":264,"min_pages":2,"retention":10,"threads":[[]]}|none
 {"low_water":[5,0],"page_first":66,"page_max":264,"min_pages":0,"retention":10,"threads":[[]]}|none
-{"low_water":[5,0],"page_first":66,"min_pages":2,"retention":10,"threads":[[]]}|none"#, reads_replayed() => REPLAYS)
+{"low_water":[5,0],"page_first":66,"min_pages":2,"retention":10,"threads":[[]]}|none"#, reads_replayed(rt.alloc()) => REPLAYS);
+    Ok(())
 }

@@ -13,17 +13,19 @@ fn reads_in_order(alloc: Global, [place, members, number, ..]: Cells) -> Holds {
     }
     let members = order.as_slice().join(alloc, ",")?;
     let text = place.replace(alloc, '◊', members.as_str())?;
-    reads_once(NARROW, alloc, cells(text.as_str()))
+    reads_once(NARROW, alloc, words(text.as_str(), '|'))
 }
 
 #[test]
 fn reads_members_in_each_order_in_one_pass(rt: HostRuntime) -> Result<(), Fail> {
-    all_hold!(rt; reads_in_order() => r#"
+    let table = r#"
 №0..720|{◊}|"page_first":66;"page_max":264;"min_pages":2;"retention":10;"low_water":[5,0];"threads":[[{"op":"low"}],[{"op":"batch","marks":[],"now":[1,0]}]]|№
 №0..120|[[{◊}]]|"op":"add";"span":{"start":"61"};"time":[20,1];"owner":"¹";"now":[21,2]|№
 №0..6|[[{◊}]]|"op":"batch";"marks":[{"span":{"start":"61"},"time":[20,1]},{"span":{"start":"62"},"time":[21,0],"owner":null}];"now":[21,2]|№
 №0..6|[[{"op":"batch","marks":[{◊}],"now":[21,2]}]]|"span":{"start":"61","end":"63"};"time":[20,1];"owner":"²"|№
 №0..2|[[{◊}]]|"op":"get";"span":{"start":"61","onward":"("}|№
 №0..6|[[{"op":"get","span":{◊}}]]|"start":"61";"end":"63";"ends":"(]"|№
-№0..2|[[{"op":"add","time":[20,1],"now":[21,2],"span":{◊}}]]|"start":"61";"onward":"["|№"#)
+№0..2|[[{"op":"add","time":[20,1],"now":[21,2],"span":{◊}}]]|"start":"61";"onward":"["|№"#;
+    all_hold!(rt, '|'; reads_in_order(rt.alloc()) => numbered(rt.alloc(), table)?);
+    Ok(())
 }

@@ -250,15 +250,16 @@ fn is_told_alike(place: &str, alloc: Global, [piece, ..]: Cells) -> Holds {
 fn are_told_alike(alloc: Global, [wanted, piece, ..]: Cells) -> Holds {
     let mut holds = PLACES.lines().any(|row| row.starts_with(wanted));
     for row in PLACES.lines() {
-        let [kind, place, ..] = cells(row);
-        holds &= kind != wanted || is_told_alike(place, alloc, cells(piece))?;
+        let [kind, place, ..] = words(row, '|');
+        holds &= kind != wanted || is_told_alike(place, alloc, words(piece, '|'))?;
     }
     Ok(holds)
 }
 
 #[test]
 fn both_readers_tell_the_same_of_pieces(rt: HostRuntime) -> Result<(), Fail> {
-    all_hold!(rt; are_told_alike() => PIECES)
+    all_hold!(rt, '|'; are_told_alike(rt.alloc()) => PIECES);
+    Ok(())
 }
 
 #[test]
@@ -279,7 +280,7 @@ fn both_readers_tell_the_same_of_changed_bytes(rt: HostRuntime) -> Result<(), Fa
 
 #[test]
 fn both_readers_tell_the_same_of_nested_lists(rt: HostRuntime) -> Result<(), Fail> {
-    all_hold!(rt; is_told_alike("◊") => r#"
+    all_hold!(rt, '|'; is_told_alike("◊", rt.alloc()) => r#"
 [×126¦]×126
 [×127¦]×127
 [×128¦]×128
@@ -289,15 +290,17 @@ fn both_readers_tell_the_same_of_nested_lists(rt: HostRuntime) -> Result<(), Fai
 {"page_first":132,"page_max":8256,"min_pages":2,"retention":10,"low_water":[5,0],"threads":¦[×126¦]×126¦}
 {"page_first":132,"page_max":8256,"min_pages":2,"retention":10,"low_water":[5,0],"threads":¦[×127¦]×127¦}
 [[{"op":"low","x":¦[×124¦]×124¦}]]
-[[{"op":"low","x":¦[×125¦]×125¦}]]"#)
+[[{"op":"low","x":¦[×125¦]×125¦}]]"#);
+    Ok(())
 }
 
 /// For `scripts/refuse-each-growth`: faults are in the head, in the last call, and in what JSON is.
 #[test]
 fn a_refused_growth_changes_no_answer(rt: HostRuntime) -> Result<(), Fail> {
-    all_hold!(rt; is_told_alike("◊") => r#"
+    all_hold!(rt, '|'; is_told_alike("◊", rt.alloc()) => r#"
 sample
 {"page_first":132,"page_max":8256,"min_pages":2,"retention":10,"low_water":[5],"threads":[[{"op":"low"}]]}
 [[{"op":"low"},{"op":"get","span":{"start":"6"}}]]
-{"page_first":132,"page_max":8256,"min_pages":2,"retention":10,"low_water":[5,0],"threads":[[{"op":"low"}]]"#)
+{"page_first":132,"page_max":8256,"min_pages":2,"retention":10,"low_water":[5,0],"threads":[[{"op":"low"}]]"#);
+    Ok(())
 }

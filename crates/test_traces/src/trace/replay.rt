@@ -1,8 +1,6 @@
 //! Replays of traces in memory, of their texts, and their logs.
 use crate::support::*;
-use tsc_check::CheckFault;
 use tsc_trace::log_laws::reads_again;
-use tsc_trace::*;
 
 type Ended = Result<(), ReplayFault>;
 
@@ -60,21 +58,24 @@ fn ends(alloc: Global, [reading, writing, fault, length, ..]: Cells) -> Holds {
 
 #[test]
 fn replays(rt: HostRuntime) -> Result<(), Fail> {
-    all_hold!(rt; gives("1 in turn") => REPLAYS, ends() => "
+    all_hold!(rt, '|'; gives("1 in turn", rt.alloc()) => REPLAYS, ends(rt.alloc()) => "
 100 never|100 never|None|137
 100 1|100 never|Some(Read)|0
 100 never|100 0|Some(Write)|0
-100 never|100 1|Some(Write)|100")
+100 never|100 1|Some(Write)|100");
+    Ok(())
 }
 
 /// For `scripts/refuse-each-growth`, as is the next.
 #[test]
 fn a_refused_growth_writes_nothing(rt: HostRuntime) -> Result<(), Fail> {
-    all_hold!(rt; gives("") => r#"
-0|0 0 add 0 1 0 0¶0 1 batch 1 1 0 0¶0 2 get 2 30.0 none¶0 3 low 2 5.0¶||replay|[[{"op":"add","span":{"start":"61","end":"63"},"time":[20,0],"owner":"¹","now":[20,0]},{"op":"batch","marks":[{"span":{"start":"62"},"time":[30,0]},{"span":{"start":"64"},"time":[20,0],"owner":"²"}],"now":[20,0]},{"op":"get","span":{"start":"62"}},{"op":"low"}]]"#)
+    all_hold!(rt, '|'; gives("", rt.alloc()) => r#"
+0|0 0 add 0 1 0 0¶0 1 batch 1 1 0 0¶0 2 get 2 30.0 none¶0 3 low 2 5.0¶||replay|[[{"op":"add","span":{"start":"61","end":"63"},"time":[20,0],"owner":"¹","now":[20,0]},{"op":"batch","marks":[{"span":{"start":"62"},"time":[30,0]},{"span":{"start":"64"},"time":[20,0],"owner":"²"}],"now":[20,0]},{"op":"get","span":{"start":"62"}},{"op":"low"}]]"#);
+    Ok(())
 }
 
 #[test]
 fn a_refused_growth_of_overlapping_reads_writes_nothing(rt: HostRuntime) -> Result<(), Fail> {
-    all_hold!(rt; gives("") => "0|reads log||replay|reads")
+    all_hold!(rt, '|'; gives("", rt.alloc()) => "0|reads log||replay|reads");
+    Ok(())
 }

@@ -1,13 +1,9 @@
 //! The text of each fault and of each verdict, word for word, and the line that tells it.
 use crate::support::*;
-use tsc_check::{CheckFault, Verdict};
-use tsc_commands::{status_of_check_fault, tell_check_fault, tell_fault, tell_stop};
 use tsc_run::{RunFault, RunStop};
 use tsc_shared::OpenFault;
-use tsc_stream::{InputFault, WriteFailed};
 use tsc_trace::ReplayFault::Trace;
 use tsc_trace::TraceFault::{Config, Hex, NotJson, Number, Shape, Span, TooLarge, Uuid};
-use tsc_trace::{LogFault, ReplayFault, TraceFault, WriteLogFault};
 
 static TRACE_FAULTS: [(TraceFault, &str); 9] = [
     (NotJson, "not JSON"),
