@@ -5,8 +5,8 @@
 //! `scripts/refuse-handles` handles on the standby copy.
 use crate::prelude::*;
 
-/// How often an Add is tried that is refused memory.
-const TRIES: u32 = 3;
+/// How often an Add is made again that is refused memory.
+const REFUSED: u32 = 2;
 
 /// How often an Add is tried at most that others are in the way of.
 const CALLS: u32 = 10_000_000;
@@ -16,7 +16,7 @@ const LOOKS: u32 = 10_000;
 
 impl<C: Of, R: Wait + Abort> Player<'_, C, R> {
     /// Waits a little until all seats are there, so that they add at the same time.
-    fn gather(&self) {
+    pub fn gather(&self) {
         self.meeting.adds.fetch_add(1, SeqCst);
         for _ in 0..LOOKS {
             if self.meeting.seats <= self.meeting.adds.load(SeqCst) {
@@ -26,49 +26,26 @@ impl<C: Of, R: Wait + Abort> Player<'_, C, R> {
         }
     }
 
-    /// An Add that is called again as long as others are in its way.
-    fn add_until_free(&mut self, entry: &Entry, by: By) -> Reply {
+    /// An Add that is called again as long as others are in its way, and a few times where it is
+    /// refused memory.
+    pub fn add_until_free(&mut self, entry: &Entry, by: By) -> Reply {
+        let mut refused: u32 = 0;
         for _ in 0..CALLS {
             let reply = self.add(entry, by);
-            if !matches!(reply, Busy | Inside) {
-                return reply;
+            match reply {
+                Reply::NoMemory if refused < REFUSED => refused = refused.saturating_add(1),
+                Busy | Inside => thread::yield_now(),
+                _ => return reply,
             }
-            thread::yield_now();
         }
         Busy
-    }
-
-    /// The Add of a round, at a place that no other was told. It is tried a few times where it is
-    /// refused memory, until memory is refused for good.
-    pub fn add_again(&mut self, round: u32) -> bool {
-        if round == 0 {
-            self.gather();
-        }
-        let (number, plan) = (self.number(), &self.meeting.plan);
-        let Ok(entry) = plan.entry(self.alloc, number, round) else {
-            return false;
-        };
-        for _ in 0..TRIES {
-            let reply = self.add_until_free(&entry, plan.by_of(number));
-            if reply != Reply::NoMemory {
-                self.check(self.is_placed(reply, round), reply);
-                return self.meeting.has_more(round);
-            }
-        }
-        false
     }
 
     /// The first seat adds with a gate, each time at a later time. Until it is done two others add
     /// as well, and the rest see no Add of which the gate was not told before.
     pub fn see_told(&mut self, round: u32) -> bool {
         match self.number() {
-            0 => {
-                let adds = u64::from(round).saturating_add(1);
-                let reply = self.add_key("a", adds.saturating_add(19), Gate);
-                self.check(matches!(reply, Place(_, _)), reply);
-                self.meeting.adds.store(adds, SeqCst);
-                return self.meeting.has_more(round);
-            }
+            0 => return self.lead(round, Gate),
             1 | 2 => {
                 let reply = self.add_key("b", 20, Plain);
                 self.check(matches!(reply, Place(_, _)), reply);

@@ -7,8 +7,8 @@ use tsc_time::Value;
 use uuid::Uuid;
 
 const ROWS: &str = "# Two marks of two owners at one time come to that time without an owner.
-reopen 2 10
-0 again {a@20¹|b@20²|[a,c)@20²} 20 gate = place 0 kept
+open 2 10
+0 add {a@20¹|b@20²|[a,c)@20²} 20 gate = place 0 kept
 1 get a = 20 1
 1 get b = 20² 1
 1 get c = 5 1
@@ -16,8 +16,8 @@ close = 1
 gated = 1
 
 # Two owners again, by the calls without a gate.
-reopen 2 10
-0 again {a@20¹|b@20²|[a,c)@20²} 20 plain = place 0 kept
+open 2 10
+0 add {a@20¹|b@20²|[a,c)@20²} 20 plain = place 0 kept
 1 get a = 20 1
 1 get b = 20² 1
 1 get c = 5 1
@@ -25,9 +25,9 @@ close = 1
 gated = 0
 
 # The other seat looks before a batch, and then at both of its keys.
-reopen 2 10
+open 2 10
 1 get [a,c) = 5 0
-0 again {a@20¹|b@20¹} 20 gate = place 0 kept
+0 add {a@20¹|b@20¹} 20 gate = place 0 kept
 1 get a = 20¹ 1
 1 get b = 20¹ 1
 close = 1
@@ -35,31 +35,31 @@ gated = 1
 
 # A batch that rotates, the empty one, and one of which no mark is kept. Of its two marks one is at
 # the floor, and the other is of the empty span.
-reopen 2 10
-0 again {a@20¹|b@20¹|c@20¹|d@20¹|e@20¹} 20 gate = place 0 rotated
+open 2 10
+0 add {a@20¹|b@20¹|c@20¹|d@20¹|e@20¹} 20 gate = place 0 rotated
 1 figures = 2 1 5 165 5 1
-0 again {} 20 gate = place 1 not_kept
-0 again {a@5¹|(a,a)@20¹} 20 gate = place 2 not_kept
+0 add {} 20 gate = place 1 not_kept
+0 add {a@5¹|(a,a)@20¹} 20 gate = place 2 not_kept
 1 get e = 20¹ 3
-0 again f@20¹ 20 gate = place 3 kept
-0 again {} 20 gate = place 4 not_kept
-0 again g@20¹ 20 gate = place 5 kept
+0 add f@20¹ 20 gate = place 3 kept
+0 add {} 20 gate = place 4 not_kept
+0 add g@20¹ 20 gate = place 5 kept
 1 get [f,h) = 20¹ 6
 close = 6
 gated = 6
 
 # A mark of the empty span, alone and beside another.
-reopen 2 10
-0 again {(a,a)@20¹} 20 gate = place 0 not_kept
-0 again {(a,a)@20¹|b@20¹} 20 gate = place 1 kept
+open 2 10
+0 add {(a,a)@20¹} 20 gate = place 0 not_kept
+0 add {(a,a)@20¹|b@20¹} 20 gate = place 1 kept
 1 get a = 5 2
 1 get b = 20¹ 2
 close = 2
 gated = 2
 
 # A batch that drops the page that it filled.
-reopen 2 10 66 66 1
-0 again {a@20¹|b@20¹|c@40¹} 40 gate = place 0 dropped
+open 2 10 66 66 1
+0 add {a@20¹|b@20¹|c@40¹} 40 gate = place 0 dropped
 1 floor = 20 1
 1 get a = 20 1
 1 get c = 40¹ 1
@@ -67,31 +67,31 @@ close = 1
 gated = 1
 
 # One mark that is too large refuses all, and changes nothing.
-reopen 2 10
-0 again {a@20¹|k×101@20¹} 20 gate = too_large
+open 2 10
+0 add {a@20¹|k×101@20¹} 20 gate = too_large
 1 get a = 5 0
-0 again {k×101@5¹} 20 gate = too_large
+0 add {k×101@5¹} 20 gate = too_large
 close = 0
 gated = 0
 
 # A batch is one entry of the history, and one that is full refuses another, but for one that is
 # too large.
-reopen 2 1
-0 again {a@20¹|b@20¹|c@20¹} 20 gate = place 0 kept
-0 again d@20¹ 20 gate = full 1
-0 again {} 20 gate = full 1
-0 again {k×101@20¹} 20 gate = too_large
+open 2 1
+0 add {a@20¹|b@20¹|c@20¹} 20 gate = place 0 kept
+0 add d@20¹ 20 gate = full 1
+0 add {} 20 gate = full 1
+0 add {k×101@20¹} 20 gate = too_large
 1 get d = 5 1
 close = 1
 gated = 1
 
 # Each side has batches and Adds of one mark in turn, over a rotation.
-reopen 2 10
-0 again a@20¹ 20 gate = place 0 kept
-0 again {b@30¹|c@31¹} 20 gate = place 1 kept
-0 again d@20¹ 20 gate = place 2 kept
-0 again e@20¹ 20 gate = place 3 rotated
-0 again {b@32¹|f@33²} 20 gate = place 4 kept
+open 2 10
+0 add a@20¹ 20 gate = place 0 kept
+0 add {b@30¹|c@31¹} 20 gate = place 1 kept
+0 add d@20¹ 20 gate = place 2 kept
+0 add e@20¹ 20 gate = place 3 rotated
+0 add {b@32¹|f@33²} 20 gate = place 4 kept
 1 get a = 20¹ 5
 1 get b = 32¹ 5
 1 get [c,e) = 31¹ 5
@@ -108,7 +108,7 @@ close = 20000";
 /// Whether the replies of both keys, and of each, can be those of whole batches.
 fn is_whole(both: Reply, a: Reply, b: Reply) -> bool {
     match (both, a, b) {
-        (Read(_, Owner::Nobody, _), Read(of_a, _, at_a), Read(of_b, _, at_b)) => {
+        (Read(_, ' ', _), Read(of_a, _, at_a), Read(of_b, _, at_b)) => {
             at_a != at_b || of_a == of_b
         }
         _ => false,
@@ -148,7 +148,7 @@ impl<C: Of, R: Wait + Abort> Player<'_, C, R> {
 /// `scripts/refuse-each-growth tests test_shared batches::` refuses each growth of it in turn.
 #[test]
 fn a_batch_is_one_entry(rt: HostRuntime) -> Result<(), Fail> {
-    play(&rt, rt.alloc(), ROWS, Way::Once)
+    play(&rt, rt.alloc(), ROWS, Way::Twice)
 }
 
 #[test]

@@ -4,9 +4,6 @@ use crate::prelude::*;
 use crossbeam_channel::{Receiver, Sender};
 use std::alloc::AllocError;
 
-/// The key of each seat.
-static KEYS: [&str; 8] = ["a", "b", "c", "d", "e", "f", "g", "h"];
-
 /// A front with the key and the time of the Add that it is of.
 #[derive(Drop)]
 struct Post<C: Of> {
@@ -38,9 +35,9 @@ impl<C: Of, R: Wait + Abort> Player<'_, C, R> {
     /// that comes. `None` where memory or a channel is refused.
     fn exchange(&mut self, time: u64) -> Option<Post<C>> {
         let number = self.number() as usize;
-        let key = *KEYS.get(number)?;
+        let key = self.key();
         self.add_key(key, time, Gate);
-        let letter = self.guest.take_letter()?;
+        let letter = self.guest.letter.take()?;
         let next = self.meeting.channels.get(number.saturating_add(1) % 8)?;
         next.to.send(self.rt, Post { letter, key, time }).ok()?;
         self.meeting.channels.get(number)?.from.recv(self.rt).ok()

@@ -5,14 +5,15 @@ ghost use Rattle.tsc_shared.specs.Answers.{Opens};
 
 use crate::entries::Entry;
 use crate::replies::Reply::{Busy, Counted, Full, Number, Place, Read};
-use crate::replies::{By, Reply, added_of, counted, read_of, seen, tried_of};
+use crate::replies::{By, Reply, counted, made_of, read_of, seen};
 use std::alloc::Global;
 use std::marker::{Brand, PhantomData};
 use std::sync::Wait;
 use std::test::Fail;
 use test_support::{end_texts, ends};
 use tsc_cache::{Config, Mark};
-use tsc_shared::{AddFault, Closed, Front, Gate, Gone, Receipt, Seat, SharedCache};
+use tsc_shared::TryAddFault::Refused;
+use tsc_shared::{AddFault, Closed, Front, Gate, Receipt, Seat, SharedCache};
 use tsc_span::Span;
 use tsc_time::{NoMemory, Value};
 
@@ -81,11 +82,6 @@ pub struct TestSeat<C: Of> {
 pub type Looks = (u64, Reply, Reply, Reply);
 
 impl<C: Of> TestSeat<C> {
-    /// The front that it has, which it then has no longer.
-    pub fn take_letter(&mut self) -> Option<SentSnapshot<C>> {
-        self.letter.take()
-    }
-
     /// How many Adds of its own there are, and how many it has seen.
     pub fn counts(&self) -> (u64, u64) {
         (self.seat.count(), self.seat.seen())
@@ -106,58 +102,47 @@ impl<C: Of> TestSeat<C> {
 }
 
 impl<C: Of> TestCache<C> {
-    fn add_gated<R: Wait, G: Gate>(
-        &self,
-        rt: &R,
-        guest: &mut TestSeat<C>,
-        entry: &Entry,
-        gate: &G,
-    ) -> Reply {
-        let (cache, seat) = (&self.cache, &mut guest.seat);
-        let added = match entry {
-            Entry::One(Mark { span, value }, now) => {
-                cache.add_gated(rt, seat, span, *value, *now, gate)
-            }
-            Entry::Batch(marks, now) => cache.add_all_gated(rt, seat, marks, *now, gate),
-        };
-        let reply = added_of(&added);
-        let (Ok(Receipt { front, .. }) | Err(AddFault::HistoryFull(front))) = added else {
-            return reply;
-        };
-        guest.letter = Some(SentSnapshot {
-            front,
-            of: PhantomData,
-        });
-        reply
-    }
-
-    /// An Add by such a call. The seat then has the front of a gated one.
+    /// An Add by such a call. The seat then has the front that it was told.
     pub fn add<R: Wait, G: Gate>(
         &self,
         rt: &R,
         guest: &mut TestSeat<C>,
         entry: &Entry,
-        by: By,
-        gate: &G,
+        (by, gate): (By, &G),
     ) -> Reply {
-        let counts = guest.counts();
-        let (cache, seat) = (&self.cache, &mut guest.seat);
-        let reply = match (by, entry) {
-            (By::Gate, _) => self.add_gated(rt, guest, entry, gate),
+        let (counts, cache, seat) = (guest.counts(), &self.cache, &mut guest.seat);
+        let made = match (by, entry) {
+            (By::Gate, Entry::One(Mark { span, value }, now)) => {
+                cache
+                    .add_gated(rt, seat, span, *value, *now, gate)
+                    .map_err(Refused)
+            }
+            (By::Gate, Entry::Batch(marks, now)) => {
+                cache
+                    .add_all_gated(rt, seat, marks, *now, gate)
+                    .map_err(Refused)
+            }
             (By::Plain, Entry::One(Mark { span, value }, now)) => {
-                added_of(&cache.add(rt, seat, span, *value, *now))
+                cache.add(rt, seat, span, *value, *now).map_err(Refused)
             }
             (By::Plain, Entry::Batch(marks, now)) => {
-                added_of(&cache.add_all(rt, seat, marks, *now))
+                cache.add_all(rt, seat, marks, *now).map_err(Refused)
             }
             (By::Tries(tries), Entry::One(Mark { span, value }, now)) => {
-                tried_of(&cache.try_add(seat, span, *value, *now, tries))
+                cache.try_add(seat, span, *value, *now, tries)
             }
             (By::Tries(tries), Entry::Batch(marks, now)) => {
-                tried_of(&cache.try_add_all(seat, marks, *now, tries))
+                cache.try_add_all(seat, marks, *now, tries)
             }
         };
-        guest.left_by(reply, counts)
+        let reply = guest.left_by(made_of(&made), counts);
+        if let Ok(Receipt { front, .. }) | Err(Refused(AddFault::HistoryFull(front))) = made {
+            guest.letter = Some(SentSnapshot {
+                front,
+                of: PhantomData,
+            });
+        }
+        reply
     }
 
     /// Why an Add of a mark is refused, if it is.
@@ -184,26 +169,21 @@ impl<C: Of> TestCache<C> {
         let (start, end) = end_texts(text).unwrap_or((text, text));
         let has_end = !text.ends_with(',') && !text.ends_with(",)");
         let end = has_end.then_some(end.as_bytes());
-        let (seat, ends) = (&mut guest.seat, ends(text));
-        read_of(
-            self.cache
-                .get_max_between(seat, start.as_bytes(), end, ends),
-        )
+        let (cache, seat, ends) = (&self.cache, &mut guest.seat, ends(text));
+        read_of(cache.get_max_between(seat, start.as_bytes(), end, ends))
     }
 
     /// The floor, which has no owner.
     pub fn low(&self, guest: &mut TestSeat<C>) -> Reply {
-        match self.cache.low_water(&mut guest.seat) {
-            Ok(floor) => seen(Value::unowned(floor.time), floor.front),
-            Err(Gone) => Reply::Gone,
-        }
+        let read = self.cache.low_water(&mut guest.seat);
+        read.map_or(Reply::Gone, |floor| {
+            seen(Value::unowned(floor.time), floor.front)
+        })
     }
 
     pub fn figures(&self, guest: &mut TestSeat<C>) -> Reply {
-        match self.cache.figures(&mut guest.seat) {
-            Ok(answer) => counted(answer.figures, answer.front),
-            Err(Gone) => Reply::Gone,
-        }
+        let read = self.cache.figures(&mut guest.seat);
+        read.map_or(Reply::Gone, |it| counted(it.figures, it.front))
     }
 
     pub fn look(&self, guest: &mut TestSeat<C>, entry: &Entry) -> Looks {
@@ -219,16 +199,13 @@ impl<C: Of> TestCache<C> {
     pub fn meet<R: Wait>(&self, rt: &R, one: &mut TestSeat<C>, other: &mut TestSeat<C>) -> Reply {
         match self.cache.meet(rt, &mut one.seat, &mut other.seat) {
             Ok(met) if (one.seat.seen(), other.seat.seen()) == (met, met) => Number(met),
-            Ok(_) => Reply::Changed,
-            Err(Gone) => Reply::Gone,
+            _ => Reply::Changed,
         }
     }
 
     pub fn learn(&self, guest: &mut TestSeat<C>, letter: SentSnapshot<C>) -> Reply {
-        match self.cache.learn(&mut guest.seat, letter.front) {
-            Ok(length) => Number(length),
-            Err(Gone) => Reply::Gone,
-        }
+        let learnt = self.cache.learn(&mut guest.seat, letter.front);
+        learnt.map_or(Reply::Gone, Number)
     }
 }
 

@@ -1,7 +1,6 @@
 //! An Add that is held up where it has the writer lock and nobody can see it, until lookups on
 //! other threads have answered, and Adds there were given up.
 use crate::prelude::*;
-use crate::threads::Meanwhile;
 use crate::watch::TURNS;
 
 /// The first Add of all.
@@ -56,18 +55,13 @@ held a@30¹ 20 place 1 kept = 1
 impl<C: Of, R: Wait + Abort> Player<'_, C, R> {
     /// Looks as often as the rows say. Then the Add that is held up is tried, and each try is busy.
     fn look_on(&mut self) {
-        let meeting = self.meeting;
-        let Meanwhile {
-            looks,
-            reply: wanted,
-            floor: wanted_floor,
-        } = meeting.meanwhile;
-        self.check(looks > 0, wanted);
-        for _ in 0..looks {
-            let reply = self.get(meeting.asked);
-            self.check(reply == wanted, reply);
+        let (meeting, wanted) = (self.meeting, self.meeting.meanwhile);
+        self.check(wanted.looks > 0, wanted.reply);
+        for _ in 0..wanted.looks {
+            let reply = self.get(wanted.asked);
+            self.check(reply == wanted.reply, reply);
             let floor = self.home.low(&mut self.guest);
-            self.check(floor == wanted_floor, floor);
+            self.check(floor == wanted.floor, floor);
         }
         for tries in [0, 1, 100] {
             let reply = self.add(&meeting.entry, Tries(tries));

@@ -5,19 +5,19 @@ use std::test::Fail;
 
 /// Both seats add, in turn. The third Add is of a key that is there already. The pages rotate at
 /// `e` and at `i`, where the oldest is dropped.
-const AGAIN: &str = "reopen 2 100
-0 again a@20¹ 20 gate = place 0 kept
-1 again b@20¹ 20 gate = place 1 kept
-0 again a@21¹ 20 gate = place 2 kept
-1 again c@20¹ 20 gate = place 3 kept
-0 again d@20¹ 20 gate = place 4 kept
-1 again e@20¹ 20 gate = place 5 rotated
-0 again f@41¹ 40 gate = place 6 kept
-1 again g@41¹ 40 gate = place 7 kept
-0 again h@41¹ 40 gate = place 8 kept
-1 again i@41¹ 40 gate = place 9 dropped
-0 again i@42¹ 40 gate = place 10 kept
-1 again a@21¹ 40 gate = place 11 not_kept
+const AGAIN: &str = "open 2 100
+0 add a@20¹ 20 gate = place 0 kept
+1 add b@20¹ 20 gate = place 1 kept
+0 add a@21¹ 20 gate = place 2 kept
+1 add c@20¹ 20 gate = place 3 kept
+0 add d@20¹ 20 gate = place 4 kept
+1 add e@20¹ 20 gate = place 5 rotated
+0 add f@41¹ 40 gate = place 6 kept
+1 add g@41¹ 40 gate = place 7 kept
+0 add h@41¹ 40 gate = place 8 kept
+1 add i@41¹ 40 gate = place 9 dropped
+0 add i@42¹ 40 gate = place 10 kept
+1 add a@21¹ 40 gate = place 11 not_kept
 close = 12";
 
 /// An Add of a key that both sides have.
@@ -49,7 +49,7 @@ copy [b,c)";
 
 #[test]
 fn a_refused_add_can_be_made_again(rt: HostRuntime) -> Result<(), Fail> {
-    play(&rt, rt.alloc(), AGAIN, Way::Once)
+    play(&rt, rt.alloc(), AGAIN, Way::Twice)
 }
 
 /// As many growths are refused and made good here as in the next test. Where both sides have its

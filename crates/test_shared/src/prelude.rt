@@ -3,7 +3,7 @@ pub use crate::entries::Entry;
 pub use crate::harness::Of;
 pub use crate::replies::By::{Gate, Plain, Tries};
 pub use crate::replies::Reply::{Busy, Full, Inside, Number, Place, Read};
-pub use crate::replies::{By, KEPT, Owner, Reply};
+pub use crate::replies::{By, KEPT, Reply};
 pub use crate::steps::{Way, play};
 pub use crate::threads::Player;
 pub use std::alloc::Global;

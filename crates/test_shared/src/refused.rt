@@ -5,14 +5,14 @@ use crate::harness::{Ended, Of, TestCache, TestSeat};
 use crate::replies::Reply::Number;
 use crate::replies::{By, Reply, reply_of, seen};
 use crate::steps::{Way, closed_with, plain, play};
-use crate::stress::LETTERS;
+use crate::stress::{LETTERS, value_at};
 use crate::watch::Watch;
 use std::alloc::Global;
 use std::mem;
 use std::process::Abort;
 use std::sync::Wait;
 use std::test::Fail;
-use test_support::{ends, words};
+use test_support::words;
 use tsc_cache::{Cache, TimestampCache};
 use tsc_time::Value;
 
@@ -31,100 +31,86 @@ const TURNS: &str = "open 2 100
 0 add i@42¹ 40 gate = place 10 kept
 1 add a@21¹ 40 gate = place 11 not_kept";
 
-/// An Add by a seat, what is answered, and a plain cache before it.
-#[derive(Drop)]
-struct Next {
-    seat: usize,
-    entry: Entry,
-    wanted: Reply,
-    before: Cache,
-}
-
 /// All that is to come, which is made first, since nothing can be made once memory is refused for
-/// good.
+/// good: Adds by seats with their replies, and plain caches after none of them and after each.
 #[derive(Drop)]
 struct Course {
-    adds: Vec<Next>,
-    /// A plain cache after all Adds.
-    last: Cache,
+    adds: Vec<(usize, Entry, Reply)>,
+    plain: Vec<Cache>,
 }
 
 impl Course {
     /// The Adds of all rows but the opening.
     fn new(alloc: Global, rows: &[&'static str]) -> Result<Course, Fail> {
-        let (mut last, mut adds) = (plain(alloc)?, Vec::with_capacity(alloc, rows.len())?);
+        let (mut last, mut before) = (plain(alloc)?, Vec::new(alloc));
+        let mut adds = Vec::new(alloc);
         for row in rows.iter().skip(1) {
             let (step, wanted) = row.split_once(" = ").ok_or("no reply")?;
-            let [seat, act, entry, now, by, rest, ..] = words(step, ' ');
-            if (act, by, rest) != ("add", "gate", "") {
+            let [seat, "add", entry, now, "gate", "", ..] = words(step, ' ') else {
                 return Err("no gated Add".into());
-            }
+            };
             let entry = Entry::new(alloc, entry, now.parse()?)?;
             let Entry::One(mark, now) = &entry else {
                 return Err("no Add of a mark".into());
             };
             let (next, _) = last.next(&mark.span, mark.value, *now)?;
-            let before = mem::replace(&mut last, next);
-            let (seat, wanted) = (seat.parse()?, reply_of(&words(wanted, ' '))?);
-            adds.push(Next {
-                seat,
-                entry,
-                wanted,
-                before,
-            })?;
+            before.push(mem::replace(&mut last, next))?;
+            adds.push((seat.parse()?, entry, reply_of(&words(wanted, ' '))?))?;
         }
-        Ok(Course { adds, last })
-    }
-
-    /// The plain cache after some Adds.
-    fn after(&self, adds: usize) -> &Cache {
-        match self.adds.get(adds) {
-            Some(next) => &next.before,
-            None => &self.last,
-        }
+        before.push(last)?;
+        Ok(Course {
+            adds,
+            plain: before,
+        })
     }
 
     /// Whether all seats are answered as the plain cache after some Adds.
     fn is_seen<C: Of>(&self, home: &TestCache<C>, guests: &mut [TestSeat<C>], adds: usize) -> bool {
-        let (plain, front) = (self.after(adds), adds as u64);
+        let (Some(plain), front) = (self.plain.get(adds), adds as u64) else {
+            return false;
+        };
         let floor = Value::unowned(plain.low_water());
         let mut is_seen = true;
         for guest in guests.iter_mut() {
             is_seen &= home.low(guest) == seen(floor, front);
             for key in LETTERS.split(' ') {
-                let bytes = key.as_bytes();
-                let value = plain.get_max_between(bytes, Some(bytes), ends("[]"));
-                is_seen &= home.get_between(guest, key) == seen(value, front);
+                is_seen &= home.get_between(guest, key) == seen(value_at(plain, key), front);
             }
         }
         is_seen
     }
 
-    /// An Add that is tried three times where it is refused memory. After each refusal all is as
-    /// before, and the gate was told nothing.
+    /// An Add that is tried three times where it is refused memory. After each try all seats are
+    /// answered what was added, and the gate was told of that alone.
     fn add<C: Of, R: Wait>(
         &self,
         rt: &R,
         home: &TestCache<C>,
         guests: &mut [TestSeat<C>],
-        (place, next): (usize, &Next),
-        gate: &Watch,
+        (place, gate): (usize, &Watch),
     ) -> Reply {
+        let Some((seat, entry, wanted)) = self.adds.get(place) else {
+            return Reply::Gone;
+        };
         for _ in 0..3_u32 {
-            let Some(guest) = guests.get_mut(next.seat) else {
-                return Reply::Changed;
+            let Some(guest) = guests.get_mut(*seat) else {
+                return Reply::Gone;
             };
-            let count = guest.seat.count();
-            let reply = home.add(rt, guest, &next.entry, By::Gate, gate);
-            if reply != Reply::NoMemory {
-                return reply;
-            }
-            let is_as_before = guest.seat.count() == count && gate.told() == place as u64;
-            if !is_as_before || !self.is_seen(home, guests, place) {
+            let reply = home.add(rt, guest, entry, (By::Gate, gate));
+            let is_refused = reply == Reply::NoMemory;
+            let adds = if is_refused {
+                place
+            } else {
+                place.saturating_add(1)
+            };
+            if gate.told() != adds as u64 || !self.is_seen(home, guests, adds) {
                 return Reply::Changed;
+            }
+            if !is_refused {
+                return if reply == *wanted { Reply::Done } else { reply };
             }
         }
-        match &next.entry {
+        match entry {
             // There is memory.
             Entry::One(mark, _) if mark.span.try_copy().is_ok() => Reply::RefusedAgain,
             _ => Reply::NoMemory,
@@ -140,15 +126,11 @@ impl Course {
         guests: &mut [TestSeat<C>],
     ) -> (usize, Option<Reply>) {
         let gate = Watch::new(0);
-        for (place, next) in self.adds.iter().enumerate() {
-            let reply = self.add(rt, home, guests, (place, next), &gate);
-            if reply == Reply::NoMemory {
-                return (place, None);
-            }
-            let adds = place.saturating_add(1);
-            let is_right = reply == next.wanted && gate.told() == adds as u64;
-            if !is_right || !self.is_seen(home, guests, adds) {
-                return (place, Some(reply));
+        for place in 0..self.adds.len() {
+            match self.add(rt, home, guests, (place, &gate)) {
+                Reply::Done => {}
+                Reply::NoMemory => return (place, None),
+                wrong => return (place, Some(wrong)),
             }
         }
         (self.adds.len(), None)
@@ -168,9 +150,9 @@ pub fn refuse<C: Of, R: Wait + Abort>(
     let room = Vec::with_capacity(alloc, guests.len())?;
     let (adds, wrong) = course.add_all(rt, &home, guests.as_mut_slice());
     assert_eq!(rt; wrong, None);
-    let counted = adds as u64;
+    let (counted, plain) = (adds as u64, course.plain.get(adds));
     let reply = match home.close(rt, alloc, room, guests) {
-        Ok(Ended::Closed(closed)) => closed_with(&closed, counted, Some(course.after(adds))),
+        Ok(Ended::Closed(closed)) => closed_with(&closed, counted, plain),
         Ok(Ended::Out(_home, _guests)) => Reply::StillOpen,
         Err(_refused) => Reply::RefusedAgain,
     };

@@ -1,10 +1,9 @@
 //! What a call answers, or a step.
 use std::test::Fail;
-use test_support::{FIRST, SECOND, value};
+use test_support::{sign, value};
 use tsc_cache::Figures;
 use tsc_shared::{AddFault, Answer, Gone, Receipt, TryAddFault};
 use tsc_time::Value;
-use uuid::Uuid;
 
 #[derive(Clone, Copy, Debug, PartialEq, Eq)]
 pub enum Reply {
@@ -13,8 +12,8 @@ pub enum Reply {
     Place(u64, (bool, bool, u64)),
     /// The length of the history, which is full.
     Full(u64),
-    /// The wall time and the owner of a value, or of the floor, and the length of the front.
-    Read(u64, Owner, u64),
+    /// The wall time of a value, or of the floor, its owner's sign, and the length of the front.
+    Read(u64, char, u64),
     /// The pages, the rotations, the nodes, the bytes, the wall time of the floor, and the length
     /// of the front.
     Counted((u64, u64, u64, u64, u64), u64),
@@ -37,21 +36,12 @@ pub enum Reply {
     Changed,
 }
 
-#[derive(Clone, Copy, Debug, PartialEq, Eq)]
-pub enum Owner {
-    Nobody,
-    First,
-    Second,
-    Other,
-}
-
 /// An Add is kept on the page that there is.
 pub const KEPT: (bool, bool, u64) = (true, false, 0);
 
 /// By which call an entry is added.
 #[derive(Clone, Copy, PartialEq, Eq)]
 pub enum By {
-    /// By the call with a gate, whose front is kept.
     Gate,
     /// By the call without a gate.
     Plain,
@@ -82,45 +72,31 @@ fn outcome(name: &str) -> Result<(bool, bool, u64), Fail> {
     }
 }
 
-/// The reply of one word.
-fn reply_of_word(word: &str) -> Result<Reply, Fail> {
-    match word {
-        "done" => Ok(Reply::Done),
-        "too_large" => Ok(Reply::TooLarge),
-        "busy" => Ok(Reply::Busy),
-        "still_open" => Ok(Reply::StillOpen),
-        number => Ok(Reply::Number(number.parse()?)),
-    }
-}
-
 /// The reply of some words, behind which all are empty.
 pub fn reply_of(words: &[&str]) -> Result<Reply, Fail> {
-    match *words {
-        ["place", place, name, "", ..] => Ok(Reply::Place(place.parse()?, outcome(name)?)),
-        ["full", length, "", ..] => Ok(Reply::Full(length.parse()?)),
-        [word, "", "", ..] => reply_of_word(word),
-        [read, front, "", ..] => Ok(seen(value(read)?, front.parse()?)),
+    Ok(match *words {
+        ["place", place, name, "", ..] => Reply::Place(place.parse()?, outcome(name)?),
+        ["full", length, "", ..] => Reply::Full(length.parse()?),
+        ["done", "", ..] => Reply::Done,
+        ["too_large", "", ..] => Reply::TooLarge,
+        ["busy", "", ..] => Reply::Busy,
+        ["still_open", "", ..] => Reply::StillOpen,
+        [number, "", ..] => Reply::Number(number.parse()?),
+        [read, front, "", ..] => seen(value(read)?, front.parse()?),
         [pages, rotations, nodes, bytes, floor, front, "", ..] => {
             let (pages, rotations, nodes) = (pages.parse()?, rotations.parse()?, nodes.parse()?);
             let figures = (pages, rotations, nodes, bytes.parse()?, floor.parse()?);
-            Ok(Reply::Counted(figures, front.parse()?))
+            Reply::Counted(figures, front.parse()?)
         }
-        _ => Err("no reply".into()),
-    }
+        _ => return Err("no reply".into()),
+    })
 }
 
 /// The reply of a value. No time that is looked up here has a logical count.
 pub fn seen(value: Value, front: u64) -> Reply {
-    let owner = match value.owner() {
-        None => Owner::Nobody,
-        Some(owner) if owner == Uuid::from_u128(FIRST) => Owner::First,
-        Some(owner) if owner == Uuid::from_u128(SECOND) => Owner::Second,
-        Some(_) => Owner::Other,
-    };
-    if value.time().logical() == 0 {
-        Reply::Read(value.time().wall(), owner, front)
-    } else {
-        Reply::Changed
+    match value.time().logical() {
+        0 => Reply::Read(value.time().wall(), sign(value), front),
+        _ => Reply::Changed,
     }
 }
 
@@ -130,42 +106,26 @@ pub fn counted(figures: Figures, front: u64) -> Reply {
     Reply::Counted((pages, rotations, nodes, figures.bytes, floor), front)
 }
 
-fn place_of(receipt: &Receipt) -> Reply {
-    if receipt.front.len().wrapping_sub(1) == receipt.place {
-        let added = receipt.added;
-        Reply::Place(receipt.place, (added.kept, added.rotated, added.evicted))
-    } else {
-        Reply::Changed
-    }
-}
-
-fn fault_of(fault: &AddFault) -> Reply {
-    match fault {
-        AddFault::HistoryFull(front) => Reply::Full(front.len()),
-        AddFault::NoMemory => Reply::NoMemory,
-        AddFault::TooLarge => Reply::TooLarge,
-    }
-}
-
-pub fn added_of(added: &Result<Receipt, AddFault>) -> Reply {
-    match added {
-        Ok(receipt) => place_of(receipt),
-        Err(fault) => fault_of(fault),
-    }
-}
-
-pub fn tried_of(tried: &Result<Receipt, TryAddFault>) -> Reply {
-    match tried {
-        Ok(receipt) => place_of(receipt),
+pub fn made_of(made: &Result<Receipt, TryAddFault>) -> Reply {
+    match made {
+        Ok(
+            Receipt {
+                place,
+                front,
+                added,
+            },
+        ) if front.len().wrapping_sub(1) == *place => {
+            Reply::Place(*place, (added.kept, added.rotated, added.evicted))
+        }
+        Ok(_) => Reply::Changed,
         Err(TryAddFault::DeskBusy) => Reply::Busy,
         Err(TryAddFault::SeatInside) => Reply::Inside,
-        Err(TryAddFault::Refused(fault)) => fault_of(fault),
+        Err(TryAddFault::Refused(AddFault::HistoryFull(front))) => Reply::Full(front.len()),
+        Err(TryAddFault::Refused(AddFault::NoMemory)) => Reply::NoMemory,
+        Err(TryAddFault::Refused(AddFault::TooLarge)) => Reply::TooLarge,
     }
 }
 
 pub fn read_of(read: Result<Answer, Gone>) -> Reply {
-    match read {
-        Ok(answer) => seen(answer.value, answer.front),
-        Err(Gone) => Reply::Gone,
-    }
+    read.map_or(Reply::Gone, |it| seen(it.value, it.front))
 }

@@ -12,15 +12,20 @@ fn has_all(adds: u64, seen: Reply) -> bool {
 }
 
 impl<C: Of, R: Wait + Abort> Player<'_, C, R> {
-    /// The first seat adds, and then stores the number of Adds. The others look until all Adds have
-    /// returned.
+    /// An Add of the first seat at a later time than the one before, and then the number of Adds.
+    pub fn lead(&mut self, round: u32, by: By) -> bool {
+        let place = u64::from(round);
+        let reply = self.add_key("a", place.saturating_add(20), by);
+        let is_next = by == Gate || reply == Place(place, KEPT);
+        self.check(is_next && matches!(reply, Place(_, _)), reply);
+        self.meeting.adds.store(place.saturating_add(1), SeqCst);
+        self.meeting.has_more(round)
+    }
+
+    /// The first seat adds. The others look until all Adds have returned.
     pub fn follow(&mut self, round: u32) -> bool {
         if self.number() == 0 {
-            let place = u64::from(round);
-            let reply = self.add_key("a", place.saturating_add(20), Plain);
-            self.check(reply == Place(place, KEPT), reply);
-            self.meeting.adds.store(place.saturating_add(1), SeqCst);
-            return self.meeting.has_more(round);
+            return self.lead(round, Plain);
         }
         let adds = self.meeting.adds.load(SeqCst);
         let seen = self.get("a");

@@ -8,7 +8,6 @@
 //! |---|---|
 //! | `open 2 100` | A cache for 2 seats and 100 Adds, on pages of four keys of one byte. |
 //! | `open 2 100 66 264 1` | One of this first and largest page, and least number of pages. |
-//! | `reopen 2 100` | A cache that is opened once more where memory is refused. |
 //! | `beside` | A cache that isn't shared takes each Add from here on, and counts alike. |
 //! | `0 add a@20¹ 21 gate = place 0 kept` | An Add at 21.0, by the call with a gate. |
 //! | `0 add a@20¹ 21 plain = full 3` | An Add by the call without a gate. The history is full. |
@@ -91,23 +90,27 @@ pub enum Way {
 #[derive(Debug, Drop)]
 struct NoThread;
 
+/// A scene, and how it is played.
+#[derive(Drop)]
+struct Table<'a, R> {
+    rt: &'a R,
+    alloc: Global,
+    rows: Vec<&'static str>,
+    way: Way,
+}
+
 /// A cache and its seats.
 #[derive(Drop)]
 struct Stage<'a, C: Of, R> {
-    rt: &'a R,
-    alloc: Global,
+    table: &'a Table<'a, R>,
     limit: u64,
-    /// Whether each Add that is refused memory is made once more.
-    tries_again: bool,
     /// `None` once it is closed.
     home: Option<TestCache<C>>,
     guests: Vec<TestSeat<C>>,
     /// The fronts that were handed on and not yet learnt.
     letters: VecDeque<SentSnapshot<C>>,
     gate: Watch,
-    /// What other seats look up while the next Add is held up.
-    asked: &'a str,
-    meanwhile: Meanwhile,
+    meanwhile: Meanwhile<'a>,
     /// A cache that isn't shared, to which each Add was made too.
     alone: Option<Cache>,
 }
@@ -128,14 +131,12 @@ impl<C: Of + Send + Sync, R: Threads + Wait + Abort + Sync> Stage<'_, C, R> {
     fn add(&mut self, seat: usize, entry: &Entry, by: By) -> Result<Reply, Fail> {
         let home = self.home.as_ref().ok_or("no cache")?;
         let guest = self.guests.get_mut(seat).ok_or("no seat")?;
-        let reply = home.add(self.rt, guest, entry, by, &self.gate);
-        match (&mut self.alone, reply) {
-            (Some(alone), Place(_, _)) => {
-                let is_taken = entry.is_taken(alone);
-                Ok(if is_taken { reply } else { Reply::Changed })
-            }
-            _ => Ok(reply),
-        }
+        let reply = home.add(self.table.rt, guest, entry, (by, &self.gate));
+        let is_taken = match (&mut self.alone, reply) {
+            (Some(alone), Place(_, _)) => entry.is_taken(alone),
+            _ => true,
+        };
+        Ok(if is_taken { reply } else { Reply::Changed })
     }
 
     /// Has all seats look, and tells whether all that they see is as when they last did.
@@ -154,26 +155,25 @@ impl<C: Of + Send + Sync, R: Threads + Wait + Abort + Sync> Stage<'_, C, R> {
     /// before.
     fn add_again(&mut self, seat: usize, entry: &Entry, by: By) -> Result<Reply, Fail> {
         self.look(entry)?;
-        let reply = self.add(seat, entry, by)?;
-        if reply != Reply::NoMemory {
-            return Ok(reply);
+        let mut reply = self.add(seat, entry, by)?;
+        if reply == Reply::NoMemory {
+            let is_as_before = self.look(entry)?;
+            reply = match self.add(seat, entry, by)? {
+                Reply::NoMemory => Reply::RefusedAgain,
+                _ if !is_as_before => Reply::Changed,
+                reply => reply,
+            };
         }
-        if !self.look(entry)? {
-            return Ok(Reply::Changed);
-        }
-        match self.add(seat, entry, by)? {
-            Reply::NoMemory => Ok(Reply::RefusedAgain),
-            reply => Ok(reply),
-        }
+        Ok(reply)
     }
 
     /// Adds of a key at times that rise. The reply is that of the last one, or of the first one
     /// that brings a new page or is refused.
     fn add_often(&mut self, seat: usize, key: &str, count: u64) -> Result<Reply, Fail> {
-        let (key, mut reply) = (bytes(self.alloc, key)?, Reply::Done);
+        let (key, mut reply) = (bytes(self.table.alloc, key)?, Reply::Done);
         for round in 0..count {
             let value = owned(round.saturating_add(21));
-            let entry = Entry::point(self.alloc, &key, value, at(20, 0))?;
+            let entry = Entry::point(self.table.alloc, &key, value, at(20, 0))?;
             reply = self.add(seat, &entry, By::Plain)?;
             if !matches!(reply, Place(_, (true, false, 0))) {
                 return Ok(reply);
@@ -188,7 +188,7 @@ impl<C: Of + Send + Sync, R: Threads + Wait + Abort + Sync> Stage<'_, C, R> {
         let guest = self.guests.get_mut(seat).ok_or("no seat")?;
         let counts = guest.counts();
         let reply = match act {
-            "get" => home.get(guest, &span(self.alloc, what)?),
+            "get" => home.get(guest, &span(self.table.alloc, what)?),
             "between" => home.get_between(guest, what),
             "floor" => home.low(guest),
             "figures" => home.figures(guest),
@@ -211,36 +211,27 @@ impl<C: Of + Send + Sync, R: Threads + Wait + Abort + Sync> Stage<'_, C, R> {
     fn refuse(&mut self, seat: usize, entry: &str, text: &str) -> Result<Reply, Fail> {
         let home = self.home.as_ref().ok_or("no cache")?;
         let guest = self.guests.get_mut(seat).ok_or("no seat")?;
-        let (counts, entry) = (guest.counts(), Entry::new(self.alloc, entry, 20)?);
-        let fault = home.refusal(self.rt, guest, &entry).ok_or("no refusal")?;
+        let (counts, entry) = (guest.counts(), Entry::new(self.table.alloc, entry, 20)?);
+        let fault = home
+            .refusal(self.table.rt, guest, &entry)
+            .ok_or("no refusal")?;
         let reply = guest.left_by(Reply::Done, counts);
-        reads_alike(self.rt, self.alloc, fault, text)?;
+        reads_alike(self.table.rt, self.table.alloc, fault, text)?;
         Ok(reply)
-    }
-
-    /// An Add of a text at a moment, by a call.
-    fn add_text(
-        &mut self,
-        seat: usize,
-        [entry, now, by]: [&str; 3],
-        again: bool,
-    ) -> Result<Reply, Fail> {
-        let (entry, by) = (Entry::new(self.alloc, entry, now.parse()?)?, By::of(by)?);
-        if again {
-            self.add_again(seat, &entry, by)
-        } else {
-            self.add(seat, &entry, by)
-        }
     }
 
     /// What a seat does.
     fn play(&mut self, seat: usize, step: &Words) -> Result<Reply, Fail> {
         match *step {
             [_, "often", key, count, "", ..] => self.add_often(seat, key, count.parse()?),
-            [_, "add", entry, now, by, "", ..] => {
-                self.add_text(seat, [entry, now, by], self.tries_again)
+            [_, verb @ ("add" | "again"), entry, now, by, "", ..] => {
+                let entry = Entry::new(self.table.alloc, entry, now.parse()?)?;
+                if verb == "again" || self.table.way == Way::Twice {
+                    self.add_again(seat, &entry, By::of(by)?)
+                } else {
+                    self.add(seat, &entry, By::of(by)?)
+                }
             }
-            [_, "again", entry, now, by, "", ..] => self.add_text(seat, [entry, now, by], true),
             [_, act, what, "", ..] if matches!(act, "get" | "between") != what.is_empty() => {
                 self.ask(seat, act, what)
             }
@@ -250,30 +241,28 @@ impl<C: Of + Send + Sync, R: Threads + Wait + Abort + Sync> Stage<'_, C, R> {
 
     fn meet_two(&mut self) -> Result<Reply, Fail> {
         match (&self.home, self.guests.as_mut_slice()) {
-            (Some(home), [one, other, ..]) => Ok(home.meet(self.rt, one, other)),
+            (Some(home), [one, other, ..]) => Ok(home.meet(self.table.rt, one, other)),
             _ => Err("no two seats".into()),
         }
     }
 
     fn copy(&self, what: &str) -> Result<Reply, Fail> {
-        let span = span(self.alloc, what)?;
+        let span = span(self.table.alloc, what)?;
         drop(again!(span.try_copy()));
         Ok(Reply::Done)
     }
 
     fn take_seats(&mut self) -> Vec<TestSeat<C>> {
-        mem::replace(&mut self.guests, Vec::new(self.alloc))
+        mem::replace(&mut self.guests, Vec::new(self.table.alloc))
     }
 
     /// All seats close the cache. Where one is missing it stays open.
     fn close(&mut self) -> Result<Reply, Fail> {
-        let mut counted: u64 = 0;
-        for guest in self.guests.iter() {
-            counted = counted.saturating_add(guest.seat.count());
-        }
+        let add = |sum: u64, guest: &TestSeat<C>| sum.saturating_add(guest.seat.count());
+        let counted = self.guests.iter().fold(0, add);
         let (guests, home) = (self.take_seats(), self.home.take().ok_or("no cache")?);
-        let room = Vec::with_capacity(self.alloc, guests.len())?;
-        match home.close(self.rt, self.alloc, room, guests)? {
+        let room = Vec::with_capacity(self.table.alloc, guests.len())?;
+        match home.close(self.table.rt, self.table.alloc, room, guests)? {
             Ended::Closed(closed) => Ok(closed_with(&closed, counted, self.alone.as_ref())),
             Ended::Out(home, guests) => {
                 self.home = Some(home);
@@ -295,13 +284,12 @@ impl<C: Of + Send + Sync, R: Threads + Wait + Abort + Sync> Stage<'_, C, R> {
 
     /// All seats play on threads of their own.
     fn play_at_once(&mut self, words: &Words) -> Result<Reply, Fail> {
-        let (rt, alloc, guests) = (self.rt, self.alloc, self.take_seats());
+        let (rt, alloc, guests) = (self.table.rt, self.table.alloc, self.take_seats());
         let sizes = (guests.len() as u64, self.limit);
-        let meeting = Meeting::new(alloc, words, sizes, (self.asked, self.meanwhile))?;
+        let meeting = Meeting::new(alloc, words, sizes, self.meanwhile)?;
         let home = self.home.as_ref().ok_or("no cache")?;
-        let guests = meet(rt, alloc, home, guests, &meeting)?;
+        self.guests = meet(rt, alloc, home, guests, &meeting)?;
         let (reply, alone) = meeting.end(alloc)?;
-        self.guests = guests;
         self.alone = alone;
         Ok(reply)
     }
@@ -317,7 +305,7 @@ impl<C: Of + Send + Sync, R: Threads + Wait + Abort + Sync> Stage<'_, C, R> {
                 Ok(Reply::Done)
             }
             ["beside", "", ..] => {
-                self.alone = Some(plain(self.alloc)?);
+                self.alone = Some(plain(self.table.alloc)?);
                 Ok(Reply::Done)
             }
             ["while", "floor", "", ..] => {
@@ -325,7 +313,7 @@ impl<C: Of + Send + Sync, R: Threads + Wait + Abort + Sync> Stage<'_, C, R> {
                 Ok(wanted)
             }
             ["while", looks, span, "", ..] => {
-                self.asked = span;
+                self.meanwhile.asked = span;
                 self.meanwhile.looks = looks.parse()?;
                 self.meanwhile.reply = wanted;
                 Ok(wanted)
@@ -347,7 +335,7 @@ impl<C: Of + Send + Sync, R: Threads + Wait + Abort + Sync> Stage<'_, C, R> {
         let [seat, act, entry, ..] = step;
         if act == "refused" {
             let reply = self.refuse(seat.parse()?, entry, wanted)?;
-            assert_eq!(self.rt; reply, Reply::Done, "{row}");
+            assert_eq!(self.table.rt; reply, Reply::Done, "{row}");
             return Ok(());
         }
         let wanted = reply_of(&words(wanted, ' '))?;
@@ -361,7 +349,7 @@ impl<C: Of + Send + Sync, R: Threads + Wait + Abort + Sync> Stage<'_, C, R> {
         if reply == Reply::NoThread {
             return Err(NoThread.into());
         }
-        assert_eq!(self.rt; reply, wanted, "{row}");
+        assert_eq!(self.table.rt; reply, wanted, "{row}");
         Ok(())
     }
 }
@@ -376,15 +364,6 @@ pub fn closed_with(closed: &Closed, counted: u64, alone: Option<&Cache>) -> Repl
     }
 }
 
-/// A scene, and how it is played.
-#[derive(Drop)]
-struct Table<'a, R> {
-    rt: &'a R,
-    alloc: Global,
-    rows: Vec<&'static str>,
-    way: Way,
-}
-
 /// Takes the rows behind an opening with the cache that was opened.
 fn enter<C: Of + Send + Sync, R: Threads + Wait + Abort + Sync>(
     table: &Table<'_, R>,
@@ -395,22 +374,19 @@ fn enter<C: Of + Send + Sync, R: Threads + Wait + Abort + Sync>(
     requires cache { cache ≡ C.cache }
     requires seats { All (λ seat. seat.cache ≡ C.cache) seats.items }
 {
-    let (rt, alloc) = (table.rt, table.alloc);
-    let (home, guests) = together::<C>(alloc, cache, seats)?;
+    let (home, guests) = together::<C>(table.alloc, cache, seats)?;
     if table.way == Way::ForGood {
-        return refuse(rt, alloc, home, guests, &table.rows);
+        return refuse(table.rt, table.alloc, home, guests, &table.rows);
     }
     let mut stage = Stage {
-        rt,
-        alloc,
+        table,
         limit,
-        tries_again: table.way == Way::Twice,
         home: Some(home),
         guests,
-        letters: VecDeque::new(alloc),
+        letters: VecDeque::new(table.alloc),
         gate: Watch::new(0),
-        asked: "",
         meanwhile: Meanwhile {
+            asked: "",
             looks: 0,
             reply: Reply::Gone,
             floor: Reply::Gone,
@@ -425,16 +401,15 @@ fn enter<C: Of + Send + Sync, R: Threads + Wait + Abort + Sync>(
 
 /// Opens a cache as the first row says, and takes the others.
 fn play_scene<R: Threads + Wait + Abort + Sync>(table: &Table<'_, R>) -> Result<(), Fail> {
-    let opening = table.rows.first().ok_or("no row")?;
-    let [act, seats, limit, first, max, least, rest, ..] = words(opening, ' ');
-    let is_opening = matches!(act, "open" | "reopen") && rest.is_empty();
-    assert!(table.rt; is_opening, "no cache is opened");
-    let again = act == "reopen" || table.way == Way::Twice;
+    let opening = words(table.rows.first().ok_or("no row")?, ' ');
+    let ["open", seats, limit, first, max, least, "", ..] = opening else {
+        return Err("no cache is opened".into());
+    };
     let pages = match first {
         "" => PAGES,
         _ => (first.parse()?, max.parse()?, least.parse()?),
     };
-    let config = config(pages)?;
+    let (config, again) = (config(pages)?, table.way == Way::Twice);
     let (seats, limit) = (seats.parse()?, limit.parse()?);
     let (cache, seats) = open(table.alloc, config, seats, limit, again)?;
     enter::<Brand, R>(table, cache, seats, limit)
@@ -444,14 +419,12 @@ fn play_scene<R: Threads + Wait + Abort + Sync>(table: &Table<'_, R>) -> Result<
 pub fn play<R: Threads + Wait + Abort + Sync>(
     rt: &R,
     alloc: Global,
-    table: &'static str,
+    scenes: &'static str,
     way: Way,
 ) -> Result<(), Fail> {
-    for scene in table.split("\n\n") {
-        let mut rows = Vec::new(alloc);
-        for row in scene.lines().filter(|row| !row.starts_with('#')) {
-            rows.push(row)?;
-        }
+    for scene in scenes.split("\n\n") {
+        let is_row = |row: &&str| !row.starts_with('#');
+        let rows = scene.lines().filter(is_row).collect(alloc)?;
         play_scene(&Table {
             rt,
             alloc,

@@ -31,7 +31,7 @@ impl<C: Of, R: Wait + Abort> Player<'_, C, R> {
 
     /// Whether the Add of a seat with this key was made.
     fn sees(&mut self, key: &str) -> bool {
-        matches!(self.get(key), Read(21, Owner::First, _))
+        matches!(self.get(key), Read(21, '¹', _))
     }
 
     /// The Add that is held up, and then one in each round, until the seat has made enough and sees
@@ -65,7 +65,7 @@ impl<C: Of, R: Wait + Abort> Player<'_, C, R> {
         if self.guest.seat.count() == 1 {
             gate.looked.fetch_add(1, SeqCst);
         }
-        self.add_behind(if number == 1 { "b" } else { "c" });
+        self.add_behind(self.key());
         number != 1 && self.guest.seat.count() < self.meeting.plan.rounds.into()
     }
 }

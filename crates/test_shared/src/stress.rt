@@ -4,6 +4,7 @@ use crate::entries::owned;
 use crate::prelude::*;
 use crate::steps::plain;
 use crate::threads::Meeting;
+use std::sync::atomic::AtomicU64;
 use test_support::{Words, ends};
 use tsc_cache::{Cache, TimestampCache};
 use tsc_span::SpanFault;
@@ -37,19 +38,24 @@ impl<'a> Plan<'a> {
 
     /// The plan of a row. Those of a stress name calls and keys.
     pub fn new(words: &'a Words) -> Result<Plan<'a>, Fail> {
-        let [scene, rounds, even, odd, keys, rest, ..] = *words;
-        let rounds = rounds.parse()?;
-        match scene {
-            "crowd" | "retried"
-                if matches!(keys, "same" | "turning" | "rising") && rest.is_empty() => {
+        match *words {
+            [
+                "crowd" | "retried",
+                rounds,
+                even,
+                odd,
+                keys @ ("same" | "turning" | "rising"),
+                "",
+                ..
+            ] => {
                 Ok(Plan {
-                    rounds,
+                    rounds: rounds.parse()?,
                     calls: [By::of(even)?, By::of(odd)?],
                     keys,
                 })
             }
-            "crowd" | "retried" => Err("no such keys".into()),
-            _ if even.is_empty() => Ok(Plan::of(rounds)),
+            ["crowd" | "retried", ..] => Err("no such keys".into()),
+            [_, rounds, "", ..] => Ok(Plan::of(rounds.parse()?)),
             _ => Err("too many words".into()),
         }
     }
@@ -83,7 +89,7 @@ impl<'a> Plan<'a> {
             Read(wall, _, front) if self.keys == "rising" => {
                 least <= front && u64::from(round).saturating_add(20) <= wall
             }
-            Read(20, Owner::First, front) => least <= front,
+            Read(20, '¹', front) => least <= front,
             _ => false,
         }
     }
@@ -103,19 +109,29 @@ impl<C: Of, R: Wait + Abort> Player<'_, C, R> {
         }
     }
 
-    /// An Add of a round, and a lookup that sees it.
-    pub fn add_seen(&mut self, round: u32) -> bool {
+    /// The Add of a round, at a place that no other was told. It is made later where memory is
+    /// refused, unless that is so for good. In a crowd it may find the history full, and is looked
+    /// up.
+    pub fn add_placed(&mut self, round: u32) -> bool {
+        if round == 0 {
+            self.gather();
+        }
         let (number, plan) = (self.number(), &self.meeting.plan);
         let Ok(entry) = plan.entry(self.alloc, number, round) else {
-            self.check(false, Reply::NoMemory);
             return false;
         };
-        let reply = self.add(&entry, plan.by_of(number));
-        let is_full = reply == Full(self.meeting.places.len() as u64);
+        let reply = self.add_until_free(&entry, plan.by_of(number));
+        if reply == Reply::NoMemory {
+            return false;
+        }
+        let is_crowd = self.meeting.scene == "crowd";
+        let is_full = is_crowd && reply == Full(self.meeting.places.len() as u64);
         self.check(is_full || self.is_placed(reply, round), reply);
-        let least = self.guest.seat.seen();
-        let (_, _, seen, _) = self.home.look(&mut self.guest, &entry);
-        self.check(plan.is_seen(round, least, seen), seen);
+        if is_crowd {
+            let least = self.guest.seat.seen();
+            let (_, _, seen, _) = self.home.look(&mut self.guest, &entry);
+            self.check(plan.is_seen(round, least, seen), seen);
+        }
         self.meeting.has_more(round)
     }
 }
@@ -123,15 +139,9 @@ impl<C: Of, R: Wait + Abort> Player<'_, C, R> {
 impl<C: Of> Meeting<'_, C> {
     /// Whether a place was told to an Add, and not the one before it.
     pub fn has_gap(&self) -> bool {
-        let mut is_told = true;
-        for told in self.places.iter() {
-            let was_told = is_told;
-            is_told = told.load(SeqCst) != 0;
-            if is_told && !was_told {
-                return true;
-            }
-        }
-        false
+        let is_told = |place: &AtomicU64| place.load(SeqCst) != 0;
+        let count = self.places.iter().filter(|place| is_told(place)).count();
+        !self.places.iter().take(count).all(is_told)
     }
 
     /// A cache that isn't shared, and takes all Adds in the order of their places.
@@ -151,15 +161,18 @@ impl<C: Of> Meeting<'_, C> {
 /// The keys that caches are compared on.
 pub const LETTERS: &str = "a b c d e f g h i j k l m n o p q r s t u v w x y z";
 
+/// What a cache answers of a key.
+pub fn value_at(cache: &Cache, key: &str) -> Value {
+    cache.get_max_between(key.as_bytes(), Some(key.as_bytes()), ends("[]"))
+}
+
 /// Whether two caches answer alike at each of the keys, and over all from `a` on, and count alike.
 pub fn are_alike(one: &Cache, other: &Cache) -> bool {
-    let ends = ends("[]");
-    let are_alike_at = |key: &str| {
-        let (key, end) = (key.as_bytes(), Some(key.as_bytes()));
-        one.get_max_between(key, end, ends) == other.get_max_between(key, end, ends)
-    };
-    LETTERS.split(' ').all(are_alike_at)
-        && one.get_max_between(b"a", None, ends) == other.get_max_between(b"a", None, ends)
+    let on = ends("[,");
+    LETTERS
+        .split(' ')
+        .all(|key| value_at(one, key) == value_at(other, key))
+        && one.get_max_between(b"a", None, on) == other.get_max_between(b"a", None, on)
         && one.low_water() == other.low_water()
         && one.figures() == other.figures()
 }

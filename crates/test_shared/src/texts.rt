@@ -4,6 +4,8 @@ use std::alloc::Global;
 use std::fmt::Display;
 use std::process::Abort;
 use std::test::Fail;
+use tsc_shared::AddFault::TooLarge;
+use tsc_shared::TryAddFault::{DeskBusy, SeatInside};
 use tsc_shared::{AddFault, Gone, OpenFault, TryAddFault};
 
 /// The history may have no Add.
@@ -37,20 +39,10 @@ fn texts_of_faults(rt: HostRuntime) -> Result<(), Fail> {
     reads(&rt, alloc, &OpenFault::NoMemory, "out of memory")?;
     reads(&rt, alloc, &OpenFault::NoPlace, "no place")?;
     reads(&rt, alloc, &Gone, "no version of the cache fits")?;
-    reads(&rt, alloc, &TryAddFault::DeskBusy, "the desk is busy")?;
-    reads(
-        &rt,
-        alloc,
-        &TryAddFault::SeatInside,
-        "a seat is inside a lookup",
-    )?;
+    reads(&rt, alloc, &DeskBusy, "the desk is busy")?;
+    reads(&rt, alloc, &SeatInside, "a seat is inside a lookup")?;
     reads_alike(&rt, alloc, AddFault::NoMemory, "out of memory")?;
-    reads_alike(
-        &rt,
-        alloc,
-        AddFault::TooLarge,
-        "the span is too large for a page",
-    )
+    reads_alike(&rt, alloc, TooLarge, "the span is too large for a page")
 }
 
 #[test]

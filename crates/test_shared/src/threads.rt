@@ -16,9 +16,13 @@ use std::thread::Threads;
 use test_support::{Words, at};
 use tsc_cache::Cache;
 
-/// How often seats look while an Add is held up, and what they are answered.
+/// The key of each seat.
+static KEYS: [&str; 8] = ["a", "b", "c", "d", "e", "f", "g", "h"];
+
+/// What seats look up while an Add is held up, how often, and what they are answered.
 #[derive(Clone, Copy)]
-pub struct Meanwhile {
+pub struct Meanwhile<'a> {
+    pub asked: &'a str,
     pub looks: u32,
     pub reply: Reply,
     pub floor: Reply,
@@ -28,11 +32,9 @@ pub struct Meanwhile {
 #[derive(Drop)]
 pub struct Meeting<'a, C: Of> {
     /// The name of the scene.
-    scene: &'a str,
+    pub scene: &'a str,
     pub plan: Plan<'a>,
-    /// What seats look up meanwhile.
-    pub asked: &'a str,
-    pub meanwhile: Meanwhile,
+    pub meanwhile: Meanwhile<'a>,
     pub seats: u64,
     /// What is added where all Adds are alike, and the reply of one that is held up.
     pub entry: Entry,
@@ -60,31 +62,27 @@ impl<'a, C: Of> Meeting<'a, C> {
         alloc: Global,
         words: &'a Words,
         (seats, limit): (u64, u64),
-        (asked, meanwhile): (&'a str, Meanwhile),
+        meanwhile: Meanwhile<'a>,
     ) -> Result<Meeting<'a, C>, Fail> {
-        let [scene, entry, now, ..] = *words;
-        let (lookers, places, channels) = match scene {
-            "held" | "stopped" => (seats.saturating_sub(1), 0, 0),
-            "crowd" | "retried" => (0, limit, 0),
-            "ring" => (0, 0, seats),
-            "returned" | "both" | "tried" | "given_up" | "told" => (0, 0, 0),
-            _ => return Err("no such scene".into()),
+        let (plan, entry, wanted) = match *words {
+            ["held", entry, now, ..] => {
+                let entry = Entry::new(alloc, entry, now.parse()?)?;
+                (Plan::of(1), entry, reply_of(words.get(3..).unwrap_or(&[]))?)
+            }
+            _ => {
+                let entry = Entry::new(alloc, "a@20¹", 20)?;
+                (Plan::new(words)?, entry, Reply::Done)
+            }
         };
-        let (plan, entry, wanted) = if scene == "held" {
-            let entry = Entry::new(alloc, entry, now.parse()?)?;
-            let wanted = reply_of(words.get(3..).unwrap_or(&[]))?;
-            (Plan::of(1), entry, wanted)
-        } else {
-            (
-                Plan::new(words)?,
-                Entry::new(alloc, "a@20¹", 20)?,
-                Reply::Done,
-            )
+        let (lookers, places) = match words[0] {
+            "held" | "stopped" => (seats.saturating_sub(1), 0),
+            "crowd" | "retried" => (0, limit),
+            "ring" | "returned" | "both" | "tried" | "given_up" | "told" => (0, 0),
+            _ => return Err("no such step".into()),
         };
         Ok(Meeting {
-            scene,
+            scene: words[0],
             plan,
-            asked,
             meanwhile,
             seats,
             entry,
@@ -92,17 +90,13 @@ impl<'a, C: Of> Meeting<'a, C> {
             gate: Watch::new(lookers),
             places: zeros(alloc, places)?,
             adds: AtomicU64::new(0),
-            channels: Channel::all(alloc, channels)?,
+            channels: Channel::all(alloc, seats)?,
         })
     }
 
     /// Whether keys or times rise, and the pages may rotate.
     fn may_rotate(&self) -> bool {
-        match self.scene {
-            "ring" | "held" => true,
-            "crowd" | "retried" => self.plan.keys != "same",
-            _ => false,
-        }
+        matches!(self.scene, "ring" | "held") || self.plan.keys != "same"
     }
 
     /// Whether there are more rounds behind this one.
@@ -140,8 +134,7 @@ impl<C: Of, R: Wait + Abort> Player<'_, C, R> {
     fn turn(&mut self, round: u32) -> bool {
         match self.meeting.scene {
             "held" => self.hold(round),
-            "crowd" => self.add_seen(round),
-            "retried" => self.add_again(round),
+            "crowd" | "retried" => self.add_placed(round),
             "returned" => self.follow(round),
             "ring" => self.send_on(round),
             "both" => self.add_both(round),
@@ -152,16 +145,34 @@ impl<C: Of, R: Wait + Abort> Player<'_, C, R> {
         }
     }
 
+    /// All turns. A thread that gave up would leave others waiting for it.
+    fn play(mut self) -> TestSeat<C> {
+        let mut has_more = true;
+        for round in 0..=TURNS {
+            has_more = self.turn(round);
+            if !has_more {
+                break;
+            }
+        }
+        self.check(!has_more, Reply::Changed);
+        self.guest
+    }
+
     /// The number of the seat.
     pub fn number(&self) -> u32 {
         self.guest.seat.number()
+    }
+
+    /// A key of its own, where there are eight seats at the most.
+    pub fn key(&self) -> &'static str {
+        KEYS[self.number() as usize % 8]
     }
 
     /// An Add that is kept on the page that there is, but where the pages may rotate; or one that
     /// was refused.
     pub fn add(&mut self, entry: &Entry, by: By) -> Reply {
         let (guest, gate) = (&mut self.guest, &self.meeting.gate);
-        let reply = self.home.add(self.rt, guest, entry, by, gate);
+        let reply = self.home.add(self.rt, guest, entry, (by, gate));
         let may_be = match reply {
             Place(_, (true, false, 0)) => true,
             Place(_, _) => self.meeting.may_rotate(),
@@ -189,32 +200,6 @@ impl<C: Of, R: Wait + Abort> Player<'_, C, R> {
     }
 }
 
-/// All turns of a seat. A thread that gave up would leave others waiting for it.
-fn run<'a, C: Of, R: Wait + Abort>(
-    rt: &'a R,
-    alloc: Global,
-    home: &'a TestCache<C>,
-    guest: TestSeat<C>,
-    meeting: &'a Meeting<'a, C>,
-) -> TestSeat<C> {
-    let mut player = Player {
-        rt,
-        alloc,
-        home,
-        meeting,
-        guest,
-    };
-    let mut has_more = true;
-    for round in 0..=TURNS {
-        has_more = player.turn(round);
-        if !has_more {
-            break;
-        }
-    }
-    player.check(!has_more, Reply::Changed);
-    player.guest
-}
-
 /// All turns of all seats, each on a thread of its own.
 pub fn meet<C: Of + Send + Sync, R: Threads + Wait + Abort + Sync>(
     rt: &R,
@@ -223,9 +208,15 @@ pub fn meet<C: Of + Send + Sync, R: Threads + Wait + Abort + Sync>(
     guests: Vec<TestSeat<C>>,
     meeting: &Meeting<'_, C>,
 ) -> Result<Vec<TestSeat<C>>, AllocError> {
-    thread::map_vec(
-        rt,
-        guests,
-        &|guest: TestSeat<C>| run(rt, alloc, home, guest, meeting),
-    )
+    let play = |guest: TestSeat<C>| {
+        let player = Player {
+            rt,
+            alloc,
+            home,
+            meeting,
+            guest,
+        };
+        player.play()
+    };
+    thread::map_vec(rt, guests, &play)
 }

@@ -28,14 +28,6 @@ const BESIDE: &str = "open 5 30000
 tried 10000 = 0
 close_any";
 
-/// Whether both are one time of the first owner, with whatever fronts.
-fn is_same(one: Reply, other: Reply) -> bool {
-    match (one, other) {
-        (Read(wall, Owner::First, _), Read(other, Owner::First, _)) => wall == other,
-        _ => false,
-    }
-}
-
 impl<C: Of, R: Wait + Abort> Player<'_, C, R> {
     /// The first seat adds, two try to, and others look, all at the key `a`.
     pub fn try_beside(&mut self, round: u32) -> bool {
@@ -52,12 +44,7 @@ impl<C: Of, R: Wait + Abort> Player<'_, C, R> {
     /// Each seat adds a key of its own, each time at a later time, and waits at each eighth. It
     /// sees its last Add that was made, and none that was given up.
     pub fn add_own(&mut self, round: u32) -> bool {
-        let key = match self.number() {
-            0 => "a",
-            1 => "b",
-            2 => "c",
-            _ => "d",
-        };
+        let key = self.key();
         let by = match round % 8 {
             0 => Plain,
             tries => Tries(tries),
@@ -65,12 +52,16 @@ impl<C: Of, R: Wait + Abort> Player<'_, C, R> {
         let wall = u64::from(round).saturating_add(20);
         let reply = self.add_key(key, wall, by);
         if matches!(reply, Place(_, _)) {
-            self.guest.saw.2 = Read(wall, Owner::First, 0);
+            self.guest.saw.2 = Read(wall, '¹', 0);
         } else {
             self.check(matches!(reply, Busy | Inside), reply);
         }
         let seen = self.get(key);
-        self.check(is_same(self.guest.saw.2, seen), seen);
+        let is_last = match (self.guest.saw.2, seen) {
+            (Read(last, '¹', _), Read(wall, '¹', _)) => wall == last,
+            _ => false,
+        };
+        self.check(is_last, seen);
         self.meeting.has_more(round)
     }
 }

@@ -91,6 +91,15 @@ pub fn value(text: &str) -> Result<Value, Fail> {
     Ok(Value::unowned(time(text)?))
 }
 
+/// The sign of a value's owner: a space where it has none, and `?` where the owner has no sign.
+pub fn sign(value: Value) -> char {
+    let sign_of = |owner| OWNERS.iter().find(|(_, id)| owner == Uuid::from_u128(*id));
+    match value.owner() {
+        Some(owner) => sign_of(owner).map_or('?', |(sign, _)| *sign),
+        None => ' ',
+    }
+}
+
 /// The byte of a text like `a` or `%61`.
 fn byte(text: &str) -> Result<u8, Fail> {
     match text.strip_prefix('%') {
