@@ -37,7 +37,7 @@ impl<C: Of, R: Wait + Abort> Player<'_, C, R> {
         let number = self.number() as usize;
         let key = self.key();
         self.add_key(key, time, Gate);
-        let letter = self.guest.letter.take()?;
+        let letter = self.guest.take_letter()?;
         let next = self.meeting.channels.get(number.saturating_add(1) % 8)?;
         next.to.send(self.rt, Post { letter, key, time }).ok()?;
         self.meeting.channels.get(number)?.from.recv(self.rt).ok()

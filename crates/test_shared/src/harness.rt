@@ -82,6 +82,11 @@ pub struct TestSeat<C: Of> {
 pub type Looks = (u64, Reply, Reply, Reply);
 
 impl<C: Of> TestSeat<C> {
+    /// The front that it has, which it then has no longer.
+    pub fn take_letter(&mut self) -> Option<SentSnapshot<C>> {
+        self.letter.take()
+    }
+
     /// How many Adds of its own there are, and how many it has seen.
     pub fn counts(&self) -> (u64, u64) {
         (self.seat.count(), self.seat.seen())

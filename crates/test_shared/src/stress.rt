@@ -109,9 +109,9 @@ impl<C: Of, R: Wait + Abort> Player<'_, C, R> {
         }
     }
 
-    /// The Add of a round, at a place that no other was told. It is made later where memory is
-    /// refused, unless that is so for good. In a crowd it may find the history full, and is looked
-    /// up.
+    /// The Add of a round, at a place that no other was told. In a crowd it is called once, may
+    /// find the history full, and is looked up. Else it is called until it is made, unless memory
+    /// is refused for good.
     pub fn add_placed(&mut self, round: u32) -> bool {
         if round == 0 {
             self.gather();
@@ -120,11 +120,14 @@ impl<C: Of, R: Wait + Abort> Player<'_, C, R> {
         let Ok(entry) = plan.entry(self.alloc, number, round) else {
             return false;
         };
-        let reply = self.add_until_free(&entry, plan.by_of(number));
-        if reply == Reply::NoMemory {
+        let (by, is_crowd) = (plan.by_of(number), self.meeting.scene == "crowd");
+        let reply = match is_crowd {
+            true => self.add(&entry, by),
+            false => self.add_until_free(&entry, by),
+        };
+        if reply == Reply::NoMemory && !is_crowd {
             return false;
         }
-        let is_crowd = self.meeting.scene == "crowd";
         let is_full = is_crowd && reply == Full(self.meeting.places.len() as u64);
         self.check(is_full || self.is_placed(reply, round), reply);
         if is_crowd {
