@@ -22,13 +22,12 @@ pub taken : (old made new : CacheView) (span : Interval) (config : Settings) (mo
     → ((settings : Settings) (s : CacheState) → RepresentsState made settings s
     → RepresentsState new settings (step_all settings s (marks_told told) now).state)
     → ((settings : Settings) (s : CacheState) → RepresentsState made settings s
-    → Learns s (step_all settings s (marks_told told) now).state told) → TakesOver span old new
+    → Learns s (step_all settings s (marks_told told) now).state told) → TakesOver config span old new
 taken old made new span config most told now sums opened stands learns =
     let e : Entry = record { seat = 0; number = 0; marks = marks_told told; now = now } in
     let next : CacheState = (step_all config (opening config) (marks_told told) now).state in
     let is : RepresentsState new config next = stands config (opening config) opened in
     record {
-      settings = config;
       history = e ∷ [];
       cache = is;
       no_less = λ others s k c was. let within : IsWithin (point k) told.span =

@@ -475,15 +475,16 @@ keeps_same old new answered committed k same =
           (λ a is. kept_there old new a less same.span same.threshold same.chains is) k.kept;
     }
 
-keeps_handing_on : (old new : RangeView) (answered : List Answered) (committed : List Transaction)
-    → Keeps old answered committed → HandsOn old new → Keeps new answered committed
-keeps_handing_on old new answered committed k hands =
+keeps_handing_on : (settings : Settings) (old new : RangeView) (answered : List Answered)
+    (committed : List Transaction) → Keeps old answered committed → HandsOn settings old new
+    → Keeps new answered committed
+keeps_handing_on settings old new answered committed k hands =
     let less : AnswersNoLess old.span old.cache new.cache =
     λ key s. subst (λ (v : OwnedTime). IsAtMost v (cache_answer new.cache (point key)))
     (sym (answers_look old.cache k.settings (state_of k.settings k.history) (point key) k.stands))
     (hands.takes_over.no_less k.settings (state_of k.settings k.history) key s k.stands) in
     record {
-      settings = hands.takes_over.settings;
+      settings = settings;
       history = hands.takes_over.history;
       stands = hands.takes_over.cache;
       agrees = agrees_there old new committed hands.threshold
@@ -554,8 +555,8 @@ keeps_collecting old new answered committed before k c = record {
 
 pub keeps : (range : RangeView) (answered : List Answered) (committed : List Transaction)
     → Execution range answered committed → Keeps range answered committed
-keeps range answered committed (opened r is) = record {
-  settings = is.settings;
+keeps range answered committed (opened settings r is) = record {
+  settings = settings;
   history = [];
   stands = is.cache;
   agrees = λ k. subst (λ (chains : Chains). AgreesFrom r.threshold (chain_of chains k) [])
@@ -573,8 +574,8 @@ keeps range answered committed (commits old new a c t now run does) =
     keeps_commits old new a c t now (keeps old a c run) does
 keeps range answered committed (stays old new a c run same) =
     keeps_same old new a c (keeps old a c run) same
-keeps range answered committed (hands_on old new a c run hands) =
-    keeps_handing_on old new a c (keeps old a c run) hands
+keeps range answered committed (hands_on settings old new a c run hands) =
+    keeps_handing_on settings old new a c (keeps old a c run) hands
 keeps range answered committed (collects old new a c before run does) =
     keeps_collecting old new a c before (keeps old a c run) does
 

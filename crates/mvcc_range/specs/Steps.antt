@@ -58,9 +58,8 @@ abbrev pub reads_fit : Settings → List Read → Bool
 reads_fit settings [] = true
 reads_fit settings (r ∷ rs) = fits settings r.span && reads_fit settings rs
 
--- A range was opened: no key has a version, and its cache has no reads.
-pub record IsOpened (range : RangeView) : Type 0 where
-  pub settings : Settings
+-- A range was opened with these settings: no key has a version, and its cache has no reads.
+pub record IsOpened (settings : Settings) (range : RangeView) : Type 0 where
   pub threshold : range.threshold ≡ zero_time
   pub chains : range.chains ≡ []
   pub cache : RepresentsState range.cache settings (opening settings)
@@ -123,22 +122,21 @@ pub record Commits (old new : RangeView) (t : Transaction) (now : Time) : Type 0
   pub may : MayCommit old t
   pub does : LaysDown old new t now
 
--- A cache takes over from another: it has the reads of some history, and to each key of a span it
--- answers no less than whatever state the other one stands for.
-pub record TakesOver (span : Interval) (old new : CacheView) : Type 0 where
-  pub settings : Settings
+-- A cache with these settings takes over from another: it has the reads of some history, and to
+-- each key of a span it answers no less than whatever state the other one stands for.
+pub record TakesOver (settings : Settings) (span : Interval) (old new : CacheView) : Type 0 where
   pub history : History
   pub cache : RepresentsState new settings (state_of settings history)
   pub no_less : (others : Settings) (s : CacheState) (k : KeyBytes) → covers span k ≡ true
       → RepresentsState old others s → IsAtMost (look s (point k)) (cache_answer new (point k))
 
--- A range is handed on to a new lease: its versions stay, and its new cache takes over from the old
--- one.
-pub record HandsOn (old new : RangeView) : Type 0 where
+-- A range is handed on to a new lease: its versions stay, and its new cache, with these settings,
+-- takes over from the old one.
+pub record HandsOn (settings : Settings) (old new : RangeView) : Type 0 where
   pub span : new.span ≡ old.span
   pub threshold : new.threshold ≡ old.threshold
   pub chains : new.chains ≡ old.chains
-  pub takes_over : TakesOver old.span old.cache new.cache
+  pub takes_over : TakesOver settings old.span old.cache new.cache
 
 -- Old versions are dropped: from then on the range refuses what is before a time, and of each key
 -- stay the versions that are of use from then on.
@@ -160,7 +158,8 @@ pub record Answered : Type 0 where
 -- refused, and those that told a transaction to restart, leave the range as it was, and add nothing
 -- to these.
 pub data Execution : RangeView → List Answered → List Transaction → Type 0 where
-  opened : (range : RangeView) → IsOpened range → Execution range [] []
+  opened : (settings : Settings) (range : RangeView) → IsOpened settings range
+      → Execution range [] []
   answers : (old new : RangeView) (answered : List Answered) (committed : List Transaction)
       (by : Owner) (at now : Time) (read : Read)
       → Execution old answered committed → Answers old new by at now read
@@ -171,8 +170,9 @@ pub data Execution : RangeView → List Answered → List Transaction → Type 0
       → Execution new answered (t ∷ committed)
   stays : (old new : RangeView) (answered : List Answered) (committed : List Transaction)
       → Execution old answered committed → IsSame old new → Execution new answered committed
-  hands_on : (old new : RangeView) (answered : List Answered) (committed : List Transaction)
-      → Execution old answered committed → HandsOn old new → Execution new answered committed
+  hands_on : (settings : Settings) (old new : RangeView) (answered : List Answered)
+      (committed : List Transaction) → Execution old answered committed → HandsOn settings old new
+      → Execution new answered committed
   collects : (old new : RangeView) (answered : List Answered) (committed : List Transaction)
       (before : Time) → Execution old answered committed → Collects old new before
       → Execution new answered committed

@@ -99,7 +99,7 @@ pub enum Reason {
 impl Range {
     /// A range of keys that have nothing yet.
     pub fn open(alloc: Global, span: Span, config: Config) -> Result<Range, NoMemory>
-        ensures opened { IfOk result (λ range. IsOpened range) }
+        ensures opened { IfOk result (λ range. IsOpened config range) }
         ensures span { IfOk result (λ range. range.span ≡ span) }
     {
         Ok(Range {
@@ -173,7 +173,7 @@ impl Range {
     /// Hands the range on to a new lease. A new cache takes over what a summary of the old one
     /// tells of the range's span, in at most `most` marks.
     pub fn hand_on(&mut self, config: Config, most: usize, now: Timestamp) -> Result<(), CacheFault>
-        ensures ok { OnOk result (HandsOn self.old self.new) }
+        ensures ok { OnOk result (HandsOn config self.old self.new) }
         ensures err { OnErr result (self.new ≡ self.old) }
         ensures too_large { IsErrOf result CacheFault.NoMemory
             ⊎ TellsTooLarge self.old.cache self.old.span config most
@@ -460,7 +460,7 @@ fn taken_over(
     most: usize,
     now: Timestamp,
 ) -> Result<Cache, CacheFault>
-    ensures ok { IfOk result (λ next. TakesOver span.now cache.now next) }
+    ensures ok { IfOk result (λ next. TakesOver config span.now cache.now next) }
     ensures too_large { IsErrOf result CacheFault.NoMemory
         ⊎ TellsTooLarge cache.now span.now config most (IsErrOf result CacheFault.TooLarge) }
 {

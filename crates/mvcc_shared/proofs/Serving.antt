@@ -2,7 +2,7 @@
 use Rattle.std.proofs.Common.{◌≡◌, ◌∙◌, ap, refl, sym, subst, List, [], ◌∷◌}
 use Rattle.std.specs.Prelude.{reverse, Result, Ok, Err, OnOk, OnErr}
 use Rattle.std.proofs.lemmas.List.{reverse-append}
-use Rattle.timestamp_cache.specs.Words.{Time, Interval}
+use Rattle.timestamp_cache.specs.Words.{Time, Interval, Settings}
 use Rattle.mvcc_range.specs.declared.range.Outcome.{Outcome}
 use Rattle.mvcc_range.specs.declared.range.Outcome.TheVariants.{Committed, Restart}
 use Rattle.mvcc_range.specs.declared.range.Reason.TheVariants.{Changed, NoTime}
@@ -27,8 +27,9 @@ use Rattle.mvcc_shared.specs.Served.{Served, WasServed, EndsLogged, IsSameServed
 abbrev pub served : RangeView → List Transaction → Served
 served range log = record { range = range; log = log }
 
-pub was_opened : (range : RangeView) → IsOpened range → WasServed (served range [])
-was_opened range is = record { answered = []; run = opened range is }
+pub was_opened : (settings : Settings) (range : RangeView) → IsOpened settings range
+    → WasServed (served range [])
+was_opened settings range is = record { answered = []; run = opened settings range is }
 
 pub was_read : (old : Served) (new : RangeView) (before after : Transaction) (span : Interval)
     (now : Time) → WasServed old → Reads old.range new before after span now
@@ -46,11 +47,11 @@ was_same old new was same = record {
       (sym same.log) (stays old.range new.range was.answered (reverse old.log) was.run same.range);
 }
 
-pub was_handed_on : (old : Served) (new : RangeView) → WasServed old → HandsOn old.range new
-    → WasServed (served new old.log)
-was_handed_on old new was hands = record {
+pub was_handed_on : (settings : Settings) (old : Served) (new : RangeView) → WasServed old
+    → HandsOn settings old.range new → WasServed (served new old.log)
+was_handed_on settings old new was hands = record {
   answered = was.answered;
-  run = hands_on old.range new was.answered (reverse old.log) was.run hands;
+  run = hands_on settings old.range new was.answered (reverse old.log) was.run hands;
 }
 
 pub was_collected : (old : Served) (new : RangeView) (before : Time) → WasServed old
@@ -97,8 +98,8 @@ read_ended old new before after span now (Ok rows) was ok err =
 read_ended old new before after span now (Err error) was ok err =
     was_unchanged old (served new old.log) was err.0 refl
 
-pub handing_ended : {T E : Type 0} (old : Served) (new : RangeView) (result : Result T E)
-    → WasServed old → OnOk result (HandsOn old.range new) → OnErr result (new ≡ old.range)
-    → WasServed (served new old.log)
-handing_ended old new (Ok done) was ok err = was_handed_on old new was ok
-handing_ended old new (Err fault) was ok err = was_unchanged old (served new old.log) was err refl
+pub handing_ended : {T E : Type 0} (settings : Settings) (old : Served) (new : RangeView)
+    (result : Result T E) → WasServed old → OnOk result (HandsOn settings old.range new)
+    → OnErr result (new ≡ old.range) → WasServed (served new old.log)
+handing_ended settings old new (Ok done) was ok err = was_handed_on settings old new was ok
+handing_ended settings old new (Err fault) was ok err = was_unchanged old (served new old.log) was err refl

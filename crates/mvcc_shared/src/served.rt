@@ -98,7 +98,7 @@ impl Served {
         most: usize,
         now: Timestamp,
     ) -> Result<(), CacheFault>
-        ensures ok { OnOk result (HandsOn self.old.range self.new.range) }
+        ensures ok { OnOk result (HandsOn config self.old.range self.new.range) }
         ensures err { OnErr result (self.new ≡ self.old) }
         ensures log { self.new.log ≡ self.old.log }
     {

@@ -24,13 +24,14 @@ in_memory bytes = record { bytes = Some bytes; troubles = no_trouble }
 abbrev at_hand : (Word → List ℕ) → Word → Opening → Type 0
 at_hand bytes name opening = opening ≡ Ok (in_memory (bytes name))
 
-module _ (bytes : Word → List ℕ) (words : List Word) (status : ℕ) (w w' e e' : KnownWriter) where
+module _ (refused : Type 0) (bytes : Word → List ℕ) (words : List Word) (status : ℕ)
+    (w w' e e' : KnownWriter) where
   -- Only this is told, with this exit status.
   abbrev Tells : WordsFault → ℕ → Type 0
   Tells fault wanted = OnlyTells (refusal_text fault ++ line_feed ∷ []) wanted status w w' e e'
 
   abbrev Runs : Type 0
-  Runs = RunsProgram (Ok words) (at_hand bytes) status w w' e e'
+  Runs = RunsProgram (Ok words) refused (at_hand bytes) status w w' e e'
 
   over_its_file : (command : Ends) (file : Word) →
       GoesOver command (at_hand bytes file) status w w' e e' →
@@ -40,7 +41,7 @@ module _ (bytes : Word → List ℕ) (words : List Word) (status : ℕ) (w w' e 
 
   -- Where something is asked for, it is done, unless memory is wanting for the words.
   what_is_asked_is_done : (request : Request) → request_in words ≡ Some request → Runs →
-      DoesAsked (Ok request) (at_hand bytes) status w w' e e' ⊎ Tells NoMemory 5
+      DoesAsked (Ok request) refused (at_hand bytes) status w w' e e' ⊎ Tells NoMemory 5
   what_is_asked_is_done request is ran = go ran.asked ran.is_asked ran.ends
     where
       request_of : Option Request → Request
@@ -48,10 +49,10 @@ module _ (bytes : Word → List ℕ) (words : List Word) (status : ℕ) (w w' e 
       request_of None = request
 
       go : (asked : Result Request WordsFault) → AskFor (Ok words) asked →
-          DoesAsked asked (at_hand bytes) status w w' e e' →
-          DoesAsked (Ok request) (at_hand bytes) status w w' e e' ⊎ Tells NoMemory 5
+          DoesAsked asked refused (at_hand bytes) status w w' e e' →
+          DoesAsked (Ok request) refused (at_hand bytes) status w w' e e' ⊎ Tells NoMemory 5
       go (Ok other) same ends = inl
-          (subst (λ (r : Request). DoesAsked (Ok r) (at_hand bytes) status w w' e e')
+          (subst (λ (r : Request). DoesAsked (Ok r) refused (at_hand bytes) status w w' e e')
           (ap request_of (sym same ∙ is)) ends)
       go (Err Wrong) none ends = absurd (true≢false (subst IsNone is none))
       go (Err NoMemory) any ends = inr ends
@@ -65,9 +66,9 @@ module _ (bytes : Word → List ℕ) (words : List Word) (status : ℕ) (w w' e 
   ]
 
   pub asked_file_is_run : (file : Word) → request_in words ≡ Some (run file) → Runs →
-      GoesOverFile EndsRun (in_memory (bytes file)) status w w' e e' ⊎ Tells NoMemory 5
+      GoesOverFile (EndsRun refused) (in_memory (bytes file)) status w w' e e' ⊎ Tells NoMemory 5
   asked_file_is_run file is ran = elim (what_is_asked_is_done (run file) is ran) [
-    | inl ends ↦ inl (over_its_file EndsRun file ends)
+    | inl ends ↦ inl (over_its_file (EndsRun refused) file ends)
     | inr told ↦ inr told
   ]
 
@@ -99,7 +100,8 @@ module _ (bytes : Word → List ℕ) (words : List Word) (status : ℕ) (w w' e 
   nothing_asked_tells_the_usage is ran = go ran.asked ran.is_asked ran.ends
     where
       go : (asked : Result Request WordsFault) → AskFor (Ok words) asked →
-          DoesAsked asked (at_hand bytes) status w w' e e' → Tells Wrong 2 ⊎ Tells NoMemory 5
+          DoesAsked asked refused (at_hand bytes) status w w' e e'
+          → Tells Wrong 2 ⊎ Tells NoMemory 5
       go (Ok request) same ends = absurd
           (true≢false (subst IsNone same (subst IsNone (sym is) refl)))
       go (Err Wrong) none ends = inl ends
@@ -108,58 +110,60 @@ module _ (bytes : Word → List ℕ) (words : List Word) (status : ℕ) (w w' e 
 -- ---- a trace that is not opened
 
 -- It is told, whatever opening the log may come to.
-pub an_unopened_trace_is_told : (opens : Word → Opening → Type 0) (trace log : Word) (status : ℕ)
-    (w w' e e' : KnownWriter)
+pub an_unopened_trace_is_told : (refused : Type 0) (opens : Word → Opening → Type 0)
+    (trace log : Word) (status : ℕ) (w w' e e' : KnownWriter)
     → ((opening : Opening) → opens trace opening → opening ≡ Err Unopened) →
-    DoesAsked (Ok (check trace log)) opens status w w' e e'
+    DoesAsked (Ok (check trace log)) refused opens status w w' e e'
     → OnlyTells (codes "read failed" ++ line_feed ∷ []) 4 status w w' e e'
-an_unopened_trace_is_told opens trace log status w w' e e' unopened went =
+an_unopened_trace_is_told refused opens trace log status w w' e e' unopened went =
     subst (λ (o : Opening). GoesOverOpening (EndsCheckOf (opens log)) o status w w' e e')
     (unopened went.opening went.opened) went.ends
 
 -- ---- four calls
 
-pub the_named_file_is_replayed : (bytes : Word → List ℕ) (name : Word) (first : ℕ) (rest : List ℕ)
-    (status : ℕ) (w w' e e' : KnownWriter) → (first == 45) ≡ false
-    → RunsProgram (Ok (name ∷ codes "replay" ∷ (first ∷ rest) ∷ [])) (at_hand bytes) status w
-    w' e e'
+pub the_named_file_is_replayed : (refused : Type 0) (bytes : Word → List ℕ) (name : Word)
+    (first : ℕ) (rest : List ℕ) (status : ℕ) (w w' e e' : KnownWriter) → (first == 45) ≡ false
+    → RunsProgram (Ok (name ∷ codes "replay" ∷ (first ∷ rest) ∷ [])) refused (at_hand bytes) status
+    w w' e e'
     → GoesOverFile EndsReplay (in_memory (bytes (first ∷ rest))) status w w' e e' ⊎
     OnlyTells (codes "out of memory" ++ line_feed ∷ []) 5 status w w' e e'
-the_named_file_is_replayed bytes name first rest status w w' e e' plain ran =
-    asked_file_is_replayed bytes _ status w w' e e' (first ∷ rest)
+the_named_file_is_replayed refused bytes name first rest status w w' e e' plain ran =
+    asked_file_is_replayed refused bytes _ status w w' e e' (first ∷ rest)
     (a_named_file_is_replayed name first rest plain) ran
 
-pub the_named_file_is_run : (bytes : Word → List ℕ) (name : Word) (first : ℕ) (rest : List ℕ)
-    (status : ℕ) (w w' e e' : KnownWriter) → (first == 45) ≡ false
-    → RunsProgram (Ok (name ∷ codes "run" ∷ (first ∷ rest) ∷ [])) (at_hand bytes) status w w' e e'
-    → GoesOverFile EndsRun (in_memory (bytes (first ∷ rest))) status w w' e e' ⊎
+pub the_named_file_is_run : (refused : Type 0) (bytes : Word → List ℕ) (name : Word)
+    (first : ℕ) (rest : List ℕ) (status : ℕ) (w w' e e' : KnownWriter) → (first == 45) ≡ false
+    → RunsProgram (Ok (name ∷ codes "run" ∷ (first ∷ rest) ∷ [])) refused (at_hand bytes) status
+    w w' e e'
+    → GoesOverFile (EndsRun refused) (in_memory (bytes (first ∷ rest))) status w w' e e' ⊎
     OnlyTells (codes "out of memory" ++ line_feed ∷ []) 5 status w w' e e'
-the_named_file_is_run bytes name first rest status w w' e e' plain ran =
-    asked_file_is_run bytes _ status w w' e e' (first ∷ rest)
+the_named_file_is_run refused bytes name first rest status w w' e e' plain ran =
+    asked_file_is_run refused bytes _ status w w' e e' (first ∷ rest)
     (a_named_file_is_run name first rest plain) ran
 
-pub the_named_log_is_checked : (bytes : Word → List ℕ) (name : Word) (first second : ℕ)
-    (rest more : List ℕ) (status : ℕ) (w w' e e' : KnownWriter)
+pub the_named_log_is_checked : (refused : Type 0) (bytes : Word → List ℕ) (name : Word)
+    (first second : ℕ) (rest more : List ℕ) (status : ℕ) (w w' e e' : KnownWriter)
     → (first == 45) ≡ false → (second == 45) ≡ false
-    → RunsProgram (Ok (name ∷ codes "check" ∷ (first ∷ rest) ∷ (second ∷ more) ∷ []))
+    → RunsProgram (Ok (name ∷ codes "check" ∷ (first ∷ rest) ∷ (second ∷ more) ∷ [])) refused
     (at_hand bytes) status w w' e e'
-    → ChecksBytes bytes (name ∷ codes "check" ∷ (first ∷ rest) ∷ (second ∷ more) ∷ []) status w w' e
-    e' (first ∷ rest) (second ∷ more)
+    → ChecksBytes refused bytes (name ∷ codes "check" ∷ (first ∷ rest) ∷ (second ∷ more) ∷ [])
+    status w w' e e' (first ∷ rest) (second ∷ more)
     ⊎ OnlyTells (codes "out of memory" ++ line_feed ∷ []) 5 status w w' e e'
-the_named_log_is_checked bytes name first second rest more status w w' e e' plain also ran =
-    asked_log_is_checked bytes _ status w w' e e' (first ∷ rest) (second ∷ more)
+the_named_log_is_checked refused bytes name first second rest more status w w' e e' plain also ran =
+    asked_log_is_checked refused bytes _ status w w' e e' (first ∷ rest) (second ∷ more)
     (a_named_log_is_checked name first second rest more plain also) ran
 
-pub a_word_too_many_tells_the_usage : (bytes : Word → List ℕ) (name : Word) (first second : ℕ)
-    (rest more : List ℕ) (status : ℕ) (w w' e e' : KnownWriter)
+pub a_word_too_many_tells_the_usage : (refused : Type 0) (bytes : Word → List ℕ) (name : Word)
+    (first second : ℕ) (rest more : List ℕ) (status : ℕ) (w w' e e' : KnownWriter)
     → (first == 45) ≡ false → (second == 45) ≡ false
-    → RunsProgram (Ok (name ∷ codes "replay" ∷ (first ∷ rest) ∷ (second ∷ more) ∷ []))
+    → RunsProgram (Ok (name ∷ codes "replay" ∷ (first ∷ rest) ∷ (second ∷ more) ∷ [])) refused
     (at_hand bytes) status w w' e e'
     → OnlyTells (codes "usage: tscache replay FILE, run FILE or check FILE LOG" ++ line_feed ∷ []) 2
     status w w' e e'
     ⊎ OnlyTells (codes "out of memory" ++ line_feed ∷ []) 5 status w w' e e'
-a_word_too_many_tells_the_usage bytes name first second rest more status w w' e e' plain also ran =
-    nothing_asked_tells_the_usage bytes _ status w w' e e'
+a_word_too_many_tells_the_usage refused bytes name first second rest more status w w' e e' plain
+    also ran =
+    nothing_asked_tells_the_usage refused bytes _ status w w' e e'
     (two_files_ask_for_nothing name first second rest more plain also) ran
 
 -- ---- bytes in memory

@@ -74,23 +74,25 @@ EndsCheckOf may_be status trace trace' writer writer' errors errors' =
     errors errors'
 
 -- How the program ends, by what it is asked to do: to replay or to run the file of a name, to check
--- the log in a file against the trace in
--- another, which is opened first, or nothing.
-abbrev pub DoesAsked : Result Request WordsFault → (Word → Opening → Type 0) → ℕ → KnownWriter →
-    KnownWriter → KnownWriter → KnownWriter → Type 0
-DoesAsked (Ok (replay file)) opens status writer writer' errors errors' =
+-- the log in a file against the trace in another, which is opened first, or nothing. `refused` says
+-- that the start of a thread was refused.
+abbrev pub DoesAsked : Result Request WordsFault → Type 0 → (Word → Opening → Type 0) → ℕ →
+    KnownWriter → KnownWriter → KnownWriter → KnownWriter → Type 0
+DoesAsked (Ok (replay file)) refused opens status writer writer' errors errors' =
     GoesOver EndsReplay (opens file) status writer writer' errors errors'
-DoesAsked (Ok (run file)) opens status writer writer' errors errors' =
-    GoesOver EndsRun (opens file) status writer writer' errors errors'
-DoesAsked (Ok (check trace log)) opens status writer writer' errors errors' =
+DoesAsked (Ok (run file)) refused opens status writer writer' errors errors' =
+    GoesOver (EndsRun refused) (opens file) status writer writer' errors errors'
+DoesAsked (Ok (check trace log)) refused opens status writer writer' errors errors' =
     GoesOver (EndsCheckOf (opens log)) (opens trace) status writer writer' errors errors'
-DoesAsked (Err fault) opens status writer writer' errors errors' =
+DoesAsked (Err fault) refused opens status writer writer' errors errors' =
     OnlyTells (refusal_text fault ++ line_feed ∷ []) (refusal_status fault) status writer writer'
     errors errors'
 
--- The program did what its words ask for, with what opening the file of a name may come to.
-pub record RunsProgram (words : Result (List Word) WordsFault) (opens : Word → Opening → Type 0)
-    (status : ℕ) (writer writer' errors errors' : KnownWriter) : Type 0 where
+-- The program did what its words ask for, with what opening the file of a name may come to, and
+-- whether the start of a thread was refused.
+pub record RunsProgram (words : Result (List Word) WordsFault) (refused : Type 0)
+    (opens : Word → Opening → Type 0) (status : ℕ) (writer writer' errors errors' : KnownWriter)
+    : Type 0 where
   pub asked : Result Request WordsFault
   pub is_asked : AskFor words asked
-  pub ends : DoesAsked asked opens status writer writer' errors errors'
+  pub ends : DoesAsked asked refused opens status writer writer' errors errors'

@@ -27,17 +27,19 @@ pub record SucceedsRun (status : ℕ) (reader reader' : KnownReader)
   pub is_status : status ≡ 0
   pub quiet : errors' ≡ errors
 
--- The run ended early, and that was told, with its exit status.
-pub record FailsRun (status : ℕ) (reader reader' : KnownReader)
+-- The run ended early, and that was told, with its exit status. That no thread was to be had is told
+-- only where the start of one was refused.
+pub record FailsRun (refused : Type 0) (status : ℕ) (reader reader' : KnownReader)
     (writer writer' errors errors' : KnownWriter) : Type 0 where
   pub stop : RunStop
   pub stopped : StopsRun stop reader reader' writer writer'
+  pub no_thread : stop ≡ NoThread → refused
   pub is_status : status ≡ stop_status stop
   pub told : Tells (stop_line stop) errors errors'
 
--- how the command ends
-abbrev pub EndsRun : ℕ → KnownReader → KnownReader → KnownWriter → KnownWriter → KnownWriter →
-    KnownWriter → Type 0
-EndsRun status reader reader' writer writer' errors errors' =
+-- how the command ends, where `refused` says that the start of a thread was refused
+abbrev pub EndsRun : Type 0 → ℕ → KnownReader → KnownReader → KnownWriter → KnownWriter →
+    KnownWriter → KnownWriter → Type 0
+EndsRun refused status reader reader' writer writer' errors errors' =
     SucceedsRun status reader reader' writer writer' errors errors' ⊎
-    FailsRun status reader reader' writer writer' errors errors'
+    FailsRun refused status reader reader' writer writer' errors errors'

@@ -16,6 +16,7 @@ use std::alloc::Global;
 use std::process::ExitCode;
 use std::sync::Wait;
 use std::thread::Threads;
+use tsc_run::RefusesThreads;
 use tsc_shared::Gate;
 use tsc_stream::{Progress, Sink, Source, write_output};
 use tsc_trace::ReplayFault;
@@ -28,7 +29,7 @@ use tsc_trace::ReplayFault;
 /// changes no status. `rt` starts the threads of a run, for whose end the call waits. `meter` is
 /// told of each call that a command makes.
 pub fn program<
-    T: Threads + Wait + Sync,
+    T: RefusesThreads + Threads + Wait + Sync,
     P: FileSystem,
     W: Sink,
     E: Sink,
@@ -41,7 +42,8 @@ pub fn program<
     streams: &mut Streams<W, E>,
     meter: &M,
 ) -> ExitCode
-    ensures { RunsProgram (texts_of words) (P.opens files.now) (exit_status result)
+    ensures { RunsProgram (texts_of words) (T.HasRefused rt.now) (P.opens files.now)
+        (exit_status result)
         (W.known streams.old.output.writer) (W.known streams.new.output.writer)
         (E.known streams.old.errors.writer) (E.known streams.new.errors.writer) }
 {
@@ -50,7 +52,13 @@ pub fn program<
 }
 
 /// Does what the words ask for, and gives the exit status.
-fn do_asked<T: Threads + Wait + Sync, P: FileSystem, W: Sink, E: Sink, M: Progress + Gate + Sync>(
+fn do_asked<
+    T: RefusesThreads + Threads + Wait + Sync,
+    P: FileSystem,
+    W: Sink,
+    E: Sink,
+    M: Progress + Gate + Sync,
+>(
     rt: &T,
     alloc: Global,
     words: Result<Vec<String>, WordsFault>,
@@ -58,7 +66,7 @@ fn do_asked<T: Threads + Wait + Sync, P: FileSystem, W: Sink, E: Sink, M: Progre
     streams: &mut Streams<W, E>,
     meter: &M,
 ) -> u8
-    ensures { RunsProgram (texts_of words) (P.opens files.now) result
+    ensures { RunsProgram (texts_of words) (T.HasRefused rt.now) (P.opens files.now) result
         (W.known streams.old.output.writer) (W.known streams.new.output.writer)
         (E.known streams.old.errors.writer) (E.known streams.new.errors.writer) }
 {
@@ -107,15 +115,14 @@ fn replay_file<P: FileSystem, W: Sink, E: Sink, M: Progress>(
 }
 
 /// Runs the trace in the file of a name on threads.
-fn run_file<T: Threads + Wait + Sync, P: FileSystem, W: Sink, E: Sink, M: Gate + Sync>(
-    rt: &T,
-    alloc: Global,
-    files: &P,
-    file: &str,
-    streams: &mut Streams<W, E>,
-    meter: &M,
-) -> u8
-    ensures { GoesOver EndsRun (P.opens files.now file.now) result
+fn run_file<
+    T: RefusesThreads + Threads + Wait + Sync,
+    P: FileSystem,
+    W: Sink,
+    E: Sink,
+    M: Gate + Sync,
+>(rt: &T, alloc: Global, files: &P, file: &str, streams: &mut Streams<W, E>, meter: &M) -> u8
+    ensures { GoesOver (EndsRun (T.HasRefused rt.now)) (P.opens files.now file.now) result
         (W.known streams.old.output.writer) (W.known streams.new.output.writer)
         (E.known streams.old.errors.writer) (E.known streams.new.errors.writer) }
 {

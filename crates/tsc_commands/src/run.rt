@@ -8,7 +8,7 @@ use crate::replay::status_of;
 use std::alloc::Global;
 use std::sync::Wait;
 use std::thread::Threads;
-use tsc_run::{RunStop, run_stream};
+use tsc_run::{RefusesThreads, RunStop, run_stream};
 use tsc_shared::Gate;
 use tsc_stream::{Sink, Source, WriteFailed, write_output};
 
@@ -18,15 +18,14 @@ use tsc_stream::{Sink, Source, WriteFailed, write_output};
 /// The status is 0 for a run, 1 for a trace that was refused, 4 where reading or writing failed or
 /// a thread could not be started, and 5 where a growth was refused. A fault is told by one line,
 /// and telling it changes no status.
-pub fn run_command<T: Threads + Wait + Sync, R: Source, W: Sink, E: Sink, G: Gate + Sync>(
-    rt: &T,
-    alloc: Global,
-    reader: &mut R,
-    writer: &mut W,
-    errors: &mut E,
-    gate: &G,
-) -> u8
-    ensures { EndsRun result (R.known reader.old) (R.known reader.new)
+pub fn run_command<
+    T: RefusesThreads + Threads + Wait + Sync,
+    R: Source,
+    W: Sink,
+    E: Sink,
+    G: Gate + Sync,
+>(rt: &T, alloc: Global, reader: &mut R, writer: &mut W, errors: &mut E, gate: &G) -> u8
+    ensures { EndsRun (T.HasRefused rt.now) result (R.known reader.old) (R.known reader.new)
         (W.known writer.old) (W.known writer.new) (E.known errors.old) (E.known errors.new) }
 {
     match run_stream(rt, alloc, reader, writer, gate) {

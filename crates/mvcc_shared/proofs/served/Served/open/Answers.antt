@@ -9,4 +9,4 @@ pub invariant_of-result : goal.invariant_of-result
 invariant_of-result c =
     let range = c.in_ok-open.field-0 in
     subst (λ (log : List Transaction). WasServed (served range log)) (sym c.new.ensures.items)
-    (was_opened range c.in_ok-open.ensures.opened)
+    (was_opened c.args.config range c.in_ok-open.ensures.opened)
