@@ -44,7 +44,7 @@ explain() {
     case $1 in
     replay) does='Makes the calls of a trace on one thread, list after list.' ;;
     run)
-        does='Makes the calls of each list of a trace on a thread of its own, all at the same time.'
+        does='Makes the calls of each list of a trace on a thread of its own, side by side.'
         ends="$ends, or no thread could be started"
         ;;
     check)
