@@ -504,7 +504,7 @@ void texts()
         }
         trace += "]]}";
         CHECK(replay(trace).value() == log && check(trace, log).value() == "right\n");
-        log[log.size() - 10] = '6';
+        log[log.size() - 9] = '6';
         CHECK(check(trace, log).value() == "wrong answer 1\n");
         CHECK(check(trace, "0 0 get").why() == "log refused: fault 1 at line 1");
     }
@@ -595,34 +595,32 @@ void seats()
     CHECK(other.figures().value().seen == 2 && other.summary(span).value().seen == 2);
 }
 
+/// What a cache and a seat have in common.
+template <class Of> void of_both(Of (*open_another)())
+{
+    for (void (*test)(Of &) : {bytes_of_owners<Of>, views<Of>, memory<Of>, counts<Of>}) {
+        Of of = open_another();
+        test(of);
+    }
+    summaries(open_another);
+}
+
+void of_caches() { of_both<Cache>(opened); }
+void of_seats() { of_both<Seat>(lone_seat); }
+
 } // namespace
 
 int main()
 {
-    Cache cache = opened();
-    Seat seat = lone_seat();
-    caches_move();
-    shared_caches_move();
-    results();
-    settings();
-    times_and_owners();
-    bytes_of_owners(cache);
-    bytes_of_owners(seat);
-    cache = opened(), seat = lone_seat();
-    views(cache);
-    views(seat);
-    cache = opened(), seat = lone_seat();
-    memory(cache);
-    memory(seat);
-    memory_of_owners();
-    summaries(opened);
-    summaries(lone_seat);
-    texts();
-    cache = opened(), seat = lone_seat();
-    counts(cache);
-    counts(seat);
-    seats();
-    threads();
+    for (void (*test)() : {caches_move, shared_caches_move, results, settings, times_and_owners,
+                           memory_of_owners, texts, seats, threads, of_caches, of_seats}) {
+        try {
+            test();
+        } catch (const std::exception &why) {
+            std::cout << "test_owners.cc: " << why.what() << "\n";
+            failed++;
+        }
+    }
     std::cout << passed << " passed, " << failed << " failed\n";
     return failed != 0;
 }
