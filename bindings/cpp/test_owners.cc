@@ -505,7 +505,7 @@ void texts()
         trace += "]]}";
         CHECK(replay(trace).value() == log && check(trace, log).value() == "right\n");
         log[log.size() - 9] = '6';
-        CHECK(check(trace, log).value() == "wrong answer 1\n");
+        CHECK(check(trace, log).value() == "wrong answer " + std::to_string(count) + "\n");
         CHECK(check(trace, "0 0 get").why() == "log refused: fault 1 at line 1");
     }
     const auto refused = replay({});
