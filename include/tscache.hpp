@@ -4,7 +4,7 @@
 ///     config.low_water = {5};                          // the start of the lease
 ///     tscache::Cache cache = tscache::Cache::open(config).value();
 ///     tscache::Value read = {{20}, reader};            // sixteen bytes of a transaction
-///     // [a, c) was read at 20. A read that is not remembered must not be answered: `value` throws.
+///     // [a, c) was read at 20. Where it is not remembered `value` throws, so it is not answered.
 ///     cache.add(tscache::Span::range("a", "c"), read, {20}).value();
 ///     auto write = cache.earliest_write(tscache::Span::point("b"), {15}, writer);
 ///     if (write.error() == tscache::Error::NoTime) return;
@@ -13,10 +13,11 @@
 /// Calls answer a `Result`, and throw nothing. An Add of a seat is refused as busy in the course of
 /// things and waits for nobody, while a throw takes memory, and in many programs a lock that all
 /// threads share. Stores that are built without exceptions use this header too. A refusal that is
-/// passed over fails closed. The compiler warns where a program drops a `Result`. There is no way
-/// to an answer but `value`, which throws `Refusal` where there is none, and ends a program that
-/// is built without exceptions. A `Result` does not convert to bool, since that of `may_write`
-/// would be true wherever it was answered, and it has no `value_or`, which would make up a time.
+/// passed over fails closed: there is no way to an answer but `value`, which throws `Refusal` where
+/// there is none, and ends a program that is built without exceptions. The compiler warns where a
+/// program drops a `Result`, or never looks at one that it keeps. A `Result` does not convert to
+/// bool, since that of `may_write` would be true wherever it was answered. It has no `value_or`,
+/// which would make up a time.
 ///
 /// A `Cache`, a `Shared` and a `Seat` own what they name, and free it at their end. They move and
 /// do not copy. One that was moved from, or that begins as `Cache()` does, owns nothing: each call
@@ -102,7 +103,8 @@ private:
 };
 
 /// What a call answers, or why it was refused.
-template <class T> class [[nodiscard]] Result {
+template <class T> class [[nodiscard, gnu::warn_unused]] Result
+{
 public:
     Result(T value) noexcept : value_(std::move(value)) {}
     Result(Error error) noexcept : error_(error) {}
@@ -424,8 +426,7 @@ inline tsc_span lying(const Span &span, std::size_t at) noexcept
 inline tsc_mark lying(const Mark &mark, std::size_t at) noexcept
 {
     const tsc_span span = lying(mark.span, at);
-    return {span.from_at, span.from_len,       span.to_at,
-            span.to_len,  c_value(mark.value), span.ends};
+    return {span.from_at, span.from_len, span.to_at, span.to_len, c_value(mark.value), span.ends};
 }
 
 /// Spans or marks as the library takes them: their keys in one piece, and where each key lies.
@@ -577,10 +578,9 @@ public:
         const tsc_value read = detail::c_value(value);
         const tsc_time moment = detail::c_time(now);
         Added added = {};
-        const std::uint32_t code =
-            tsc_checked_add(&store_, handle_, span.from().data(), span.from().size(),
-                            span.to().data(), span.to().size(), span.ends(), &read, &moment,
-                            &added);
+        const std::uint32_t code = tsc_checked_add(
+            &store_, handle_, span.from().data(), span.from().size(), span.to().data(),
+            span.to().size(), span.ends(), &read, &moment, &added);
         return detail::told(code, added);
     }
 
@@ -670,8 +670,8 @@ public:
     {
         const tsc_time moment = detail::c_time(now);
         Added added = {};
-        const std::uint32_t code = tsc_checked_apply(&store_, handle_, summary.data(),
-                                                     summary.size(), &moment, &added);
+        const std::uint32_t code =
+            tsc_checked_apply(&store_, handle_, summary.data(), summary.size(), &moment, &added);
         return detail::told(code, added);
     }
 
@@ -696,10 +696,9 @@ public:
         const tsc_value read = detail::c_value(value);
         const tsc_time moment = detail::c_time(now);
         Placed placed;
-        const std::uint32_t code =
-            tsc_checked_seat_add(&store_, handle_, span.from().data(), span.from().size(),
-                                 span.to().data(), span.to().size(), span.ends(), &read, &moment,
-                                 tries, &placed.place, &placed.added);
+        const std::uint32_t code = tsc_checked_seat_add(
+            &store_, handle_, span.from().data(), span.from().size(), span.to().data(),
+            span.to().size(), span.ends(), &read, &moment, tries, &placed.place, &placed.added);
         return detail::told(code, placed);
     }
 
@@ -711,9 +710,9 @@ public:
         Placed placed;
         if (!laid.is_laid())
             return Error::NoMemory;
-        const std::uint32_t code = tsc_checked_seat_add_all(
-            &store_, handle_, laid.keys(), laid.keys_len(), laid.items(), laid.count(), &moment,
-            tries, &placed.place, &placed.added);
+        const std::uint32_t code =
+            tsc_checked_seat_add_all(&store_, handle_, laid.keys(), laid.keys_len(), laid.items(),
+                                     laid.count(), &moment, tries, &placed.place, &placed.added);
         return detail::told(code, placed);
     }
 
@@ -722,10 +721,9 @@ public:
     {
         tsc_value latest = {};
         std::uint64_t seen = 0;
-        const std::uint32_t code =
-            tsc_checked_seat_get_max(&store_, handle_, span.from().data(), span.from().size(),
-                                     span.to().data(), span.to().size(), span.ends(), &seen,
-                                     &latest);
+        const std::uint32_t code = tsc_checked_seat_get_max(
+            &store_, handle_, span.from().data(), span.from().size(), span.to().data(),
+            span.to().size(), span.ends(), &seen, &latest);
         return detail::told(code, Seen<Value>{detail::from_c(latest), seen});
     }
 
@@ -782,9 +780,9 @@ public:
     {
         std::uint64_t seen = 0;
         auto bytes = detail::written([&](char *out, std::size_t room, std::size_t *len) {
-            return tsc_checked_seat_summary(
-                &store_, handle_, span.from().data(), span.from().size(), span.to().data(),
-                span.to().size(), span.ends(), most, &seen, out, room, len);
+            return tsc_checked_seat_summary(&store_, handle_, span.from().data(),
+                                            span.from().size(), span.to().data(), span.to().size(),
+                                            span.ends(), most, &seen, out, room, len);
         });
         if (!bytes.ok())
             return bytes.error();
@@ -840,8 +838,7 @@ public:
         if (next_ == end_)
             return end_ == 0 ? Error::Closed : Error::StillOut;
         Seat seat;
-        const std::uint32_t code =
-            tsc_checked_move(&store_, next_, &seat.store_, &seat.handle_);
+        const std::uint32_t code = tsc_checked_move(&store_, next_, &seat.store_, &seat.handle_);
         next_ += code == TSC_OK;
         return detail::told(code, std::move(seat));
     }

@@ -17,7 +17,8 @@ using namespace tscache;
 
 // What the compiler looks at: a program that breaks one of these lines is none.
 
-template <class Of> constexpr bool MOVES_ALONE =
+template <class Of>
+constexpr bool MOVES_ALONE =
     !std::is_copy_constructible_v<Of> && !std::is_copy_assignable_v<Of> &&
     std::is_nothrow_move_constructible_v<Of> && std::is_nothrow_move_assignable_v<Of> &&
     std::is_nothrow_default_constructible_v<Of> && std::is_nothrow_destructible_v<Of>;
@@ -41,8 +42,8 @@ static_assert(!(Time{21} <= Time{20, 9}) && !(Time{20} >= Time{20, 1}) && !(Time
 // No span is made of a temporary string.
 template <class Key> using PointOf = decltype(Span::point(std::declval<Key>()));
 template <class Key> using OnwardOf = decltype(Span::onward(std::declval<Key>()));
-template <class From, class To> using RangeOf =
-    decltype(Span::range(std::declval<From>(), std::declval<To>(), Ends::IncludeBoth));
+template <class From, class To>
+using RangeOf = decltype(Span::range(std::declval<From>(), std::declval<To>(), Ends::IncludeBoth));
 template <class, template <class...> class Made, class... Keys> struct IsMade : std::false_type {
 };
 template <template <class...> class Made, class... Keys>
@@ -51,14 +52,14 @@ struct IsMade<std::void_t<Made<Keys...>>, Made, Keys...> : std::true_type {
 template <template <class...> class Made, class... Keys>
 constexpr bool IS_MADE = IsMade<void, Made, Keys...>::value;
 using Name = std::string &;
-using View_ = std::string_view;
-static_assert(IS_MADE<PointOf, Name> && IS_MADE<PointOf, View_> && IS_MADE<PointOf, const char *>);
+using Chars = std::string_view;
+static_assert(IS_MADE<PointOf, Name> && IS_MADE<PointOf, Chars> && IS_MADE<PointOf, const char *>);
 static_assert(IS_MADE<PointOf, const std::string &> && IS_MADE<OnwardOf, Name>);
-static_assert(IS_MADE<RangeOf, Name, Name> && IS_MADE<RangeOf, const char *, View_>);
+static_assert(IS_MADE<RangeOf, Name, Name> && IS_MADE<RangeOf, const char *, Chars>);
 static_assert(!IS_MADE<PointOf, std::string> && !IS_MADE<PointOf, const std::string>);
 static_assert(!IS_MADE<OnwardOf, std::string> && !IS_MADE<RangeOf, std::string, std::string>);
 static_assert(!IS_MADE<RangeOf, Name, std::string> && !IS_MADE<RangeOf, std::string, Name>);
-static_assert(!IS_MADE<RangeOf, View_, std::string> && !IS_MADE<RangeOf, std::string, View_>);
+static_assert(!IS_MADE<RangeOf, Chars, std::string> && !IS_MADE<RangeOf, std::string, Chars>);
 static_assert(Span::point("a").from() == "a" && Span::range("a", "b").ends() == TSC_EXCLUDE_TO);
 
 // Memory that the program takes by `new`, as all of this header does.
@@ -171,8 +172,8 @@ bool is_closed(Seat &seat)
            seat.get_max(span).error() == Error::Closed &&
            seat.earliest_write(span, {15}, ONE).error() == Error::Closed &&
            seat.may_write(span, {15}, ONE).error() == Error::Closed &&
-           seat.low_water().error() == Error::Closed &&
-           seat.figures().error() == Error::Closed && seat.summary(span).error() == Error::Closed;
+           seat.low_water().error() == Error::Closed && seat.figures().error() == Error::Closed &&
+           seat.summary(span).error() == Error::Closed;
 }
 
 bool is_closed(Shared &shared)
@@ -213,9 +214,8 @@ void caches_move()
     }
     bool is_each_its_own = true;
     for (std::uint64_t i = 0; i < 20; i++)
-        is_each_its_own =
-            is_each_its_own && many[i].get_max(span).value().time == Time{30 + i} &&
-            reinterpret_cast<std::uintptr_t>(&many[i]) % 128 == 0;
+        is_each_its_own = is_each_its_own && many[i].get_max(span).value().time == Time{30 + i} &&
+                          reinterpret_cast<std::uintptr_t>(&many[i]) % 128 == 0;
     CHECK(is_each_its_own);
 
     std::thread([moved = std::move(cache), span]() mutable {
@@ -279,7 +279,8 @@ void results()
         CHECK(throws(error, [&] { return refused.value(); }));
         CHECK(throws(error, [&] { return Result<Time>(error).value(); }));
     }
-    CHECK(texts.size() == TSC_TRIES && std::string(text(static_cast<Error>(99))) == "no such answer");
+    CHECK(texts.size() == TSC_TRIES &&
+          std::string(text(static_cast<Error>(99))) == "no such answer");
     Result<Time> answered = Time{20, 1};
     CHECK(answered.ok() && answered.error() == Error::None && answered.value() == Time{20, 1});
     answered.value().logical = 2;
@@ -428,7 +429,9 @@ template <class Of> void memory(Of &of)
 
     const Span fresh = Span::point("z");
     std::vector<Mark> marks(9, Mark{fresh, READ});
-    const auto refused = [&](auto call) { return without_memory(call) == Error::NoMemory; };
+    const auto refused = [&](auto call) {
+        return without_memory(call) == Error::NoMemory;
+    };
     CHECK(refused([&] { return of.add_all(marks, NOW).error(); }));
     CHECK(of.may_write(fresh, {15}, TWO).value());
     CHECK(refused([&] { return of.may_write(nine, {15}, ONE).error(); }));
@@ -565,8 +568,8 @@ void threads()
                 if (one.ok() && more.ok() && latest.ok()) {
                     places[i].push_back(one.value().place);
                     places[i].push_back(more.value().place);
-                    wrong += latest.value().answer != read ||
-                             latest.value().seen <= more.value().place;
+                    wrong +=
+                        latest.value().answer != read || latest.value().seen <= more.value().place;
                 }
             }
         });
