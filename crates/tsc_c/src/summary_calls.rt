@@ -3,6 +3,7 @@
 
 ghost use Rattle.std.specs.Prelude.{◌≡◌};
 ghost use Rattle.tsc_ffi_store.specs.Codes.{Tells};
+ghost use Rattle.tsc_ffi_store.specs.Counts.{CountsAdd};
 ghost use Rattle.tsc_ffi_store.specs.Decode.{span_asked, added_of};
 ghost use Rattle.tsc_ffi_store.specs.Store.{slots_of, AnswersOfCache, DoesToCache};
 ghost use Rattle.tsc_ffi_store.specs.Summaries.{summary_asked, AnswersSummary, PutsOr};
@@ -27,7 +28,7 @@ pub extern "C" fn tsc_summary(
     len: &mut usize,
 ) -> u32
     ensures answers { PutsOr (AnswersOfCache
-        (AnswersSummary (summary_asked (span_asked from.now to.now ends) most))
+        (λ held. AnswersSummary (summary_asked (span_asked from.now to.now ends) most) held.cache)
         (slots_of store.old.owned) handle) result out.old out.new len.old len.new }
     ensures unchanged { store.new.owned ≡ store.old.owned }
 {
@@ -54,8 +55,8 @@ pub extern "C" fn tsc_apply(
     moment: &TscTime,
     out: &mut TscAdded,
 ) -> u32
-    ensures answers { Tells (DoesToCache
-        (AnswersApply (apply_asked summary.now moment.now) (added_of out.new))
+    ensures answers { Tells (DoesToCache (CountsAdd
+        (AnswersApply (apply_asked summary.now moment.now) (added_of out.new)) out.new.evicted)
         (slots_of store.old.owned) (slots_of store.new.owned) handle) (out.new ≡ out.old) result }
 {
     let args = ApplyArgs { summary, moment };

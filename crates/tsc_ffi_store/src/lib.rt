@@ -7,6 +7,7 @@
 
 mod buffer;
 mod cache_calls;
+mod counts;
 mod ctypes;
 mod decode;
 pub mod laws;
@@ -20,6 +21,7 @@ mod writes;
 
 pub use buffer::{REFUSED, put};
 pub use cache_calls::{add_all_in, add_in, figures_in, floor_in, look_in};
+pub use counts::{CountedCache, CountedSeat, Counts};
 pub use ctypes::{
     AddArgs, ApplyArgs, BatchArgs, ConfigArgs, SpanArgs, SummaryArgs, TscAdded, TscFigures,
     TscMark, TscSpan, TscTime, TscValue, WriteArgs,
