@@ -9,7 +9,9 @@ use crate::aggregate::Aggregate;
 use crate::subtrees::Subtree;
 use crate::{across, subtrees};
 use std::alloc::{AllocError, Global};
+use std::mem::size_of;
 use std::sync::Arc;
+use tsc_page_nodes::memory::shared_memory;
 use tsc_page_nodes::{
     Growth, KeyInsertion, KeyPrefix, Prefixed, PrefixedCut, PrefixedInsertion, SearchKey,
 };
@@ -154,6 +156,10 @@ impl<P: Subtree> Subtree for Branch<P> {
 
     fn leaf_len(&self, place: usize) -> Result<usize, usize> {
         subtrees::leaf_len(&self.subtrees, place)
+    }
+
+    fn memory(&self) -> u64 {
+        shared_memory(size_of::<Vec<P>>()).saturating_add(subtrees::memory(&self.subtrees))
     }
 
     fn raise_whole(&mut self, value: Value) {
