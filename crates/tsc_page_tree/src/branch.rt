@@ -6,6 +6,7 @@ ghost use Rattle.tsc_page_tree.specs.Lazy.{with_lazy, all_joint};
 ghost use Rattle.tsc_page_tree.specs.Trees.{branch_nodes, branch_sizes, branch_copied, AreFewSubtrees, AreBranchSubtrees, IsWholeBranch, IsBranchCopy, IsTold, items_in, sibling_nodes, AreWholeSiblings};
 
 use crate::aggregate::Aggregate;
+use crate::leaf::{Leaf, SUBTREE_BYTES};
 use crate::subtrees::Subtree;
 use crate::{across, subtrees};
 use std::alloc::{AllocError, Global};
@@ -28,6 +29,8 @@ pub struct Branch<P> {
     pub(crate) aggregate: Aggregate,
     pub(crate) subtrees: Arc<Vec<P>>,
 }
+
+const _: () = prove!(size_of::<Branch<Leaf>>() == SUBTREE_BYTES);
 
 impl<P: Subtree> Branch<P> {
     fn new(alloc: Global, subtrees: Vec<P>) -> Result<Branch<P>, NoMemory>
@@ -159,7 +162,7 @@ impl<P: Subtree> Subtree for Branch<P> {
     }
 
     fn memory(&self) -> u64 {
-        shared_memory(size_of::<Vec<P>>()).saturating_add(subtrees::memory(&self.subtrees))
+        shared_memory(size_of::<Vec<Leaf>>()).saturating_add(subtrees::memory(&self.subtrees))
     }
 
     fn raise_whole(&mut self, value: Value) {

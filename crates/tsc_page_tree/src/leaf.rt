@@ -30,6 +30,9 @@ pub struct Leaf {
     pub(crate) nodes: Arc<Nodes>,
 }
 
+/// How many bytes a subtree has in its list, of whichever kind it is.
+pub(crate) const SUBTREE_BYTES: usize = size_of::<Leaf>();
+
 impl Leaf {
     /// A leaf of nodes, without a lazy value.
     pub fn new(alloc: Global, nodes: Nodes) -> Result<Leaf, NoMemory>

@@ -17,12 +17,12 @@ mod joints;
 pub(crate) mod places;
 
 use crate::across;
+use crate::leaf::SUBTREE_BYTES;
 pub use crate::subtrees::joints::join_between;
 use crate::subtrees::joints::leaves_out;
 use crate::subtrees::places::{goes_on, stops_at_next, subtree_at};
 pub(crate) use crate::subtrees::places::{first_starts_above, first_starts_below};
 use std::alloc::Global;
-use std::mem::size_of;
 use tsc_page_nodes::memory::list_memory;
 use tsc_page_nodes::{
     Growth, KeyInsertion, KeyPrefix, Prefixed, PrefixedCut, PrefixedInsertion, SearchKey,
@@ -375,7 +375,7 @@ pub fn leaf_len<P: Subtree>(subtrees: &[P], place: usize) -> Result<usize, usize
 /// How many bytes the blocks of memory have that hold a list of subtrees and what lies below them,
 /// but for the keys themselves.
 pub fn memory<P: Subtree>(subtrees: &Vec<P>) -> u64 {
-    let mut bytes = list_memory(subtrees.capacity(), size_of::<P>());
+    let mut bytes = list_memory(subtrees.capacity(), SUBTREE_BYTES);
     for subtree in subtrees {
         bytes = bytes.saturating_add(subtree.memory());
     }
