@@ -12,7 +12,8 @@ ghost use Rattle.tsc_ffi_store.specs.Summaries.{apply_asked, AnswersApply};
 use crate::store_ptr::StorePtr;
 use std::alloc::Global;
 use tsc_ffi_store::{
-    ApplyArgs, Refusal, SpanArgs, SummaryArgs, TscAdded, TscTime, apply_in, code, put_in,
+    ApplyArgs, Refusal, SpanArgs, SummaryArgs, TscAdded, TscTime, apply_in, code, put_at,
+    put_in,
 };
 
 /// Puts what was read of a span into a buffer, as bytes, in at most `most` marks.
@@ -39,6 +40,34 @@ pub extern "C" fn tsc_summary(
             let alloc = held.alloc();
             match held.cache(handle) {
                 Some(cache) => put_in(cache, alloc, &args, out, len),
+                None => Refusal::Closed.code(),
+            }
+        }
+        None => Refusal::Closed.code(),
+    }
+}
+
+/// Puts what was read of a span of a shared cache into a buffer, as bytes, in at most `most` marks,
+/// and tells how many Adds the seat has seen then.
+#[unsafe(no_mangle)]
+pub extern "C" fn tsc_seat_summary(
+    store: &mut StorePtr,
+    handle: u64,
+    from: &[u8],
+    to: &[u8],
+    ends: u32,
+    most: usize,
+    seen: &mut u64,
+    out: &mut [u8],
+    len: &mut usize,
+) -> u32 {
+    let span = SpanArgs { from, to, ends };
+    let args = SummaryArgs { span, most };
+    match store.store_mut() {
+        Some(held) => {
+            let alloc = held.alloc();
+            match held.seat_mut(handle) {
+                Some(seat) => put_at(seat, alloc, &args, seen, out, len),
                 None => Refusal::Closed.code(),
             }
         }

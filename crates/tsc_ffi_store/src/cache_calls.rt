@@ -130,12 +130,7 @@ pub fn floor_in(held: &CountedCache, out: &mut TscTime)
 pub fn figures_in(held: &CountedCache, out: &mut TscFigures)
     ensures { TellsFigures held.now out.new }
 {
-    *out = words_of_figures(held.cache.figures(), memory_of(&held.cache), held.counts);
-}
-
-/// How much memory a cache takes.
-fn memory_of(_cache: &Cache) -> u64 {
-    0
+    *out = words_of_figures(held.cache.figures(), held.cache.memory(), held.counts);
 }
 
 /// Counts an Add that was accepted, with the pages that it dropped, or that was refused.

@@ -30,5 +30,5 @@ pub use decode::{Form, config};
 pub use refusal::{OK, Refusal, code};
 pub use seat_calls::{add_all_at, add_at, figures_at, floor_at, look_at, may_seat};
 pub use store::{Slot, Store};
-pub use summaries::{apply_in, put_in};
+pub use summaries::{apply_in, put_at, put_in};
 pub use writes::{may_at, may_in, write_at, write_in};

@@ -23,7 +23,7 @@ use crate::store::{Slot, Store, give_next, place_of};
 use std::alloc::Global;
 use std::mem::replace;
 use tsc_cache::Config;
-use tsc_shared::{AddFault, TryAddFault};
+use tsc_shared::{AddFault, SeatFigures, TryAddFault};
 
 /// Whether a shared cache may have `seats` seats.
 pub fn may_seat(seats: u32) -> bool
@@ -251,9 +251,24 @@ pub fn floor_at(held: &mut CountedSeat, seen: &mut u64, out: &mut TscTime)
 pub fn figures_at(held: &mut CountedSeat, seen: &mut u64, out: &mut TscFigures)
     ensures { TellsFiguresAt held.old held.new seen.new out.new }
 {
-    let answer = held.seat.figures();
+    let (answer, memory) = figures_and_memory(&mut held.seat);
     *seen = answer.front;
-    *out = words_of_figures(answer.figures, 0, held.counts);
+    *out = words_of_figures(answer.figures, memory, held.counts);
+}
+
+/// The figures of the cache of a seat, and how much memory the copy takes that the seat reads. That
+/// is 0 where there are so many handles of the copy that the seat gets none.
+fn figures_and_memory(seat: &mut SeatHandle) -> (SeatFigures, u64)
+    ensures { ReadsFigures seat.old seat.new result.0 }
+{
+    match seat.snapshot() {
+        Ok(snapshot) => {
+            let figures = snapshot.cache.figures();
+            let front = snapshot.front;
+            (SeatFigures { figures, front }, snapshot.cache.memory())
+        }
+        Err(_) => (seat.figures(), 0),
+    }
 }
 
 /// Adds a span at a seat, and writes the place of that among all Adds, and what it did.

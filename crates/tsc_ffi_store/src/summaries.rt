@@ -8,10 +8,11 @@ ghost use Rattle.tsc_ffi_store.specs.Summaries.{asked_summary, asked_apply, Tell
 
 use crate::buffer::put;
 use crate::cache_calls::{count, of_cache_fault};
-use crate::counts::CountedCache;
+use crate::counts::{CountedCache, CountedSeat};
 use crate::ctypes::{ApplyArgs, SummaryArgs, TscAdded};
 use crate::decode::{added_span, time, words_of_added};
 use crate::refusal::{OK, Refusal};
+use crate::seats::SeatHandle;
 use std::alloc::Global;
 use timestamp_cache::{ReadSummary, SummaryFault, apply, summary};
 use tsc_cache::Cache;
@@ -31,6 +32,51 @@ pub fn put_in(
     match bytes_in(&held.cache, alloc, args) {
         Ok(bytes) => put(OK, bytes.as_slice(), out, len),
         Err(why) => why.code(),
+    }
+}
+
+/// Puts the bytes of a summary at a seat into a buffer that has room for them, and tells how many
+/// there are, and how many Adds the seat has seen then.
+pub fn put_at(
+    held: &mut CountedSeat,
+    alloc: Global,
+    args: &SummaryArgs<'_>,
+    seen: &mut u64,
+    out: &mut [u8],
+    len: &mut usize,
+) -> u32 {
+    match bytes_at(&mut held.seat, alloc, args) {
+        Ok(told) => {
+            *seen = told.front;
+            put(OK, told.bytes.as_slice(), out, len)
+        }
+        Err(why) => why.code(),
+    }
+}
+
+/// The bytes of a summary at a seat, and how many Adds the seat has seen then.
+#[derive(Drop)]
+struct SeatBytes {
+    bytes: Vec<u8>,
+    front: u64,
+}
+
+/// The bytes of a summary at a seat.
+fn bytes_at(
+    seat: &mut SeatHandle,
+    alloc: Global,
+    args: &SummaryArgs<'_>,
+) -> Result<SeatBytes, Refusal> {
+    let span = added_span(alloc, &args.span)?;
+    let Ok(told) = seat.summary(alloc, &span, args.most) else {
+        return Err(Refusal::NoMemory);
+    };
+    match told.summary.to_bytes() {
+        Ok(bytes) => Ok(SeatBytes {
+            bytes,
+            front: told.front,
+        }),
+        Err(_) => Err(Refusal::NoMemory),
     }
 }
 
