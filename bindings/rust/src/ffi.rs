@@ -8,9 +8,7 @@ pub const EXCLUDE_TO: u32 = 2;
 pub const ONWARD: u32 = 4;
 pub const POINT: u32 = 8;
 
-pub const TIME: u32 = 2;
 pub const SHORT: u32 = 17;
-pub const NO_TIME: u32 = 18;
 
 #[repr(C)]
 #[derive(Debug)]

@@ -27,7 +27,7 @@ impl Cache {
     /// let mut next = Cache::open(&Config::default())?;
     /// next.apply(&summary, Time::new(30, 0))?;
     /// assert_eq!(next.get_max(&Span::Point(b"b")), read);
-    /// assert!(!next.may_write(&Span::Point(b"b"), Time::new(20, 0), writer));
+    /// assert!(!next.may_write(&Span::Point(b"b"), Time::new(20, 0), writer)?);
     /// # Ok::<(), Error>(())
     /// ```
     pub fn summary(&mut self, span: &Span<'_>, most: usize) -> Result<Vec<u8>, Error> {

@@ -25,10 +25,12 @@ use std::mem::MaybeUninit;
 use std::ptr::null_mut;
 
 mod ffi;
+mod flat;
 mod leases;
 mod texts;
 mod writes;
 
+use flat::Flat;
 pub use texts::{check, replay, TextError};
 
 /// A time of a hybrid logical clock. The smaller wall time comes first, and of two equal ones the
@@ -197,6 +199,8 @@ pub enum Error {
     Busy,
     /// A shared cache has had as many Adds as it may have.
     Full,
+    /// A read of somebody else stands at the last time, so a write may be made at none.
+    NoTime,
     /// The bytes are a summary of another version.
     SummaryVersion,
     /// Some bytes of a summary are missing, or there are more than it has.
@@ -223,6 +227,7 @@ impl fmt::Display for Error {
             Error::Seats => "seats are 1 to 64",
             Error::Busy => "others were in the way",
             Error::Full => "there are as many Adds as there may be",
+            Error::NoTime => "there is no time at which the write may be made",
             Error::SummaryVersion => "the summary is of another version",
             Error::SummaryLength => "the summary has another length",
             Error::SummaryChecksum => "the summary was changed",
@@ -273,6 +278,7 @@ fn fault(code: u32) -> Error {
         12 => Error::Seats,
         14 => Error::Busy,
         15 => Error::Full,
+        18 => Error::NoTime,
         19 => Error::SummaryVersion,
         20 => Error::SummaryLength,
         21 => Error::SummaryChecksum,
@@ -308,24 +314,12 @@ impl From<ffi::Added> for Added {
 }
 
 /// The keys of some marks, one behind the other, and the marks with where theirs lie.
-fn flat(marks: &[Mark<'_>]) -> (Vec<u8>, Vec<ffi::Mark>) {
-    let mut keys = Vec::new();
-    let mut asked = Vec::with_capacity(marks.len());
-    for mark in marks {
-        let (from, to, ends) = mark.span.parts();
-        let (from_at, to_at) = (keys.len(), keys.len() + from.len());
-        keys.extend_from_slice(from);
-        keys.extend_from_slice(to);
-        asked.push(ffi::Mark {
-            from_at,
-            from_len: from.len(),
-            to_at,
-            to_len: to.len(),
-            value: mark.value.into(),
-            ends,
-        });
-    }
-    (keys, asked)
+fn flat(marks: &[Mark<'_>]) -> Result<Flat<ffi::Mark>, Error> {
+    let part = |mark: &Mark<'_>, at: ffi::Span| {
+        let ffi::Span { from_at, from_len, to_at, to_len, ends } = at;
+        ffi::Mark { from_at, from_len, to_at, to_len, value: mark.value.into(), ends }
+    };
+    Flat::of(marks, |mark| mark.span, part)
 }
 
 /// A timestamp cache, in a store of its own.
@@ -418,7 +412,7 @@ impl Cache {
     /// # Ok::<(), Error>(())
     /// ```
     pub fn add_all(&mut self, marks: &[Mark<'_>], now: Time) -> Result<Added, Error> {
-        let (keys, asked) = flat(marks);
+        let Flat { keys, parts } = flat(marks)?;
         let mut added = MaybeUninit::<ffi::Added>::uninit();
         done(unsafe {
             ffi::tsc_add_all(
@@ -426,8 +420,8 @@ impl Cache {
                 self.handle,
                 keys.as_ptr(),
                 keys.len(),
-                asked.as_ptr(),
-                asked.len(),
+                parts.as_ptr(),
+                parts.len(),
                 &now,
                 added.as_mut_ptr(),
             )
@@ -562,8 +556,11 @@ impl Shared {
                 &mut shared.handle,
             )
         })?;
-        let seats = (1..=u64::from(seats)).map(|i| shared.seat(i)).collect::<Result<_, _>>()?;
-        Ok((shared, seats))
+        let mut all = flat::room(seats as usize)?;
+        for i in 1..=u64::from(seats) {
+            all.push(shared.seat(i)?);
+        }
+        Ok((shared, all))
     }
 
     fn seat(&mut self, i: u64) -> Result<Seat, Error> {
@@ -632,7 +629,7 @@ impl Seat {
         now: Time,
         tries: u32,
     ) -> Result<(u64, Added), Error> {
-        let (keys, asked) = flat(marks);
+        let Flat { keys, parts } = flat(marks)?;
         let (mut place, mut added) = (0, MaybeUninit::<ffi::Added>::uninit());
         done(unsafe {
             ffi::tsc_seat_add_all(
@@ -640,8 +637,8 @@ impl Seat {
                 self.handle,
                 keys.as_ptr(),
                 keys.len(),
-                asked.as_ptr(),
-                asked.len(),
+                parts.as_ptr(),
+                parts.len(),
                 &now,
                 tries,
                 &mut place,
@@ -923,6 +920,7 @@ mod tests {
             (12, Error::Seats),
             (14, Error::Busy),
             (15, Error::Full),
+            (18, Error::NoTime),
             (19, Error::SummaryVersion),
             (20, Error::SummaryLength),
             (21, Error::SummaryChecksum),
@@ -964,13 +962,14 @@ mod tests {
         seat.add_all(&marks, time, 64).unwrap();
         for span in [key, marks[0].span] {
             assert_eq!((cache.get_max(&span), seat.get_max(&span).0), (value, value));
-            assert!(cache.may_write(&span, time, one) && seat.may_write(&span, time, one));
+            assert_eq!(cache.may_write(&span, time, one), Ok(true));
+            assert_eq!(seat.may_write(&span, time, one), Ok(true));
             for i in 0..16 {
                 let mut other = one;
                 other[i] ^= 1;
-                let later = Some(Time::new(20, 1));
-                assert!(!cache.may_write(&span, time, other), "{i}");
-                assert!(!seat.may_write(&span, time, other), "{i}");
+                let later = Ok(Time::new(20, 1));
+                assert_eq!(cache.may_write(&span, time, other), Ok(false), "{i}");
+                assert_eq!(seat.may_write(&span, time, other), Ok(false), "{i}");
                 assert_eq!(cache.earliest_write(&[span], time, other), later, "{i}");
                 assert_eq!(seat.earliest_write(&[span], time, other), later, "{i}");
             }

@@ -1,5 +1,5 @@
 //! Replays of recorded traces, and checks of logs, from bytes to bytes.
-use crate::ffi;
+use crate::{ffi, flat};
 use std::fmt;
 
 /// Why there is no log, or no verdict.
@@ -69,7 +69,10 @@ fn told(ask: impl FnMut(&mut [u8], &mut usize) -> u32) -> Result<Vec<u8>, TextEr
     match code {
         0 => Ok(text),
         11 => Err(TextError::NoMemory),
-        16 => Err(TextError::Refused(String::from_utf8_lossy(&text).into_owned())),
+        16 => Err(TextError::Refused(
+            String::from_utf8(text)
+                .unwrap_or_else(|why| String::from_utf8_lossy(why.as_bytes()).into_owned()),
+        )),
         other => Err(TextError::Other(other)),
     }
 }
@@ -82,8 +85,7 @@ pub(crate) fn with_room(
 ) -> Option<(u32, Vec<u8>)> {
     let mut room = 4096;
     loop {
-        let mut bytes = Vec::new();
-        bytes.try_reserve_exact(room).ok()?;
+        let mut bytes = flat::room(room).ok()?;
         bytes.resize(room, 0);
         let mut len = 0;
         let code = ask(&mut bytes, &mut len);
