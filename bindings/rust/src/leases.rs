@@ -30,6 +30,7 @@ impl Cache {
     /// assert!(!next.may_write(&Span::Point(b"b"), Time::new(20, 0), writer)?);
     /// # Ok::<(), Error>(())
     /// ```
+    #[must_use = "the next holder of the lease goes on from these bytes"]
     pub fn summary(&mut self, span: &Span<'_>, most: usize) -> Result<Vec<u8>, Error> {
         let (from, to, ends) = span.parts();
         // SAFETY: as of the other calls, and the room is a vector's own, of which no one else has a
@@ -74,6 +75,7 @@ impl Cache {
     /// assert_eq!(cache.apply(&summary, Time::new(30, 0)), Err(Error::SummaryChecksum));
     /// # Ok::<(), Error>(())
     /// ```
+    #[must_use = "where it is refused no write of the span may be answered"]
     pub fn apply(&mut self, summary: &[u8], now: Time) -> Result<Added, Error> {
         let mut added = MaybeUninit::<ffi::Added>::uninit();
         // SAFETY: as of the other calls

@@ -24,6 +24,8 @@ use std::fmt;
 use std::mem::MaybeUninit;
 use std::ptr::null_mut;
 
+#[cfg(doctest)]
+mod does_not_compile;
 mod ffi;
 mod flat;
 mod leases;
@@ -35,6 +37,11 @@ pub use texts::{check, replay, TextError};
 
 /// A time of a hybrid logical clock. The smaller wall time comes first, and of two equal ones the
 /// smaller count.
+///
+/// ```
+/// use tscache::Time;
+/// assert!(Time::new(19, 7) < Time::new(20, 0) && Time::new(20, 0) < Time::new(20, 1));
+/// ```
 // (it is `tsc_time`)
 #[repr(C)]
 #[derive(Clone, Copy, Debug, Default, PartialEq, Eq, PartialOrd, Ord, Hash)]
@@ -48,12 +55,22 @@ pub struct Time {
 impl Time {
     /// The time of these parts. Calls refuse it with [`Error::Time`] where one is too large.
     #[inline]
+    #[must_use = "a time alone changes nothing"]
     pub const fn new(wall: u64, logical: u32) -> Time {
         Time { wall, logical }
     }
 }
 
 /// A time with the transaction that owns it, if one does. Sixteen zero bytes name none.
+///
+/// ```
+/// use tscache::{Cache, Config, Error, Span, Time, Value};
+/// let mut cache = Cache::open(&Config::default())?;
+/// let (key, at) = (Span::Point(b"a"), Time::new(20, 0));
+/// cache.add(&key, Value { time: at, owner: Some([0; 16]) }, at)?;
+/// assert_eq!(cache.get_max(&key), Value { time: at, owner: None });
+/// # Ok::<(), Error>(())
+/// ```
 #[derive(Clone, Copy, Debug, PartialEq, Eq, Hash)]
 pub struct Value {
     /// When.
@@ -63,6 +80,18 @@ pub struct Value {
 }
 
 /// How a cache is set up.
+///
+/// A lease holder sets [`low_water`](Config::low_water) to the start of its lease, or later: it
+/// knows nothing of the reads before.
+///
+/// ```
+/// use tscache::{Cache, Config, Error, Span, Time};
+/// let start_of_lease = Time::new(1_000, 0);
+/// let mut cache = Cache::open(&Config { low_water: start_of_lease, ..Config::default() })?;
+/// let told = cache.earliest_write(&[Span::Point(b"a")], Time::new(900, 0), [0x22; 16])?;
+/// assert_eq!(told, Time::new(1_000, 1));
+/// # Ok::<(), Error>(())
+/// ```
 #[derive(Clone, Copy, Debug, PartialEq, Eq)]
 pub struct Config {
     /// How many bytes the first page may have, 64 at the least.
@@ -73,12 +102,15 @@ pub struct Config {
     pub min_pages: u32,
     /// And once all of it is older than so many nanoseconds, below 2^63.
     pub retention: u64,
-    /// Where the floor stands at first.
+    /// Where the floor stands at first: at or above each time at which a read was answered before
+    /// this cache was there.
     pub low_water: Time,
 }
 
-/// Pages of 128 KiB that grow to 32 MiB, at least two of them, and ten seconds.
 impl Default for Config {
+    /// Pages of 128 KiB that grow to 32 MiB, at least two of them, and ten seconds. The floor is at
+    /// 0, which only a cache may have before which no read was answered: a lease holder sets
+    /// [`low_water`](Config::low_water).
     fn default() -> Config {
         Config {
             page_first: 128 << 10,
@@ -91,6 +123,23 @@ impl Default for Config {
 }
 
 /// The keys that a read touched, or that a lookup asks of.
+///
+/// A range from a key to itself is that key where one of its ends is included, and else it has no
+/// key. One whose first key is the greater one is inverted.
+///
+/// ```
+/// use tscache::{Cache, Config, Error, Span, Time, Value};
+/// let mut cache = Cache::open(&Config::default())?;
+/// let (read, nothing) = (Time::new(20, 0), Time::new(0, 0));
+/// cache.add(&Span::until(b"b", b"d"), Value { time: read, owner: None }, read)?;
+/// let behind = |from| Span::Onward { from, exclude_from: true };
+/// assert_eq!(cache.get_max(&Span::Point(b"c")).time, read);
+/// assert_eq!(cache.get_max(&Span::Point(b"d")).time, nothing);
+/// assert_eq!(cache.get_max(&behind(b"b")).time, read);
+/// assert_eq!(cache.get_max(&behind(b"d")).time, nothing);
+/// assert_eq!(cache.get_max(&Span::until(b"c", b"c")).time, read);
+/// # Ok::<(), Error>(())
+/// ```
 #[derive(Clone, Copy, Debug, PartialEq, Eq)]
 pub enum Span<'a> {
     /// One key.
@@ -118,6 +167,7 @@ pub enum Span<'a> {
 impl<'a> Span<'a> {
     /// From one key to another that is excluded.
     #[inline]
+    #[must_use = "a span alone adds nothing and asks nothing"]
     pub const fn until(from: &'a [u8], to: &'a [u8]) -> Span<'a> {
         Span::Range { from, to, exclude_from: false, exclude_to: true }
     }
@@ -324,17 +374,7 @@ fn flat(marks: &[Mark<'_>]) -> Result<Flat<ffi::Mark>, Error> {
 
 /// A timestamp cache, in a store of its own.
 ///
-/// It may go to another thread, and is used by one at a time:
-///
-/// ```compile_fail
-/// fn shared<T: Sync>() {}
-/// shared::<tscache::Cache>();
-/// ```
-///
-/// ```
-/// fn moved<T: Send>() {}
-/// moved::<tscache::Cache>();
-/// ```
+/// It may go to another thread, and is used by one at a time. There is no copy of it.
 // Each call writes to its store, so those that threads use at once lie in different lines of the
 // processor's caches, and not beside each other.
 #[derive(Debug)]
@@ -359,6 +399,7 @@ impl Cache {
     /// use tscache::{Cache, Config, Error};
     /// assert_eq!(Cache::open(&Config { page_first: 63, ..Config::default() }).err(), Some(Error::PageSize));
     /// ```
+    #[must_use = "the cache forgets its reads where it is dropped"]
     pub fn open(config: &Config) -> Result<Cache, Error> {
         let mut cache = Cache { store: ffi::Store { at: null_mut::<c_void>() }, handle: 0 };
         let Config { page_first, page_max, min_pages, retention, low_water } = *config;
@@ -377,7 +418,17 @@ impl Cache {
     }
 
     /// Adds a span that was read, with the time and the owner of the read, at the moment `now`.
+    ///
+    /// ```
+    /// use tscache::{Cache, Config, Error, Span, Time, Value};
+    /// let mut cache = Cache::open(&Config::default())?;
+    /// let read = Value { time: Time::new(20, 0), owner: Some([0x11; 16]) };
+    /// let added = cache.add(&Span::until(b"a", b"c"), read, Time::new(20, 0))?;
+    /// assert!(added.kept && !added.rotated && added.evicted == 0);
+    /// # Ok::<(), Error>(())
+    /// ```
     #[inline]
+    #[must_use = "a read whose Add is refused may not be answered"]
     pub fn add(&mut self, span: &Span<'_>, value: Value, now: Time) -> Result<Added, Error> {
         let (from, to, ends) = span.parts();
         let mut added = MaybeUninit::<ffi::Added>::uninit();
@@ -411,6 +462,7 @@ impl Cache {
     /// assert_eq!(cache.get_max(&Span::Point(b"a")), value);
     /// # Ok::<(), Error>(())
     /// ```
+    #[must_use = "reads whose Add is refused may not be answered"]
     pub fn add_all(&mut self, marks: &[Mark<'_>], now: Time) -> Result<Added, Error> {
         let Flat { keys, parts } = flat(marks)?;
         let mut added = MaybeUninit::<ffi::Added>::uninit();
@@ -432,7 +484,21 @@ impl Cache {
     /// The latest time on a span, with its owner where all reads of that time are one
     /// transaction's, or the floor. A range whose first key is greater than the second is empty,
     /// and the floor answers. Keys may be of any length, and no memory is taken.
+    ///
+    /// ```
+    /// use tscache::{Cache, Config, Error, Span, Time, Value};
+    /// let mut cache = Cache::open(&Config { low_water: Time::new(5, 0), ..Config::default() })?;
+    /// let (one, two) = ([0x11; 16], [0x22; 16]);
+    /// let read = |owner| Value { time: Time::new(20, 0), owner };
+    /// cache.add(&Span::Point(b"a"), read(Some(one)), Time::new(20, 0))?;
+    /// assert_eq!(cache.get_max(&Span::Point(b"a")), read(Some(one)));
+    /// cache.add(&Span::Point(b"a"), read(Some(two)), Time::new(20, 0))?;
+    /// assert_eq!(cache.get_max(&Span::Point(b"a")), read(None));
+    /// assert_eq!(cache.get_max(&Span::Point(b"b")).time, Time::new(5, 0));
+    /// # Ok::<(), Error>(())
+    /// ```
     #[inline]
+    #[must_use = "a lookup changes nothing: what it answers is all of it"]
     pub fn get_max(&mut self, span: &Span<'_>) -> Value {
         let (from, to, ends) = span.parts();
         let mut found = MaybeUninit::<ffi::Value>::uninit();
@@ -453,7 +519,15 @@ impl Cache {
     }
 
     /// Where the floor stands.
+    ///
+    /// ```
+    /// use tscache::{Cache, Config, Error, Time};
+    /// let mut cache = Cache::open(&Config { low_water: Time::new(5, 0), ..Config::default() })?;
+    /// assert_eq!(cache.low_water(), Time::new(5, 0));
+    /// # Ok::<(), Error>(())
+    /// ```
     #[inline]
+    #[must_use = "a lookup changes nothing: what it answers is all of it"]
     pub fn low_water(&mut self) -> Time {
         let mut floor = MaybeUninit::uninit();
         // it is refused only where the handle names no cache
@@ -461,8 +535,19 @@ impl Cache {
         unsafe { floor.assume_init() }
     }
 
-    /// What can be counted.
+    /// What can be counted. `examples/figures.rs` writes it in the text form of Prometheus.
+    ///
+    /// ```
+    /// use tscache::{Cache, Config, Error, Span, Time, Value};
+    /// let mut cache = Cache::open(&Config::default())?;
+    /// let read = Value { time: Time::new(20, 0), owner: None };
+    /// cache.add(&Span::until(b"a", b"c"), read, Time::new(20, 0))?;
+    /// let figures = cache.figures();
+    /// assert_eq!((figures.pages, figures.nodes, figures.bytes), (1, 2, 66));
+    /// # Ok::<(), Error>(())
+    /// ```
     #[inline]
+    #[must_use = "counting changes nothing: what it answers is all of it"]
     pub fn figures(&mut self) -> Figures {
         let mut figures = MaybeUninit::uninit();
         // it is refused only where the handle names no cache
@@ -511,18 +596,7 @@ pub struct Shared {
 /// returns more Adds than the place of an Add counts that Add, whichever seat made it, and so does
 /// each later lookup of its seat.
 ///
-/// It may go to another thread, and is used by one at a time:
-///
-/// ```compile_fail
-/// fn shared<T: Sync>() {}
-/// shared::<tscache::Seat>();
-/// ```
-///
-/// ```
-/// fn moved<T: Send>() {}
-/// moved::<tscache::Seat>();
-/// moved::<tscache::Shared>();
-/// ```
+/// It may go to another thread, and is used by one at a time. There is no copy of it.
 // It lies apart as a `Cache` does.
 #[derive(Debug)]
 #[repr(align(128))]
@@ -540,6 +614,15 @@ unsafe impl Send for Seat {}
 impl Shared {
     /// A cache to which nothing was added, and its seats, 1 to 64 of them. There may be `limit` Adds:
     /// take `u64::MAX`, which is never reached, since a smaller limit is for tests.
+    ///
+    /// ```
+    /// use tscache::{Config, Error, Shared};
+    /// let (_shared, seats) = Shared::open(&Config::default(), 8, u64::MAX)?;
+    /// assert_eq!(seats.len(), 8);
+    /// assert_eq!(Shared::open(&Config::default(), 65, u64::MAX).err(), Some(Error::Seats));
+    /// # Ok::<(), Error>(())
+    /// ```
+    #[must_use = "the cache forgets its reads where all of its seats are dropped"]
     pub fn open(config: &Config, seats: u32, limit: u64) -> Result<(Shared, Vec<Seat>), Error> {
         let mut shared = Shared { store: ffi::Store { at: null_mut::<c_void>() }, handle: 0 };
         let Config { page_first, page_max, min_pages, retention, low_water } = *config;
@@ -573,6 +656,16 @@ impl Shared {
 
     /// How many Adds there were, once each seat was dropped. Where one wasn't, the cache is handed
     /// back.
+    ///
+    /// ```
+    /// use tscache::{Config, Error, Shared};
+    /// let (shared, seats) = Shared::open(&Config::default(), 2, u64::MAX)?;
+    /// let shared = shared.close().expect_err("two seats are out");
+    /// drop(seats);
+    /// assert_eq!(shared.close().expect("none is out"), 0);
+    /// # Ok::<(), Error>(())
+    /// ```
+    #[must_use = "where a seat is out the cache is handed back, and not closed"]
     pub fn close(mut self) -> Result<u64, Shared> {
         let mut length = 0;
         match unsafe { ffi::tsc_close_shared(&mut self.store, self.handle, &mut length) } {
@@ -593,7 +686,22 @@ impl Seat {
     /// Adds a span that was read, and returns the Add's place among all of the cache, counted from
     /// 0. It waits for nobody: if others are in the way at each of its tries, it is refused as
     /// [`Error::Busy`]. Take 64 tries; if it is refused, call `std::thread::yield_now` and try again.
+    ///
+    /// ```
+    /// use tscache::{Config, Error, Shared, Span, Time, Value};
+    /// let (_shared, mut seats) = Shared::open(&Config::default(), 2, u64::MAX)?;
+    /// let read = Value { time: Time::new(20, 0), owner: Some([0x11; 16]) };
+    /// let (place, added) = loop {
+    ///     match seats[0].add(&Span::Point(b"a"), read, Time::new(20, 0), 64) {
+    ///         Err(Error::Busy) => std::thread::yield_now(),
+    ///         told => break told?,
+    ///     }
+    /// };
+    /// assert!(place == 0 && added.kept);
+    /// # Ok::<(), Error>(())
+    /// ```
     #[inline]
+    #[must_use = "a read whose Add is refused may not be answered"]
     pub fn add(
         &mut self,
         span: &Span<'_>,
@@ -623,6 +731,20 @@ impl Seat {
     }
 
     /// Adds several marks as one Add, all of them or none, as [`add`](Seat::add) does.
+    ///
+    /// ```
+    /// use tscache::{Config, Error, Mark, Shared, Span, Time, Value};
+    /// let (shared, mut seats) = Shared::open(&Config::default(), 2, u64::MAX)?;
+    /// let value = Value { time: Time::new(20, 0), owner: Some([0x11; 16]) };
+    /// let spans = [Span::Point(b"a"), Span::until(b"c", b"e")];
+    /// let marks = spans.map(|span| Mark { span, value });
+    /// let (place, added) = seats[0].add_all(&marks, Time::new(20, 0), 64)?;
+    /// assert!(place == 0 && added.kept);
+    /// drop(seats);
+    /// assert_eq!(shared.close().expect("no seat is out"), 1);
+    /// # Ok::<(), Error>(())
+    /// ```
+    #[must_use = "reads whose Add is refused may not be answered"]
     pub fn add_all(
         &mut self,
         marks: &[Mark<'_>],
@@ -650,7 +772,18 @@ impl Seat {
 
     /// The latest time on a span, as [`Cache::get_max`] answers, and how many Adds the seat has
     /// seen then. It waits for nobody.
+    ///
+    /// ```
+    /// use tscache::{Config, Error, Shared, Span, Time, Value};
+    /// let (_shared, mut seats) = Shared::open(&Config::default(), 2, u64::MAX)?;
+    /// let read = Value { time: Time::new(20, 0), owner: Some([0x11; 16]) };
+    /// let (place, _) = seats[0].add(&Span::Point(b"a"), read, Time::new(20, 0), 64)?;
+    /// let (latest, seen) = seats[1].get_max(&Span::Point(b"a"));
+    /// assert!(latest == read && seen > place);
+    /// # Ok::<(), Error>(())
+    /// ```
     #[inline]
+    #[must_use = "a lookup changes nothing: what it answers is all of it"]
     pub fn get_max(&mut self, span: &Span<'_>) -> (Value, u64) {
         let (from, to, ends) = span.parts();
         let (mut seen, mut found) = (0, MaybeUninit::<ffi::Value>::uninit());
@@ -672,7 +805,22 @@ impl Seat {
     }
 
     /// Where the floor stands, and how many Adds the seat has seen then.
+    ///
+    /// A thread that continues the work of another asks so until its seat has seen the last Add of
+    /// that one.
+    ///
+    /// ```
+    /// use tscache::{Config, Error, Shared, Span, Time, Value};
+    /// let (_shared, mut seats) = Shared::open(&Config::default(), 2, u64::MAX)?;
+    /// let read = Value { time: Time::new(20, 0), owner: None };
+    /// let (place, _) = seats[0].add(&Span::Point(b"a"), read, Time::new(20, 0), 64)?;
+    /// while seats[1].low_water().1 <= place {
+    ///     std::thread::yield_now();
+    /// }
+    /// # Ok::<(), Error>(())
+    /// ```
     #[inline]
+    #[must_use = "a lookup changes nothing: what it answers is all of it"]
     pub fn low_water(&mut self) -> (Time, u64) {
         let (mut seen, mut floor) = (0, MaybeUninit::uninit());
         // it is refused only where the handle names no seat
@@ -683,7 +831,16 @@ impl Seat {
     }
 
     /// What can be counted, and how many Adds the seat has seen then.
+    ///
+    /// ```
+    /// use tscache::{Config, Error, Shared};
+    /// let (_shared, mut seats) = Shared::open(&Config::default(), 1, u64::MAX)?;
+    /// let (figures, seen) = seats[0].figures();
+    /// assert!(figures.pages == 1 && seen == 0);
+    /// # Ok::<(), Error>(())
+    /// ```
     #[inline]
+    #[must_use = "counting changes nothing: what it answers is all of it"]
     pub fn figures(&mut self) -> (Figures, u64) {
         let (mut seen, mut figures) = (0, MaybeUninit::uninit());
         // it is refused only where the handle names no seat

@@ -38,6 +38,7 @@ impl std::error::Error for TextError {}
 /// assert_eq!(why, tscache::TextError::Refused("trace refused: fault 1".into()));
 /// # Ok::<(), tscache::TextError>(())
 /// ```
+#[must_use = "the log is all that it makes"]
 pub fn replay(trace: &[u8]) -> Result<Vec<u8>, TextError> {
     // SAFETY: each pointer comes from a slice or a reference that lives through the call, and what
     // is written to is the vector's own, of which no one else has a reference, and a local
@@ -48,6 +49,15 @@ pub fn replay(trace: &[u8]) -> Result<Vec<u8>, TextError> {
 
 /// Checks a log against its trace, and gives the line of the verdict. A log has 16,777,216 bytes
 /// at the most, as a trace has.
+///
+/// ```
+/// let trace = br#"{"page_first":132,"page_max":132,"min_pages":2,"retention":10,"low_water":[5,0],
+///     "threads":[[{"op":"get","span":{"start":"61"}}]]}"#;
+/// assert_eq!(tscache::check(trace, b"0 0 get 0 5.0 none\n")?, b"right\n");
+/// assert_eq!(tscache::check(trace, b"0 0 get 0 4.0 none\n")?, b"wrong answer 1\n");
+/// # Ok::<(), tscache::TextError>(())
+/// ```
+#[must_use = "the verdict is all that it makes"]
 pub fn check(trace: &[u8], log: &[u8]) -> Result<Vec<u8>, TextError> {
     // SAFETY: as of `replay`
     told(|out, len| unsafe {
