@@ -94,6 +94,18 @@ extern "C" {
 /* The version of the library that is linked, which should be TSC_VERSION. */
 uint32_t tsc_version(void);
 
+/* How the library that is linked was built. */
+typedef struct {
+    const char *version; /* as "0.1.0" */
+    const char *commit;  /* the full hash of its sources' commit, or "unknown" */
+    const char *kit;     /* the kit that compiled it, and the logic that proved it */
+    bool proved;         /* whether it was proved as it was built */
+} tsc_build;
+
+/* What a program writes into its log, so that one knows later what it ran on. The texts stand in
+ * the program for good, and nobody frees them. */
+const tsc_build *tsc_built(void);
+
 /* What a call answers: TSC_OK, or why it was refused. A call that is refused adds nothing to a
  * cache, and writes nothing but to the store (and with TSC_REFUSED and TSC_SHORT what is said
  * there). */

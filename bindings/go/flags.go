@@ -2,5 +2,5 @@
 
 package tscache
 
-// #cgo LDFLAGS: -ltscache
+// #cgo LDFLAGS: -l:libtscache.a
 import "C"
