@@ -120,4 +120,5 @@ dropped! {
     what_replay_tells "replay(&[])"
     what_check_tells "check(&[], &[])"
     what_close_tells "shared.close()"
+    what_is_linked "built()"
 }

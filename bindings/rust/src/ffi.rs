@@ -1,7 +1,7 @@
 //! `tscache.h`, word for word. `Time` and `Figures` of this crate are those of C, and stand for
 //! them.
 use crate::{Figures, Time};
-use std::ffi::c_void;
+use std::ffi::{c_char, c_void};
 
 pub const EXCLUDE_FROM: u32 = 1;
 pub const EXCLUDE_TO: u32 = 2;
@@ -49,7 +49,16 @@ pub struct Span {
     pub ends: u32,
 }
 
+#[repr(C)]
+pub struct Build {
+    pub version: *const c_char,
+    pub commit: *const c_char,
+    pub kit: *const c_char,
+    pub proved: bool,
+}
+
 extern "C" {
+    pub fn tsc_built() -> *const Build;
     pub fn tsc_open(
         store: *mut Store,
         page_first: u32,

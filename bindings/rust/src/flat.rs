@@ -11,7 +11,7 @@ pub(crate) struct Flat<P> {
 impl<P> Flat<P> {
     /// Lays the keys of some items behind one another. It asks for memory once for all keys, and
     /// once for all parts.
-    pub fn of<'a, T>(
+    pub(crate) fn of<'a, T>(
         items: &[T],
         span: impl Fn(&T) -> Span<'a>,
         part: impl Fn(&T, ffi::Span) -> P,

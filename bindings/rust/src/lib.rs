@@ -1,22 +1,4 @@
-//! The timestamp cache: for each span of keys the latest time at which it was read, and by which
-//! transaction.
-//!
-//! All that is here calls `libtscache.a`, whose functions are proved to do what they say; see
-//! `tscache.h`. `TSCACHE_DIR` has to name the folder where that lies. `scripts/build-c-library OUT`
-//! puts it into OUT: with proofs, in some 25 minutes and with some 6 GB of disk from nothing, or
-//! with `--unproved` in a minute, to try it. Of an installed release the folder is `PREFIX/lib`.
-//! This crate stands on no other, and nothing of it is proved itself.
-//!
-//! ```
-//! use tscache::{Cache, Config, Span, Time, Value};
-//!
-//! let mut cache = Cache::open(&Config { low_water: Time::new(5, 0), ..Config::default() })?;
-//! let read = Value { time: Time::new(20, 0), owner: Some([0x11; 16]) };
-//! cache.add(&Span::until(b"a", b"c"), read, Time::new(20, 0))?;
-//! assert_eq!(cache.get_max(&Span::Point(b"b")), read);
-//! assert_eq!(cache.get_max(&Span::Point(b"c")).time, Time::new(5, 0));
-//! # Ok::<(), tscache::Error>(())
-//! ```
+#![doc = include_str!("../README.md")]
 #![warn(missing_docs)]
 
 use std::ffi::c_void;
@@ -24,6 +6,7 @@ use std::fmt;
 use std::mem::MaybeUninit;
 use std::ptr::null_mut;
 
+mod built;
 #[cfg(doctest)]
 mod does_not_compile;
 mod ffi;
@@ -32,6 +15,7 @@ mod leases;
 mod texts;
 mod writes;
 
+pub use built::{built, Built};
 use flat::Flat;
 pub use texts::{check, replay, TextError};
 
