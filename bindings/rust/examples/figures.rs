@@ -8,11 +8,16 @@ use tscache::{Config, Error, Figures, Seat, Shared, Span, Time, Value};
 /// What is counted: its name, its type, what it says, and where it stands.
 type Metric = (&'static str, &'static str, &'static str, fn(&Figures) -> u64);
 
-const METRICS: [Metric; 4] = [
+const METRICS: [Metric; 9] = [
     ("pages", "gauge", "Pages of the cache.", |of| of.pages),
     ("rotations_total", "counter", "How often the pages rotated.", |of| of.rotations),
     ("nodes", "gauge", "End keys on the pages.", |of| of.nodes),
     ("bytes", "gauge", "What the end keys cost.", |of| of.bytes),
+    ("memory_bytes", "gauge", "Bytes of memory that hold the pages.", |of| of.memory),
+    ("adds_total", "counter", "Adds that were accepted.", |of| of.adds),
+    ("refusals_total", "counter", "Adds that were refused.", |of| of.refusals),
+    ("lookups_total", "counter", "Lookups and questions for writes.", |of| of.lookups),
+    ("evicted_pages_total", "counter", "Pages that Adds dropped.", |of| of.evicted),
 ];
 
 /// The text of these seats.

@@ -108,6 +108,7 @@ dropped! {
     the_time_of_a_write "cache.earliest_write(&[span], at, by)"
     a_summary "cache.summary(&span, 9)"
     what_apply_tells "cache.apply(&[], at)"
+    a_summary_at_a_seat "seat.summary(&span, 9)"
     a_shared_cache "Shared::open(config, 2, 9)"
     an_add_of_a_seat "seat.add(&span, value, at, 64)"
     adds_of_a_seat "seat.add_all(&marks, at, 64)"

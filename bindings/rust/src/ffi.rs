@@ -227,6 +227,20 @@ extern "C" {
         seen: *mut u64,
         out: *mut Figures,
     ) -> u32;
+    pub fn tsc_seat_summary(
+        store: *mut Store,
+        seat: u64,
+        from: *const u8,
+        from_len: usize,
+        to: *const u8,
+        to_len: usize,
+        ends: u32,
+        most: usize,
+        seen: *mut u64,
+        out: *mut u8,
+        room: usize,
+        len: *mut usize,
+    ) -> u32;
     pub fn tsc_close_shared(store: *mut Store, handle: u64, length: *mut u64) -> u32;
     pub fn tsc_replay(
         trace: *const u8,

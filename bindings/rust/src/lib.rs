@@ -193,7 +193,11 @@ pub struct Added {
     pub evicted: u64,
 }
 
-/// What can be counted of a cache. Each count stays at 2^64 - 1 once it is there.
+/// What can be counted of a cache, and of what was asked of it. Each count stays at 2^64 - 1 once
+/// it is there.
+///
+/// The last four are of a cache that one thread uses, or of one seat alone. Seats share none of
+/// them: a program adds up what its seats tell.
 // (it is `tsc_figures`)
 #[repr(C)]
 #[derive(Clone, Copy, Debug, PartialEq, Eq)]
@@ -206,6 +210,18 @@ pub struct Figures {
     pub nodes: u64,
     /// What these cost: for each as many bytes as it has, and 32 more.
     pub bytes: u64,
+    /// The bytes of all blocks of memory that hold these pages, as `malloc` was asked for them. At a
+    /// seat these are of the copy that it reads.
+    pub memory: u64,
+    /// Adds that were accepted. Several marks at once are one Add, and so is a summary that is
+    /// applied.
+    pub adds: u64,
+    /// Adds that the library refused, for whatever reason.
+    pub refusals: u64,
+    /// Lookups and questions for writes that were answered: one for each call.
+    pub lookups: u64,
+    /// Pages that these Adds dropped.
+    pub evicted: u64,
 }
 
 /// Why a call was refused. A call that is refused adds nothing.
@@ -215,7 +231,7 @@ pub enum Error {
     Time,
     /// A key of a span to be added has more than 4096 bytes.
     KeyTooLong,
-    /// Of a span to be added the first key is greater than the second.
+    /// Of a span that is to be added, written or summarized the first key is greater than the second.
     Inverted,
     /// A span to be added costs more than the largest page may have.
     TooLarge,
@@ -243,6 +259,8 @@ pub enum Error {
     SummaryChecksum,
     /// The digest is right, and what it is of is no summary: its sender made it wrong.
     SummaryForm,
+    /// An Add was to have no tries, by which none is ever made.
+    Tries,
     /// A code of the library that no call of this crate brings about.
     Other(u32),
 }
@@ -266,6 +284,7 @@ impl fmt::Display for Error {
             Error::SummaryLength => "the summary has another length",
             Error::SummaryChecksum => "the summary was changed",
             Error::SummaryForm => "the bytes are no summary",
+            Error::Tries => "tries are 1 or more",
             Error::Other(code) => return write!(f, "code {code} of the library"),
         })
     }
@@ -317,6 +336,7 @@ fn fault(code: u32) -> Error {
         20 => Error::SummaryLength,
         21 => Error::SummaryChecksum,
         22 => Error::SummaryForm,
+        23 => Error::Tries,
         other => Error::Other(other),
     }
 }
@@ -526,8 +546,12 @@ impl Cache {
     /// let mut cache = Cache::open(&Config::default())?;
     /// let read = Value { time: Time::new(20, 0), owner: None };
     /// cache.add(&Span::until(b"a", b"c"), read, Time::new(20, 0))?;
+    /// let refused = cache.add(&Span::until(b"c", b"a"), read, Time::new(20, 0));
+    /// assert_eq!(refused, Err(Error::Inverted));
     /// let figures = cache.figures();
     /// assert_eq!((figures.pages, figures.nodes, figures.bytes), (1, 2, 66));
+    /// assert!(figures.memory > figures.bytes);
+    /// assert_eq!((figures.adds, figures.refusals, figures.lookups), (1, 1, 0));
     /// # Ok::<(), Error>(())
     /// ```
     #[inline]
@@ -670,6 +694,7 @@ impl Seat {
     /// Adds a span that was read, and returns the Add's place among all of the cache, counted from
     /// 0. It waits for nobody: if others are in the way at each of its tries, it is refused as
     /// [`Error::Busy`]. Take 64 tries; if it is refused, call `std::thread::yield_now` and try again.
+    /// Without any try it is refused as [`Error::Tries`].
     ///
     /// ```
     /// use tscache::{Config, Error, Shared, Span, Time, Value};
@@ -863,6 +888,16 @@ mod tests {
         .unwrap()
     }
 
+    /// The pages, how often they rotated, the nodes and the bytes.
+    fn pages(of: Figures) -> (u64, u64, u64, u64) {
+        (of.pages, of.rotations, of.nodes, of.bytes)
+    }
+
+    /// The Adds, the refusals, the lookups and the pages that were evicted.
+    fn calls(of: Figures) -> (u64, u64, u64, u64) {
+        (of.adds, of.refusals, of.lookups, of.evicted)
+    }
+
     #[test]
     fn the_default_is_what_it_says() {
         let said = Config {
@@ -902,7 +937,7 @@ mod tests {
             cache.add(&Span::Point(b"e"), at(20, ONE), Time::new(20, 0)),
             Ok(Added { kept: true, rotated: true, evicted: 0 })
         );
-        assert_eq!(cache.figures(), Figures { pages: 2, rotations: 1, nodes: 5, bytes: 165 });
+        assert_eq!(pages(cache.figures()), (2, 1, 5, 165));
         for key in [b"f", b"g", b"h"] {
             cache.add(&Span::Point(key), at(41, ONE), Time::new(40, 0)).unwrap();
         }
@@ -910,9 +945,65 @@ mod tests {
             cache.add(&Span::Point(b"i"), at(41, ONE), Time::new(40, 0)),
             Ok(Added { kept: true, rotated: true, evicted: 1 })
         );
-        assert_eq!(cache.figures(), Figures { pages: 2, rotations: 2, nodes: 5, bytes: 165 });
+        assert_eq!(pages(cache.figures()), (2, 2, 5, 165));
         assert_eq!(cache.low_water(), Time::new(20, 0));
         assert_eq!(cache.get_max(&Span::Point(b"a")), at(20, None));
+    }
+
+    /// A cache counts what was asked of it, and what its pages take. Another cache counts its own.
+    #[test]
+    fn a_cache_counts_its_calls() {
+        let (mut cache, mut other) = (small(), small());
+        let (key, now) = (Span::Point(b"a"), Time::new(20, 0));
+        let marks = [Mark { span: key, value: at(20, ONE) }; 3];
+        assert_eq!(calls(cache.figures()), (0, 0, 0, 0));
+        cache.add(&key, at(20, ONE), now).unwrap();
+        cache.add_all(&marks, now).unwrap();
+        let summary = cache.summary(&key, 9).unwrap();
+        cache.apply(&summary, now).unwrap();
+        assert_eq!(calls(cache.figures()), (3, 0, 0, 0));
+        cache.add(&Span::until(b"c", b"a"), at(20, ONE), now).unwrap_err();
+        cache.add_all(&marks, Time::new(1 << 63, 0)).unwrap_err();
+        cache.apply(&summary[1..], now).unwrap_err();
+        assert_eq!(calls(cache.figures()), (3, 3, 0, 0));
+        for asked in 1..4 {
+            assert_eq!(cache.get_max(&key), at(20, ONE));
+            assert_eq!(cache.may_write(&key, now, [9; 16]), Ok(false));
+            assert_eq!(cache.earliest_write(&[key], now, [0x11; 16]), Ok(now));
+            assert_eq!(calls(cache.figures()), (3, 3, 3 * asked, 0));
+        }
+        let little = cache.figures().memory;
+        for key in 0..40u8 {
+            let now = Time::new(100 * u64::from(key), 0);
+            cache.add(&Span::Point(&[key; 40]), at(now.wall, ONE), now).unwrap();
+        }
+        let figures = cache.figures();
+        assert_eq!((figures.adds, figures.refusals, figures.lookups), (43, 3, 9));
+        assert!(figures.evicted > 0 && figures.evicted == figures.rotations + 1 - figures.pages);
+        assert!(little > 0 && figures.memory > little && figures.memory > figures.bytes);
+        assert_eq!(calls(other.figures()), (0, 0, 0, 0));
+    }
+
+    /// A seat counts what was asked of it, and none of what was asked of others.
+    #[test]
+    fn a_seat_counts_its_calls() {
+        let (_shared, mut seats) = Shared::open(&Config::default(), 3, u64::MAX).unwrap();
+        let (key, now) = (Span::Point(b"a"), Time::new(20, 0));
+        let marks = [Mark { span: key, value: at(20, ONE) }; 3];
+        let told = |seats: &mut [Seat]| -> Vec<_> {
+            seats.iter_mut().map(|seat| calls(seat.figures().0)).collect()
+        };
+        seats[0].add(&key, at(20, ONE), now, 64).unwrap();
+        seats[1].add_all(&marks, now, 64).unwrap();
+        seats[1].add(&key, at(20, ONE), now, 64).unwrap();
+        assert_eq!(told(&mut seats), [(1, 0, 0, 0), (2, 0, 0, 0), (0, 0, 0, 0)]);
+        seats[0].add(&key, at(20, ONE), now, 0).unwrap_err();
+        seats[0].add_all(&marks, Time::new(1 << 63, 0), 64).unwrap_err();
+        assert_eq!(seats[2].get_max(&key), (at(20, ONE), 3));
+        assert_eq!(seats[2].may_write_all(&[key, key], now, [9; 16]), Ok(false));
+        assert_eq!(seats[2].earliest_write(&[key], now, [0x11; 16]), Ok(now));
+        assert_eq!(told(&mut seats), [(1, 2, 0, 0), (2, 0, 0, 0), (0, 0, 3, 0)]);
+        assert!(seats.iter_mut().all(|seat| seat.figures().0.memory > 0));
     }
 
     #[test]
@@ -936,7 +1027,7 @@ mod tests {
             Cache::open(&Config { retention: 1 << 63, ..Config::default() }).err(),
             Some(Error::Retention)
         );
-        assert_eq!(cache.figures(), Figures { pages: 1, rotations: 0, nodes: 0, bytes: 0 });
+        assert_eq!(pages(cache.figures()), (1, 0, 0, 0));
     }
 
     #[test]
@@ -1066,6 +1157,7 @@ mod tests {
             (20, Error::SummaryLength),
             (21, Error::SummaryChecksum),
             (22, Error::SummaryForm),
+            (23, Error::Tries),
             (1, Error::Other(1)),
             (13, Error::Other(13)),
             (99, Error::Other(99)),
@@ -1157,8 +1249,8 @@ mod tests {
         assert_eq!(Shared::open(&Config::default(), u32::MAX, 9).err(), Some(Error::Seats));
         let (shared, mut seats) = Shared::open(&Config::default(), 2, 1).unwrap();
         let now = Time::new(20, 0);
-        assert_eq!(seats[0].add(&Span::Point(b"a"), at(20, ONE), now, 0), Err(Error::Busy));
-        assert_eq!(seats[0].add_all(&[], now, 0), Err(Error::Busy));
+        assert_eq!(seats[0].add(&Span::Point(b"a"), at(20, ONE), now, 0), Err(Error::Tries));
+        assert_eq!(seats[0].add_all(&[], now, 0), Err(Error::Tries));
         let marks = [
             Mark { span: Span::Point(b"a"), value: at(20, ONE) },
             Mark { span: Span::Point(b"b"), value: at(21, TWO) },
@@ -1168,10 +1260,8 @@ mod tests {
             Ok((0, Added { kept: true, rotated: false, evicted: 0 }))
         );
         assert_eq!(seats[1].get_max(&Span::until(b"a", &[b'z'; 5000])), (at(21, TWO), 1));
-        assert_eq!(
-            seats[1].figures(),
-            (Figures { pages: 1, rotations: 0, nodes: 2, bytes: 66 }, 1)
-        );
+        let (figures, seen) = seats[1].figures();
+        assert_eq!((pages(figures), seen), ((1, 0, 2, 66), 1));
         assert_eq!(seats[1].add(&Span::Point(b"a"), at(20, ONE), now, 1), Err(Error::Full));
         drop(seats);
         assert_eq!(shared.close().unwrap(), 1);

@@ -115,8 +115,9 @@ impl Cache {
     /// costs a lookup for each.
     ///
     /// It is refused with [`Error::NoTime`] where a read of somebody else stands at the last time,
-    /// with [`Error::Time`] where `at` is out of range, and with [`Error::NoMemory`] where there is
-    /// none for the keys of a range, or of several spans.
+    /// with [`Error::Time`] where `at` is out of range, with [`Error::Inverted`] where a span is
+    /// inverted, and with [`Error::NoMemory`] where there is none for the keys of a range, or of
+    /// several spans.
     ///
     /// ```
     /// use tscache::{Cache, Config, Error, Span, Time, Value};
@@ -341,6 +342,28 @@ mod tests {
             assert_eq!(cache.may_write(&span, at, TWO), Ok(!is_in), "{span:?}");
             assert_eq!(seats[0].may_write(&span, at, TWO), Ok(!is_in), "{span:?}");
         }
+    }
+
+    /// A span that has no keys only because its ends were exchanged lets no write pass.
+    #[test]
+    fn inverted_spans() {
+        let (_shared, mut seats) = Shared::open(&Config::default(), 1, 9).unwrap();
+        let mut cache = Cache::open(&Config::default()).unwrap();
+        let (at, inverted) = (Time::new(20, 0), Span::until(b"b", b"a"));
+        let to_no_bytes = Span::until(b"b", b"");
+        for spans in [
+            &[inverted][..],
+            &[to_no_bytes],
+            &[Span::Point(b"a"), inverted],
+            &[to_no_bytes, Span::Point(b"a")],
+        ] {
+            assert_eq!(cache.may_write_all(spans, at, ONE), Err(Error::Inverted), "{spans:?}");
+            assert_eq!(seats[0].may_write_all(spans, at, ONE), Err(Error::Inverted), "{spans:?}");
+            assert_eq!(cache.earliest_write(spans, at, ONE), Err(Error::Inverted), "{spans:?}");
+            assert_eq!(seats[0].earliest_write(spans, at, ONE), Err(Error::Inverted), "{spans:?}");
+        }
+        assert_eq!(cache.may_write(&inverted, at, ONE), Err(Error::Inverted));
+        assert_eq!(seats[0].may_write(&inverted, at, ONE), Err(Error::Inverted));
     }
 
     #[test]

@@ -121,6 +121,9 @@ fn refused_memory_is_told() {
     let bytes = cache.summary(&spans[0], 9).unwrap();
     assert_eq!(requests(no_memory, bytes, || cache.summary(&spans[0], 9)), 1);
 
+    let bytes = seat.summary(&spans[0], 9).unwrap();
+    assert_eq!(requests(no_memory, bytes, || seat.summary(&spans[0], 9)), 1);
+
     let trace =
         br#"{"page_first":132,"page_max":132,"min_pages":2,"retention":10,"low_water":[5,0],
         "threads":[[{"op":"get","span":{"start":"61"}}]]}"#;

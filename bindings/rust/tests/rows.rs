@@ -144,6 +144,7 @@ fn told_error(why: Error) -> &'static str {
         Error::SummaryLength => "summary_length",
         Error::SummaryChecksum => "summary_checksum",
         Error::SummaryForm => "summary_form",
+        Error::Tries => "tries",
         other => panic!("{other}"),
     }
 }
@@ -244,7 +245,7 @@ impl Table {
             }
             ["low"] => told_time(self.ask(Cache::low_water, Seat::low_water)),
             ["figures"] => {
-                let Figures { pages, rotations, nodes, bytes } =
+                let Figures { pages, rotations, nodes, bytes, .. } =
                     self.ask(Cache::figures, Seat::figures);
                 format!("{pages} {rotations} {nodes} {bytes}")
             }
