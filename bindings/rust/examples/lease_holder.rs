@@ -95,7 +95,7 @@ impl Held {
 
     /// Writes the key at the earliest time from the wanted one on that is clear of what the cache
     /// answers. Where there is none, nothing is written.
-    fn write(&mut self, me: &mut Seat, wanted: Time, by: Id, value: u64) -> Option<Time> {
+    fn write(&mut self, me: &mut Seat, wanted: Time, by: Id, value: u64) -> Result<Time, Error> {
         self.take_over(me);
         let at = me.earliest_write(&[Span::Point(self.key.as_bytes())], wanted, by)?;
         assert!(
@@ -103,7 +103,7 @@ impl Held {
             "a write would change what was read"
         );
         self.versions.push(Version { at, value });
-        Some(at)
+        Ok(at)
     }
 
     /// The seat sees all reads of the key that were answered, which other seats have added. Each
@@ -171,9 +171,7 @@ impl Worker {
         let (name, _, (key, wall, value)) = self.plan;
         let wanted = at(wall);
         let mut held = lease.hold(key);
-        let time = held
-            .write(&mut self.me, wanted, id_of(name), value)
-            .expect("no read is at the last time");
+        let time = held.write(&mut self.me, wanted, id_of(name), value)?;
         let from = shown(wanted);
         self.told.push(if time == wanted {
             format!("{name} wrote \"{key}\" at {from}, as it wanted")

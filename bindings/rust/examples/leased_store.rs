@@ -84,23 +84,28 @@ impl Holder {
 
     /// Writes a key at the transaction's time, or at the first time after it that no read forbids,
     /// and above the newest version, and gives that time.
-    fn put(&mut self, versions: &mut Versions, by: Transaction, key: &[u8], value: &[u8]) -> Time {
-        let mut time = self.clear(key, by);
+    fn put(
+        &mut self,
+        versions: &mut Versions,
+        by: Transaction,
+        key: &[u8],
+        value: &[u8],
+    ) -> Result<Time, Error> {
+        let mut time = self.clear(key, by)?;
         let all = versions.entry(key.to_vec()).or_default();
         if let Some((&newest, _)) = all.iter().next_back() {
-            time = time.max(newest.next().expect("no version is at the last time"));
+            time = time.max(newest.next().ok_or(Error::NoTime)?);
         }
         all.insert(time, value.to_vec());
-        time
+        Ok(time)
     }
 
     /// The first time, not before the transaction's, at which no read forbids a write.
-    fn clear(&mut self, key: &[u8], by: Transaction) -> Time {
+    fn clear(&mut self, key: &[u8], by: Transaction) -> Result<Time, Error> {
         if !self.asks {
-            return by.time;
+            return Ok(by.time);
         }
-        let told = self.reads.earliest_write(&[Span::Point(key)], by.time, by.id);
-        told.expect("no read is at the last time")
+        self.reads.earliest_write(&[Span::Point(key)], by.time, by.id)
     }
 }
 
@@ -116,7 +121,7 @@ fn show() -> Result<(), Error> {
     println!("a transaction counts the keys before n as of 20: {there}");
 
     let early = Transaction { id: writer, time: Time::new(15, 0) };
-    let apple = holder.put(&mut versions, early, b"apple", b"red");
+    let apple = holder.put(&mut versions, early, b"apple", b"red")?;
     println!(
         "another writes apple at 15, and moves up to {}.{}: 20 was read there",
         apple.wall, apple.logical
@@ -124,11 +129,11 @@ fn show() -> Result<(), Error> {
     assert_eq!(apple, Time::new(20, 1));
     assert_eq!(holder.count(&versions, scan, b"a", b"n", now)?, there);
 
-    let plum = holder.put(&mut versions, early, b"plum", b"blue");
+    let plum = holder.put(&mut versions, early, b"plum", b"blue")?;
     println!("it writes plum at {}: nobody read that", plum.wall);
     assert_eq!(plum, Time::new(15, 0));
 
-    let own = holder.put(&mut versions, scan, b"fig", b"green");
+    let own = holder.put(&mut versions, scan, b"fig", b"green")?;
     println!("the one that counted writes fig at {}: its own read forbids it nothing", own.wall);
     assert_eq!(own, Time::new(20, 0));
 
@@ -138,7 +143,7 @@ fn show() -> Result<(), Error> {
         Transaction { id: writer, time: Time::new(25, 0) },
         b"zucchini",
         b"long",
-    );
+    )?;
     let Time { wall, logical } = late;
     println!("after the lease went on at 40, a write at 25 moves up to {wall}.{logical}:");
     println!("who read there before is not known");
@@ -188,8 +193,8 @@ fn turn(
         return Ok(Ok((by.time, key, holder.get(versions, by, &key, now)?)));
     }
     let by = Transaction { id, time: Time::new(now.wall.saturating_sub(WRITERS_LAG), 0) };
-    let is_pushed = holder.clear(&key, by) > by.time;
-    holder.put(versions, by, &key, &turn.to_le_bytes());
+    let is_pushed = holder.clear(&key, by)? > by.time;
+    holder.put(versions, by, &key, &turn.to_le_bytes())?;
     Ok(Err(is_pushed))
 }
 

@@ -1,16 +1,14 @@
 //! `tscache.h`, word for word. `Time` and `Figures` of this crate are those of C, and stand for
 //! them.
 use crate::{Figures, Time};
-use std::ffi::c_void;
+use std::ffi::{c_char, c_void};
 
 pub const EXCLUDE_FROM: u32 = 1;
 pub const EXCLUDE_TO: u32 = 2;
 pub const ONWARD: u32 = 4;
 pub const POINT: u32 = 8;
 
-pub const TIME: u32 = 2;
 pub const SHORT: u32 = 17;
-pub const NO_TIME: u32 = 18;
 
 #[repr(C)]
 #[derive(Debug)]
@@ -51,7 +49,16 @@ pub struct Span {
     pub ends: u32,
 }
 
+#[repr(C)]
+pub struct Build {
+    pub version: *const c_char,
+    pub commit: *const c_char,
+    pub kit: *const c_char,
+    pub proved: bool,
+}
+
 extern "C" {
+    pub fn tsc_built() -> *const Build;
     pub fn tsc_open(
         store: *mut Store,
         page_first: u32,
@@ -219,6 +226,20 @@ extern "C" {
         seat: u64,
         seen: *mut u64,
         out: *mut Figures,
+    ) -> u32;
+    pub fn tsc_seat_summary(
+        store: *mut Store,
+        seat: u64,
+        from: *const u8,
+        from_len: usize,
+        to: *const u8,
+        to_len: usize,
+        ends: u32,
+        most: usize,
+        seen: *mut u64,
+        out: *mut u8,
+        room: usize,
+        len: *mut usize,
     ) -> u32;
     pub fn tsc_close_shared(store: *mut Store, handle: u64, length: *mut u64) -> u32;
     pub fn tsc_replay(

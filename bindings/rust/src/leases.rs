@@ -1,7 +1,7 @@
 //! What was read of a span, as bytes for the next holder of its lease: the same calls as those of
 //! the crate `timestamp_cache`.
 use crate::texts::with_room;
-use crate::{done, ffi, Added, Cache, Error, Span, Time};
+use crate::{done, ffi, Added, Cache, Error, Seat, Span, Time};
 use std::mem::MaybeUninit;
 
 impl Cache {
@@ -14,7 +14,7 @@ impl Cache {
     /// never less far. With `most` of 0 it is such a floor alone.
     ///
     /// The span is refused as one that is to be added, and with [`Error::NoMemory`] where memory
-    /// for the bytes was. A shared cache has no summary: its lease goes on by a floor.
+    /// for the bytes was. A shared cache is asked [at a seat](Seat::summary).
     ///
     /// ```
     /// use tscache::{Cache, Config, Error, Span, Time, Value};
@@ -27,9 +27,10 @@ impl Cache {
     /// let mut next = Cache::open(&Config::default())?;
     /// next.apply(&summary, Time::new(30, 0))?;
     /// assert_eq!(next.get_max(&Span::Point(b"b")), read);
-    /// assert!(!next.may_write(&Span::Point(b"b"), Time::new(20, 0), writer));
+    /// assert!(!next.may_write(&Span::Point(b"b"), Time::new(20, 0), writer)?);
     /// # Ok::<(), Error>(())
     /// ```
+    #[must_use = "the next holder of the lease goes on from these bytes"]
     pub fn summary(&mut self, span: &Span<'_>, most: usize) -> Result<Vec<u8>, Error> {
         let (from, to, ends) = span.parts();
         // SAFETY: as of the other calls, and the room is a vector's own, of which no one else has a
@@ -74,6 +75,7 @@ impl Cache {
     /// assert_eq!(cache.apply(&summary, Time::new(30, 0)), Err(Error::SummaryChecksum));
     /// # Ok::<(), Error>(())
     /// ```
+    #[must_use = "where it is refused no write of the span may be answered"]
     pub fn apply(&mut self, summary: &[u8], now: Time) -> Result<Added, Error> {
         let mut added = MaybeUninit::<ffi::Added>::uninit();
         // SAFETY: as of the other calls
@@ -91,10 +93,62 @@ impl Cache {
     }
 }
 
+impl Seat {
+    /// What was read of a span of the shared cache, as bytes for the next holder of its lease, and
+    /// how many Adds the seat has seen then: what [`Cache::summary`] tells after these. The cache is
+    /// not closed by it.
+    ///
+    /// The caller has all threads stop answering reads of the span. Then it asks until the seat has
+    /// seen the last Add of each of them; in practice it asks once. The next holder
+    /// [applies](Cache::apply) the bytes.
+    ///
+    /// ```
+    /// use tscache::{Cache, Config, Error, Shared, Span, Time, Value};
+    /// let (_shared, mut seats) = Shared::open(&Config::default(), 2, u64::MAX)?;
+    /// let read = Value { time: Time::new(20, 0), owner: Some([0x11; 16]) };
+    /// let (last, _) = seats[1].add(&Span::Point(b"b"), read, Time::new(20, 0), 64)?;
+    /// let summary = loop {
+    ///     let (bytes, seen) = seats[0].summary(&Span::until(b"a", b"z"), usize::MAX)?;
+    ///     if seen > last {
+    ///         break bytes;
+    ///     }
+    /// };
+    ///
+    /// let mut next = Cache::open(&Config::default())?;
+    /// next.apply(&summary, Time::new(30, 0))?;
+    /// assert_eq!(next.get_max(&Span::Point(b"b")), read);
+    /// # Ok::<(), Error>(())
+    /// ```
+    #[must_use = "the next holder of the lease goes on from these bytes"]
+    pub fn summary(&mut self, span: &Span<'_>, most: usize) -> Result<(Vec<u8>, u64), Error> {
+        let (from, to, ends) = span.parts();
+        let mut seen = 0;
+        // SAFETY: as of `Cache::summary`
+        let (code, bytes) = with_room(|out, len| unsafe {
+            ffi::tsc_seat_summary(
+                &mut self.store,
+                self.handle,
+                from.as_ptr(),
+                from.len(),
+                to.as_ptr(),
+                to.len(),
+                ends,
+                most,
+                &mut seen,
+                out.as_mut_ptr(),
+                out.len(),
+                len,
+            )
+        })
+        .ok_or(Error::NoMemory)?;
+        done(code).map(|()| (bytes, seen))
+    }
+}
+
 #[cfg(test)]
 mod tests {
     use super::*;
-    use crate::{Config, Value};
+    use crate::{Config, Shared, Value};
 
     const NOW: Time = Time::new(50, 0);
 
@@ -128,6 +182,43 @@ mod tests {
             summary.len()
         });
         assert_eq!(lengths, [68, 111, 4096, 4067, 4110, 215_068]);
+    }
+
+    /// A seat tells what a cache tells after the same Adds, and how many these were, while other
+    /// seats go on; and its lease goes on to a cache as that of a cache does.
+    #[test]
+    fn a_seat_tells_what_a_cache_does() {
+        let all = Span::until(b"a", b"z");
+        for (count, most) in [(0, 9), (1, 9), (7, 9), (7, 3), (7, 0), (300, usize::MAX)] {
+            let config = Config { low_water: Time::new(5, 0), ..Config::default() };
+            let (mut cache, mut next) = (cache(), self::cache());
+            let (shared, mut seats) = Shared::open(&config, 3, u64::MAX).unwrap();
+            for i in 0..count {
+                let key = [b'a' + (i % 20) as u8, i as u8];
+                let span = if i % 3 == 0 { Span::until(&key, b"w") } else { Span::Point(&key) };
+                let read = Value { time: Time::new(20 + i, 0), owner: Some([1 + i as u8 % 3; 16]) };
+                cache.add(&span, read, NOW).unwrap();
+                seats[i as usize % 3].add(&span, read, NOW, 64).unwrap();
+            }
+            let told = cache.summary(&all, most).unwrap();
+            for seat in &mut seats {
+                assert_eq!(seat.summary(&all, most), Ok((told.clone(), count)), "{count} {most}");
+            }
+            assert_eq!(next.apply(&told, NOW).map(|added| added.kept), Ok(count > 0));
+            let later = Value { time: Time::new(900, 0), owner: None };
+            assert_eq!(seats[1].add(&all, later, NOW, 64).map(|told| told.0), Ok(count));
+            assert_eq!(seats[0].get_max(&all), (later, count + 1));
+            drop(seats);
+            assert_eq!(shared.close().unwrap(), count + 1);
+        }
+    }
+
+    #[test]
+    fn a_seat_refuses_what_a_cache_does() {
+        let (_shared, mut seats) = Shared::open(&Config::default(), 1, 9).unwrap();
+        let long = [0; 4097];
+        assert_eq!(seats[0].summary(&Span::Point(&long), 9), Err(Error::KeyTooLong));
+        assert_eq!(seats[0].summary(&Span::until(b"c", b"a"), 9), Err(Error::Inverted));
     }
 
     #[test]

@@ -1,22 +1,4 @@
-//! The timestamp cache: for each span of keys the latest time at which it was read, and by which
-//! transaction.
-//!
-//! All that is here calls `libtscache.a`, whose functions are proved to do what they say; see
-//! `tscache.h`. `TSCACHE_DIR` has to name the folder where that lies. `scripts/build-c-library OUT`
-//! puts it into OUT: with proofs, in some 25 minutes and with some 6 GB of disk from nothing, or
-//! with `--unproved` in a minute, to try it. Of an installed release the folder is `PREFIX/lib`.
-//! This crate stands on no other, and nothing of it is proved itself.
-//!
-//! ```
-//! use tscache::{Cache, Config, Span, Time, Value};
-//!
-//! let mut cache = Cache::open(&Config { low_water: Time::new(5, 0), ..Config::default() })?;
-//! let read = Value { time: Time::new(20, 0), owner: Some([0x11; 16]) };
-//! cache.add(&Span::until(b"a", b"c"), read, Time::new(20, 0))?;
-//! assert_eq!(cache.get_max(&Span::Point(b"b")), read);
-//! assert_eq!(cache.get_max(&Span::Point(b"c")).time, Time::new(5, 0));
-//! # Ok::<(), tscache::Error>(())
-//! ```
+#![doc = include_str!("../README.md")]
 #![warn(missing_docs)]
 
 use std::ffi::c_void;
@@ -24,15 +6,26 @@ use std::fmt;
 use std::mem::MaybeUninit;
 use std::ptr::null_mut;
 
+mod built;
+#[cfg(doctest)]
+mod does_not_compile;
 mod ffi;
+mod flat;
 mod leases;
 mod texts;
 mod writes;
 
+pub use built::{built, Built};
+use flat::Flat;
 pub use texts::{check, replay, TextError};
 
 /// A time of a hybrid logical clock. The smaller wall time comes first, and of two equal ones the
 /// smaller count.
+///
+/// ```
+/// use tscache::Time;
+/// assert!(Time::new(19, 7) < Time::new(20, 0) && Time::new(20, 0) < Time::new(20, 1));
+/// ```
 // (it is `tsc_time`)
 #[repr(C)]
 #[derive(Clone, Copy, Debug, Default, PartialEq, Eq, PartialOrd, Ord, Hash)]
@@ -46,12 +39,22 @@ pub struct Time {
 impl Time {
     /// The time of these parts. Calls refuse it with [`Error::Time`] where one is too large.
     #[inline]
+    #[must_use = "a time alone changes nothing"]
     pub const fn new(wall: u64, logical: u32) -> Time {
         Time { wall, logical }
     }
 }
 
 /// A time with the transaction that owns it, if one does. Sixteen zero bytes name none.
+///
+/// ```
+/// use tscache::{Cache, Config, Error, Span, Time, Value};
+/// let mut cache = Cache::open(&Config::default())?;
+/// let (key, at) = (Span::Point(b"a"), Time::new(20, 0));
+/// cache.add(&key, Value { time: at, owner: Some([0; 16]) }, at)?;
+/// assert_eq!(cache.get_max(&key), Value { time: at, owner: None });
+/// # Ok::<(), Error>(())
+/// ```
 #[derive(Clone, Copy, Debug, PartialEq, Eq, Hash)]
 pub struct Value {
     /// When.
@@ -61,6 +64,18 @@ pub struct Value {
 }
 
 /// How a cache is set up.
+///
+/// A lease holder sets [`low_water`](Config::low_water) to the start of its lease, or later: it
+/// knows nothing of the reads before.
+///
+/// ```
+/// use tscache::{Cache, Config, Error, Span, Time};
+/// let start_of_lease = Time::new(1_000, 0);
+/// let mut cache = Cache::open(&Config { low_water: start_of_lease, ..Config::default() })?;
+/// let told = cache.earliest_write(&[Span::Point(b"a")], Time::new(900, 0), [0x22; 16])?;
+/// assert_eq!(told, Time::new(1_000, 1));
+/// # Ok::<(), Error>(())
+/// ```
 #[derive(Clone, Copy, Debug, PartialEq, Eq)]
 pub struct Config {
     /// How many bytes the first page may have, 64 at the least.
@@ -71,12 +86,15 @@ pub struct Config {
     pub min_pages: u32,
     /// And once all of it is older than so many nanoseconds, below 2^63.
     pub retention: u64,
-    /// Where the floor stands at first.
+    /// Where the floor stands at first: at or above each time at which a read was answered before
+    /// this cache was there.
     pub low_water: Time,
 }
 
-/// Pages of 128 KiB that grow to 32 MiB, at least two of them, and ten seconds.
 impl Default for Config {
+    /// Pages of 128 KiB that grow to 32 MiB, at least two of them, and ten seconds. The floor is at
+    /// 0, which only a cache may have before which no read was answered: a lease holder sets
+    /// [`low_water`](Config::low_water).
     fn default() -> Config {
         Config {
             page_first: 128 << 10,
@@ -89,6 +107,23 @@ impl Default for Config {
 }
 
 /// The keys that a read touched, or that a lookup asks of.
+///
+/// A range from a key to itself is that key where one of its ends is included, and else it has no
+/// key. One whose first key is the greater one is inverted.
+///
+/// ```
+/// use tscache::{Cache, Config, Error, Span, Time, Value};
+/// let mut cache = Cache::open(&Config::default())?;
+/// let (read, nothing) = (Time::new(20, 0), Time::new(0, 0));
+/// cache.add(&Span::until(b"b", b"d"), Value { time: read, owner: None }, read)?;
+/// let behind = |from| Span::Onward { from, exclude_from: true };
+/// assert_eq!(cache.get_max(&Span::Point(b"c")).time, read);
+/// assert_eq!(cache.get_max(&Span::Point(b"d")).time, nothing);
+/// assert_eq!(cache.get_max(&behind(b"b")).time, read);
+/// assert_eq!(cache.get_max(&behind(b"d")).time, nothing);
+/// assert_eq!(cache.get_max(&Span::until(b"c", b"c")).time, read);
+/// # Ok::<(), Error>(())
+/// ```
 #[derive(Clone, Copy, Debug, PartialEq, Eq)]
 pub enum Span<'a> {
     /// One key.
@@ -116,6 +151,7 @@ pub enum Span<'a> {
 impl<'a> Span<'a> {
     /// From one key to another that is excluded.
     #[inline]
+    #[must_use = "a span alone adds nothing and asks nothing"]
     pub const fn until(from: &'a [u8], to: &'a [u8]) -> Span<'a> {
         Span::Range { from, to, exclude_from: false, exclude_to: true }
     }
@@ -157,7 +193,11 @@ pub struct Added {
     pub evicted: u64,
 }
 
-/// What can be counted of a cache. Each count stays at 2^64 - 1 once it is there.
+/// What can be counted of a cache, and of what was asked of it. Each count stays at 2^64 - 1 once
+/// it is there.
+///
+/// The last four are of a cache that one thread uses, or of one seat alone. Seats share none of
+/// them: a program adds up what its seats tell.
 // (it is `tsc_figures`)
 #[repr(C)]
 #[derive(Clone, Copy, Debug, PartialEq, Eq)]
@@ -170,6 +210,18 @@ pub struct Figures {
     pub nodes: u64,
     /// What these cost: for each as many bytes as it has, and 32 more.
     pub bytes: u64,
+    /// The bytes of all blocks of memory that hold these pages, as `malloc` was asked for them. At a
+    /// seat these are of the copy that it reads.
+    pub memory: u64,
+    /// Adds that were accepted. Several marks at once are one Add, and so is a summary that is
+    /// applied.
+    pub adds: u64,
+    /// Adds that the library refused, for whatever reason.
+    pub refusals: u64,
+    /// Lookups and questions for writes that were answered: one for each call.
+    pub lookups: u64,
+    /// Pages that these Adds dropped.
+    pub evicted: u64,
 }
 
 /// Why a call was refused. A call that is refused adds nothing.
@@ -179,7 +231,7 @@ pub enum Error {
     Time,
     /// A key of a span to be added has more than 4096 bytes.
     KeyTooLong,
-    /// Of a span to be added the first key is greater than the second.
+    /// Of a span that is to be added, written or summarized the first key is greater than the second.
     Inverted,
     /// A span to be added costs more than the largest page may have.
     TooLarge,
@@ -197,6 +249,8 @@ pub enum Error {
     Busy,
     /// A shared cache has had as many Adds as it may have.
     Full,
+    /// A read of somebody else stands at the last time, so a write may be made at none.
+    NoTime,
     /// The bytes are a summary of another version.
     SummaryVersion,
     /// Some bytes of a summary are missing, or there are more than it has.
@@ -205,6 +259,8 @@ pub enum Error {
     SummaryChecksum,
     /// The digest is right, and what it is of is no summary: its sender made it wrong.
     SummaryForm,
+    /// An Add was to have no tries, by which none is ever made.
+    Tries,
     /// A code of the library that no call of this crate brings about.
     Other(u32),
 }
@@ -223,10 +279,12 @@ impl fmt::Display for Error {
             Error::Seats => "seats are 1 to 64",
             Error::Busy => "others were in the way",
             Error::Full => "there are as many Adds as there may be",
+            Error::NoTime => "there is no time at which the write may be made",
             Error::SummaryVersion => "the summary is of another version",
             Error::SummaryLength => "the summary has another length",
             Error::SummaryChecksum => "the summary was changed",
             Error::SummaryForm => "the bytes are no summary",
+            Error::Tries => "tries are 1 or more",
             Error::Other(code) => return write!(f, "code {code} of the library"),
         })
     }
@@ -273,10 +331,12 @@ fn fault(code: u32) -> Error {
         12 => Error::Seats,
         14 => Error::Busy,
         15 => Error::Full,
+        18 => Error::NoTime,
         19 => Error::SummaryVersion,
         20 => Error::SummaryLength,
         21 => Error::SummaryChecksum,
         22 => Error::SummaryForm,
+        23 => Error::Tries,
         other => Error::Other(other),
     }
 }
@@ -308,39 +368,17 @@ impl From<ffi::Added> for Added {
 }
 
 /// The keys of some marks, one behind the other, and the marks with where theirs lie.
-fn flat(marks: &[Mark<'_>]) -> (Vec<u8>, Vec<ffi::Mark>) {
-    let mut keys = Vec::new();
-    let mut asked = Vec::with_capacity(marks.len());
-    for mark in marks {
-        let (from, to, ends) = mark.span.parts();
-        let (from_at, to_at) = (keys.len(), keys.len() + from.len());
-        keys.extend_from_slice(from);
-        keys.extend_from_slice(to);
-        asked.push(ffi::Mark {
-            from_at,
-            from_len: from.len(),
-            to_at,
-            to_len: to.len(),
-            value: mark.value.into(),
-            ends,
-        });
-    }
-    (keys, asked)
+fn flat(marks: &[Mark<'_>]) -> Result<Flat<ffi::Mark>, Error> {
+    let part = |mark: &Mark<'_>, at: ffi::Span| {
+        let ffi::Span { from_at, from_len, to_at, to_len, ends } = at;
+        ffi::Mark { from_at, from_len, to_at, to_len, value: mark.value.into(), ends }
+    };
+    Flat::of(marks, |mark| mark.span, part)
 }
 
 /// A timestamp cache, in a store of its own.
 ///
-/// It may go to another thread, and is used by one at a time:
-///
-/// ```compile_fail
-/// fn shared<T: Sync>() {}
-/// shared::<tscache::Cache>();
-/// ```
-///
-/// ```
-/// fn moved<T: Send>() {}
-/// moved::<tscache::Cache>();
-/// ```
+/// It may go to another thread, and is used by one at a time. There is no copy of it.
 // Each call writes to its store, so those that threads use at once lie in different lines of the
 // processor's caches, and not beside each other.
 #[derive(Debug)]
@@ -365,6 +403,7 @@ impl Cache {
     /// use tscache::{Cache, Config, Error};
     /// assert_eq!(Cache::open(&Config { page_first: 63, ..Config::default() }).err(), Some(Error::PageSize));
     /// ```
+    #[must_use = "the cache forgets its reads where it is dropped"]
     pub fn open(config: &Config) -> Result<Cache, Error> {
         let mut cache = Cache { store: ffi::Store { at: null_mut::<c_void>() }, handle: 0 };
         let Config { page_first, page_max, min_pages, retention, low_water } = *config;
@@ -383,7 +422,17 @@ impl Cache {
     }
 
     /// Adds a span that was read, with the time and the owner of the read, at the moment `now`.
+    ///
+    /// ```
+    /// use tscache::{Cache, Config, Error, Span, Time, Value};
+    /// let mut cache = Cache::open(&Config::default())?;
+    /// let read = Value { time: Time::new(20, 0), owner: Some([0x11; 16]) };
+    /// let added = cache.add(&Span::until(b"a", b"c"), read, Time::new(20, 0))?;
+    /// assert!(added.kept && !added.rotated && added.evicted == 0);
+    /// # Ok::<(), Error>(())
+    /// ```
     #[inline]
+    #[must_use = "a read whose Add is refused may not be answered"]
     pub fn add(&mut self, span: &Span<'_>, value: Value, now: Time) -> Result<Added, Error> {
         let (from, to, ends) = span.parts();
         let mut added = MaybeUninit::<ffi::Added>::uninit();
@@ -417,8 +466,9 @@ impl Cache {
     /// assert_eq!(cache.get_max(&Span::Point(b"a")), value);
     /// # Ok::<(), Error>(())
     /// ```
+    #[must_use = "reads whose Add is refused may not be answered"]
     pub fn add_all(&mut self, marks: &[Mark<'_>], now: Time) -> Result<Added, Error> {
-        let (keys, asked) = flat(marks);
+        let Flat { keys, parts } = flat(marks)?;
         let mut added = MaybeUninit::<ffi::Added>::uninit();
         done(unsafe {
             ffi::tsc_add_all(
@@ -426,8 +476,8 @@ impl Cache {
                 self.handle,
                 keys.as_ptr(),
                 keys.len(),
-                asked.as_ptr(),
-                asked.len(),
+                parts.as_ptr(),
+                parts.len(),
                 &now,
                 added.as_mut_ptr(),
             )
@@ -438,7 +488,21 @@ impl Cache {
     /// The latest time on a span, with its owner where all reads of that time are one
     /// transaction's, or the floor. A range whose first key is greater than the second is empty,
     /// and the floor answers. Keys may be of any length, and no memory is taken.
+    ///
+    /// ```
+    /// use tscache::{Cache, Config, Error, Span, Time, Value};
+    /// let mut cache = Cache::open(&Config { low_water: Time::new(5, 0), ..Config::default() })?;
+    /// let (one, two) = ([0x11; 16], [0x22; 16]);
+    /// let read = |owner| Value { time: Time::new(20, 0), owner };
+    /// cache.add(&Span::Point(b"a"), read(Some(one)), Time::new(20, 0))?;
+    /// assert_eq!(cache.get_max(&Span::Point(b"a")), read(Some(one)));
+    /// cache.add(&Span::Point(b"a"), read(Some(two)), Time::new(20, 0))?;
+    /// assert_eq!(cache.get_max(&Span::Point(b"a")), read(None));
+    /// assert_eq!(cache.get_max(&Span::Point(b"b")).time, Time::new(5, 0));
+    /// # Ok::<(), Error>(())
+    /// ```
     #[inline]
+    #[must_use = "a lookup changes nothing: what it answers is all of it"]
     pub fn get_max(&mut self, span: &Span<'_>) -> Value {
         let (from, to, ends) = span.parts();
         let mut found = MaybeUninit::<ffi::Value>::uninit();
@@ -459,7 +523,15 @@ impl Cache {
     }
 
     /// Where the floor stands.
+    ///
+    /// ```
+    /// use tscache::{Cache, Config, Error, Time};
+    /// let mut cache = Cache::open(&Config { low_water: Time::new(5, 0), ..Config::default() })?;
+    /// assert_eq!(cache.low_water(), Time::new(5, 0));
+    /// # Ok::<(), Error>(())
+    /// ```
     #[inline]
+    #[must_use = "a lookup changes nothing: what it answers is all of it"]
     pub fn low_water(&mut self) -> Time {
         let mut floor = MaybeUninit::uninit();
         // it is refused only where the handle names no cache
@@ -467,8 +539,23 @@ impl Cache {
         unsafe { floor.assume_init() }
     }
 
-    /// What can be counted.
+    /// What can be counted. `examples/figures.rs` writes it in the text form of Prometheus.
+    ///
+    /// ```
+    /// use tscache::{Cache, Config, Error, Span, Time, Value};
+    /// let mut cache = Cache::open(&Config::default())?;
+    /// let read = Value { time: Time::new(20, 0), owner: None };
+    /// cache.add(&Span::until(b"a", b"c"), read, Time::new(20, 0))?;
+    /// let refused = cache.add(&Span::until(b"c", b"a"), read, Time::new(20, 0));
+    /// assert_eq!(refused, Err(Error::Inverted));
+    /// let figures = cache.figures();
+    /// assert_eq!((figures.pages, figures.nodes, figures.bytes), (1, 2, 66));
+    /// assert!(figures.memory > figures.bytes);
+    /// assert_eq!((figures.adds, figures.refusals, figures.lookups), (1, 1, 0));
+    /// # Ok::<(), Error>(())
+    /// ```
     #[inline]
+    #[must_use = "counting changes nothing: what it answers is all of it"]
     pub fn figures(&mut self) -> Figures {
         let mut figures = MaybeUninit::uninit();
         // it is refused only where the handle names no cache
@@ -517,18 +604,7 @@ pub struct Shared {
 /// returns more Adds than the place of an Add counts that Add, whichever seat made it, and so does
 /// each later lookup of its seat.
 ///
-/// It may go to another thread, and is used by one at a time:
-///
-/// ```compile_fail
-/// fn shared<T: Sync>() {}
-/// shared::<tscache::Seat>();
-/// ```
-///
-/// ```
-/// fn moved<T: Send>() {}
-/// moved::<tscache::Seat>();
-/// moved::<tscache::Shared>();
-/// ```
+/// It may go to another thread, and is used by one at a time. There is no copy of it.
 // It lies apart as a `Cache` does.
 #[derive(Debug)]
 #[repr(align(128))]
@@ -546,6 +622,15 @@ unsafe impl Send for Seat {}
 impl Shared {
     /// A cache to which nothing was added, and its seats, 1 to 64 of them. There may be `limit` Adds:
     /// take `u64::MAX`, which is never reached, since a smaller limit is for tests.
+    ///
+    /// ```
+    /// use tscache::{Config, Error, Shared};
+    /// let (_shared, seats) = Shared::open(&Config::default(), 8, u64::MAX)?;
+    /// assert_eq!(seats.len(), 8);
+    /// assert_eq!(Shared::open(&Config::default(), 65, u64::MAX).err(), Some(Error::Seats));
+    /// # Ok::<(), Error>(())
+    /// ```
+    #[must_use = "the cache forgets its reads where all of its seats are dropped"]
     pub fn open(config: &Config, seats: u32, limit: u64) -> Result<(Shared, Vec<Seat>), Error> {
         let mut shared = Shared { store: ffi::Store { at: null_mut::<c_void>() }, handle: 0 };
         let Config { page_first, page_max, min_pages, retention, low_water } = *config;
@@ -562,8 +647,11 @@ impl Shared {
                 &mut shared.handle,
             )
         })?;
-        let seats = (1..=u64::from(seats)).map(|i| shared.seat(i)).collect::<Result<_, _>>()?;
-        Ok((shared, seats))
+        let mut all = flat::room(seats as usize)?;
+        for i in 1..=u64::from(seats) {
+            all.push(shared.seat(i)?);
+        }
+        Ok((shared, all))
     }
 
     fn seat(&mut self, i: u64) -> Result<Seat, Error> {
@@ -576,6 +664,16 @@ impl Shared {
 
     /// How many Adds there were, once each seat was dropped. Where one wasn't, the cache is handed
     /// back.
+    ///
+    /// ```
+    /// use tscache::{Config, Error, Shared};
+    /// let (shared, seats) = Shared::open(&Config::default(), 2, u64::MAX)?;
+    /// let shared = shared.close().expect_err("two seats are out");
+    /// drop(seats);
+    /// assert_eq!(shared.close().expect("none is out"), 0);
+    /// # Ok::<(), Error>(())
+    /// ```
+    #[must_use = "where a seat is out the cache is handed back, and not closed"]
     pub fn close(mut self) -> Result<u64, Shared> {
         let mut length = 0;
         match unsafe { ffi::tsc_close_shared(&mut self.store, self.handle, &mut length) } {
@@ -596,7 +694,23 @@ impl Seat {
     /// Adds a span that was read, and returns the Add's place among all of the cache, counted from
     /// 0. It waits for nobody: if others are in the way at each of its tries, it is refused as
     /// [`Error::Busy`]. Take 64 tries; if it is refused, call `std::thread::yield_now` and try again.
+    /// Without any try it is refused as [`Error::Tries`].
+    ///
+    /// ```
+    /// use tscache::{Config, Error, Shared, Span, Time, Value};
+    /// let (_shared, mut seats) = Shared::open(&Config::default(), 2, u64::MAX)?;
+    /// let read = Value { time: Time::new(20, 0), owner: Some([0x11; 16]) };
+    /// let (place, added) = loop {
+    ///     match seats[0].add(&Span::Point(b"a"), read, Time::new(20, 0), 64) {
+    ///         Err(Error::Busy) => std::thread::yield_now(),
+    ///         told => break told?,
+    ///     }
+    /// };
+    /// assert!(place == 0 && added.kept);
+    /// # Ok::<(), Error>(())
+    /// ```
     #[inline]
+    #[must_use = "a read whose Add is refused may not be answered"]
     pub fn add(
         &mut self,
         span: &Span<'_>,
@@ -626,13 +740,27 @@ impl Seat {
     }
 
     /// Adds several marks as one Add, all of them or none, as [`add`](Seat::add) does.
+    ///
+    /// ```
+    /// use tscache::{Config, Error, Mark, Shared, Span, Time, Value};
+    /// let (shared, mut seats) = Shared::open(&Config::default(), 2, u64::MAX)?;
+    /// let value = Value { time: Time::new(20, 0), owner: Some([0x11; 16]) };
+    /// let spans = [Span::Point(b"a"), Span::until(b"c", b"e")];
+    /// let marks = spans.map(|span| Mark { span, value });
+    /// let (place, added) = seats[0].add_all(&marks, Time::new(20, 0), 64)?;
+    /// assert!(place == 0 && added.kept);
+    /// drop(seats);
+    /// assert_eq!(shared.close().expect("no seat is out"), 1);
+    /// # Ok::<(), Error>(())
+    /// ```
+    #[must_use = "reads whose Add is refused may not be answered"]
     pub fn add_all(
         &mut self,
         marks: &[Mark<'_>],
         now: Time,
         tries: u32,
     ) -> Result<(u64, Added), Error> {
-        let (keys, asked) = flat(marks);
+        let Flat { keys, parts } = flat(marks)?;
         let (mut place, mut added) = (0, MaybeUninit::<ffi::Added>::uninit());
         done(unsafe {
             ffi::tsc_seat_add_all(
@@ -640,8 +768,8 @@ impl Seat {
                 self.handle,
                 keys.as_ptr(),
                 keys.len(),
-                asked.as_ptr(),
-                asked.len(),
+                parts.as_ptr(),
+                parts.len(),
                 &now,
                 tries,
                 &mut place,
@@ -653,7 +781,18 @@ impl Seat {
 
     /// The latest time on a span, as [`Cache::get_max`] answers, and how many Adds the seat has
     /// seen then. It waits for nobody.
+    ///
+    /// ```
+    /// use tscache::{Config, Error, Shared, Span, Time, Value};
+    /// let (_shared, mut seats) = Shared::open(&Config::default(), 2, u64::MAX)?;
+    /// let read = Value { time: Time::new(20, 0), owner: Some([0x11; 16]) };
+    /// let (place, _) = seats[0].add(&Span::Point(b"a"), read, Time::new(20, 0), 64)?;
+    /// let (latest, seen) = seats[1].get_max(&Span::Point(b"a"));
+    /// assert!(latest == read && seen > place);
+    /// # Ok::<(), Error>(())
+    /// ```
     #[inline]
+    #[must_use = "a lookup changes nothing: what it answers is all of it"]
     pub fn get_max(&mut self, span: &Span<'_>) -> (Value, u64) {
         let (from, to, ends) = span.parts();
         let (mut seen, mut found) = (0, MaybeUninit::<ffi::Value>::uninit());
@@ -675,7 +814,22 @@ impl Seat {
     }
 
     /// Where the floor stands, and how many Adds the seat has seen then.
+    ///
+    /// A thread that continues the work of another asks so until its seat has seen the last Add of
+    /// that one.
+    ///
+    /// ```
+    /// use tscache::{Config, Error, Shared, Span, Time, Value};
+    /// let (_shared, mut seats) = Shared::open(&Config::default(), 2, u64::MAX)?;
+    /// let read = Value { time: Time::new(20, 0), owner: None };
+    /// let (place, _) = seats[0].add(&Span::Point(b"a"), read, Time::new(20, 0), 64)?;
+    /// while seats[1].low_water().1 <= place {
+    ///     std::thread::yield_now();
+    /// }
+    /// # Ok::<(), Error>(())
+    /// ```
     #[inline]
+    #[must_use = "a lookup changes nothing: what it answers is all of it"]
     pub fn low_water(&mut self) -> (Time, u64) {
         let (mut seen, mut floor) = (0, MaybeUninit::uninit());
         // it is refused only where the handle names no seat
@@ -686,7 +840,16 @@ impl Seat {
     }
 
     /// What can be counted, and how many Adds the seat has seen then.
+    ///
+    /// ```
+    /// use tscache::{Config, Error, Shared};
+    /// let (_shared, mut seats) = Shared::open(&Config::default(), 1, u64::MAX)?;
+    /// let (figures, seen) = seats[0].figures();
+    /// assert!(figures.pages == 1 && seen == 0);
+    /// # Ok::<(), Error>(())
+    /// ```
     #[inline]
+    #[must_use = "counting changes nothing: what it answers is all of it"]
     pub fn figures(&mut self) -> (Figures, u64) {
         let (mut seen, mut figures) = (0, MaybeUninit::uninit());
         // it is refused only where the handle names no seat
@@ -723,6 +886,16 @@ mod tests {
             low_water: Time::new(5, 0),
         })
         .unwrap()
+    }
+
+    /// The pages, how often they rotated, the nodes and the bytes.
+    fn pages(of: Figures) -> (u64, u64, u64, u64) {
+        (of.pages, of.rotations, of.nodes, of.bytes)
+    }
+
+    /// The Adds, the refusals, the lookups and the pages that were evicted.
+    fn calls(of: Figures) -> (u64, u64, u64, u64) {
+        (of.adds, of.refusals, of.lookups, of.evicted)
     }
 
     #[test]
@@ -764,7 +937,7 @@ mod tests {
             cache.add(&Span::Point(b"e"), at(20, ONE), Time::new(20, 0)),
             Ok(Added { kept: true, rotated: true, evicted: 0 })
         );
-        assert_eq!(cache.figures(), Figures { pages: 2, rotations: 1, nodes: 5, bytes: 165 });
+        assert_eq!(pages(cache.figures()), (2, 1, 5, 165));
         for key in [b"f", b"g", b"h"] {
             cache.add(&Span::Point(key), at(41, ONE), Time::new(40, 0)).unwrap();
         }
@@ -772,9 +945,65 @@ mod tests {
             cache.add(&Span::Point(b"i"), at(41, ONE), Time::new(40, 0)),
             Ok(Added { kept: true, rotated: true, evicted: 1 })
         );
-        assert_eq!(cache.figures(), Figures { pages: 2, rotations: 2, nodes: 5, bytes: 165 });
+        assert_eq!(pages(cache.figures()), (2, 2, 5, 165));
         assert_eq!(cache.low_water(), Time::new(20, 0));
         assert_eq!(cache.get_max(&Span::Point(b"a")), at(20, None));
+    }
+
+    /// A cache counts what was asked of it, and what its pages take. Another cache counts its own.
+    #[test]
+    fn a_cache_counts_its_calls() {
+        let (mut cache, mut other) = (small(), small());
+        let (key, now) = (Span::Point(b"a"), Time::new(20, 0));
+        let marks = [Mark { span: key, value: at(20, ONE) }; 3];
+        assert_eq!(calls(cache.figures()), (0, 0, 0, 0));
+        cache.add(&key, at(20, ONE), now).unwrap();
+        cache.add_all(&marks, now).unwrap();
+        let summary = cache.summary(&key, 9).unwrap();
+        cache.apply(&summary, now).unwrap();
+        assert_eq!(calls(cache.figures()), (3, 0, 0, 0));
+        cache.add(&Span::until(b"c", b"a"), at(20, ONE), now).unwrap_err();
+        cache.add_all(&marks, Time::new(1 << 63, 0)).unwrap_err();
+        cache.apply(&summary[1..], now).unwrap_err();
+        assert_eq!(calls(cache.figures()), (3, 3, 0, 0));
+        for asked in 1..4 {
+            assert_eq!(cache.get_max(&key), at(20, ONE));
+            assert_eq!(cache.may_write(&key, now, [9; 16]), Ok(false));
+            assert_eq!(cache.earliest_write(&[key], now, [0x11; 16]), Ok(now));
+            assert_eq!(calls(cache.figures()), (3, 3, 3 * asked, 0));
+        }
+        let little = cache.figures().memory;
+        for key in 0..40u8 {
+            let now = Time::new(100 * u64::from(key), 0);
+            cache.add(&Span::Point(&[key; 40]), at(now.wall, ONE), now).unwrap();
+        }
+        let figures = cache.figures();
+        assert_eq!((figures.adds, figures.refusals, figures.lookups), (43, 3, 9));
+        assert!(figures.evicted > 0 && figures.evicted == figures.rotations + 1 - figures.pages);
+        assert!(little > 0 && figures.memory > little && figures.memory > figures.bytes);
+        assert_eq!(calls(other.figures()), (0, 0, 0, 0));
+    }
+
+    /// A seat counts what was asked of it, and none of what was asked of others.
+    #[test]
+    fn a_seat_counts_its_calls() {
+        let (_shared, mut seats) = Shared::open(&Config::default(), 3, u64::MAX).unwrap();
+        let (key, now) = (Span::Point(b"a"), Time::new(20, 0));
+        let marks = [Mark { span: key, value: at(20, ONE) }; 3];
+        let told = |seats: &mut [Seat]| -> Vec<_> {
+            seats.iter_mut().map(|seat| calls(seat.figures().0)).collect()
+        };
+        seats[0].add(&key, at(20, ONE), now, 64).unwrap();
+        seats[1].add_all(&marks, now, 64).unwrap();
+        seats[1].add(&key, at(20, ONE), now, 64).unwrap();
+        assert_eq!(told(&mut seats), [(1, 0, 0, 0), (2, 0, 0, 0), (0, 0, 0, 0)]);
+        seats[0].add(&key, at(20, ONE), now, 0).unwrap_err();
+        seats[0].add_all(&marks, Time::new(1 << 63, 0), 64).unwrap_err();
+        assert_eq!(seats[2].get_max(&key), (at(20, ONE), 3));
+        assert_eq!(seats[2].may_write_all(&[key, key], now, [9; 16]), Ok(false));
+        assert_eq!(seats[2].earliest_write(&[key], now, [0x11; 16]), Ok(now));
+        assert_eq!(told(&mut seats), [(1, 2, 0, 0), (2, 0, 0, 0), (0, 0, 3, 0)]);
+        assert!(seats.iter_mut().all(|seat| seat.figures().0.memory > 0));
     }
 
     #[test]
@@ -798,7 +1027,7 @@ mod tests {
             Cache::open(&Config { retention: 1 << 63, ..Config::default() }).err(),
             Some(Error::Retention)
         );
-        assert_eq!(cache.figures(), Figures { pages: 1, rotations: 0, nodes: 0, bytes: 0 });
+        assert_eq!(pages(cache.figures()), (1, 0, 0, 0));
     }
 
     #[test]
@@ -923,10 +1152,12 @@ mod tests {
             (12, Error::Seats),
             (14, Error::Busy),
             (15, Error::Full),
+            (18, Error::NoTime),
             (19, Error::SummaryVersion),
             (20, Error::SummaryLength),
             (21, Error::SummaryChecksum),
             (22, Error::SummaryForm),
+            (23, Error::Tries),
             (1, Error::Other(1)),
             (13, Error::Other(13)),
             (99, Error::Other(99)),
@@ -964,13 +1195,14 @@ mod tests {
         seat.add_all(&marks, time, 64).unwrap();
         for span in [key, marks[0].span] {
             assert_eq!((cache.get_max(&span), seat.get_max(&span).0), (value, value));
-            assert!(cache.may_write(&span, time, one) && seat.may_write(&span, time, one));
+            assert_eq!(cache.may_write(&span, time, one), Ok(true));
+            assert_eq!(seat.may_write(&span, time, one), Ok(true));
             for i in 0..16 {
                 let mut other = one;
                 other[i] ^= 1;
-                let later = Some(Time::new(20, 1));
-                assert!(!cache.may_write(&span, time, other), "{i}");
-                assert!(!seat.may_write(&span, time, other), "{i}");
+                let later = Ok(Time::new(20, 1));
+                assert_eq!(cache.may_write(&span, time, other), Ok(false), "{i}");
+                assert_eq!(seat.may_write(&span, time, other), Ok(false), "{i}");
                 assert_eq!(cache.earliest_write(&[span], time, other), later, "{i}");
                 assert_eq!(seat.earliest_write(&[span], time, other), later, "{i}");
             }
@@ -1017,8 +1249,8 @@ mod tests {
         assert_eq!(Shared::open(&Config::default(), u32::MAX, 9).err(), Some(Error::Seats));
         let (shared, mut seats) = Shared::open(&Config::default(), 2, 1).unwrap();
         let now = Time::new(20, 0);
-        assert_eq!(seats[0].add(&Span::Point(b"a"), at(20, ONE), now, 0), Err(Error::Busy));
-        assert_eq!(seats[0].add_all(&[], now, 0), Err(Error::Busy));
+        assert_eq!(seats[0].add(&Span::Point(b"a"), at(20, ONE), now, 0), Err(Error::Tries));
+        assert_eq!(seats[0].add_all(&[], now, 0), Err(Error::Tries));
         let marks = [
             Mark { span: Span::Point(b"a"), value: at(20, ONE) },
             Mark { span: Span::Point(b"b"), value: at(21, TWO) },
@@ -1028,10 +1260,8 @@ mod tests {
             Ok((0, Added { kept: true, rotated: false, evicted: 0 }))
         );
         assert_eq!(seats[1].get_max(&Span::until(b"a", &[b'z'; 5000])), (at(21, TWO), 1));
-        assert_eq!(
-            seats[1].figures(),
-            (Figures { pages: 1, rotations: 0, nodes: 2, bytes: 66 }, 1)
-        );
+        let (figures, seen) = seats[1].figures();
+        assert_eq!((pages(figures), seen), ((1, 0, 2, 66), 1));
         assert_eq!(seats[1].add(&Span::Point(b"a"), at(20, ONE), now, 1), Err(Error::Full));
         drop(seats);
         assert_eq!(shared.close().unwrap(), 1);

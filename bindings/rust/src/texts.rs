@@ -1,5 +1,5 @@
 //! Replays of recorded traces, and checks of logs, from bytes to bytes.
-use crate::ffi;
+use crate::{ffi, flat};
 use std::fmt;
 
 /// Why there is no log, or no verdict.
@@ -38,6 +38,7 @@ impl std::error::Error for TextError {}
 /// assert_eq!(why, tscache::TextError::Refused("trace refused: fault 1".into()));
 /// # Ok::<(), tscache::TextError>(())
 /// ```
+#[must_use = "the log is all that it makes"]
 pub fn replay(trace: &[u8]) -> Result<Vec<u8>, TextError> {
     // SAFETY: each pointer comes from a slice or a reference that lives through the call, and what
     // is written to is the vector's own, of which no one else has a reference, and a local
@@ -48,6 +49,15 @@ pub fn replay(trace: &[u8]) -> Result<Vec<u8>, TextError> {
 
 /// Checks a log against its trace, and gives the line of the verdict. A log has 16,777,216 bytes
 /// at the most, as a trace has.
+///
+/// ```
+/// let trace = br#"{"page_first":132,"page_max":132,"min_pages":2,"retention":10,"low_water":[5,0],
+///     "threads":[[{"op":"get","span":{"start":"61"}}]]}"#;
+/// assert_eq!(tscache::check(trace, b"0 0 get 0 5.0 none\n")?, b"right\n");
+/// assert_eq!(tscache::check(trace, b"0 0 get 0 4.0 none\n")?, b"wrong answer 1\n");
+/// # Ok::<(), tscache::TextError>(())
+/// ```
+#[must_use = "the verdict is all that it makes"]
 pub fn check(trace: &[u8], log: &[u8]) -> Result<Vec<u8>, TextError> {
     // SAFETY: as of `replay`
     told(|out, len| unsafe {
@@ -69,7 +79,10 @@ fn told(ask: impl FnMut(&mut [u8], &mut usize) -> u32) -> Result<Vec<u8>, TextEr
     match code {
         0 => Ok(text),
         11 => Err(TextError::NoMemory),
-        16 => Err(TextError::Refused(String::from_utf8_lossy(&text).into_owned())),
+        16 => Err(TextError::Refused(
+            String::from_utf8(text)
+                .unwrap_or_else(|why| String::from_utf8_lossy(why.as_bytes()).into_owned()),
+        )),
         other => Err(TextError::Other(other)),
     }
 }
@@ -82,8 +95,7 @@ pub(crate) fn with_room(
 ) -> Option<(u32, Vec<u8>)> {
     let mut room = 4096;
     loop {
-        let mut bytes = Vec::new();
-        bytes.try_reserve_exact(room).ok()?;
+        let mut bytes = flat::room(room).ok()?;
         bytes.resize(room, 0);
         let mut len = 0;
         let code = ask(&mut bytes, &mut len);

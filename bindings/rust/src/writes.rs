@@ -1,5 +1,6 @@
 //! When a write is clear of reads: the same calls as those of the crate `timestamp_cache`.
-use crate::{answered, ffi, Cache, Seat, Span, Time};
+use crate::flat::{lying, Flat};
+use crate::{done, ffi, Cache, Error, Seat, Span, Time};
 
 const MOST_WALL: u64 = i64::MAX as u64;
 const MOST_LOGICAL: u32 = i32::MAX as u32;
@@ -14,6 +15,7 @@ impl Time {
     /// assert_eq!(Time::new(i64::MAX as u64, i32::MAX as u32).next(), None);
     /// ```
     #[inline]
+    #[must_use = "the time itself stays as it is"]
     pub const fn next(self) -> Option<Time> {
         if self.logical < MOST_LOGICAL {
             Some(Time::new(self.wall, self.logical + 1))
@@ -25,72 +27,76 @@ impl Time {
     }
 }
 
-/// Hands over spans with their keys in one piece, as the library takes them. The key of one that is
-/// a single key is handed over where it lies.
+/// Asks with the keys of some spans in one piece. Those of one span whose second key has no bytes
+/// are handed over where they lie.
 #[inline]
-fn flat(spans: &[Span<'_>], call: impl FnOnce(&[u8], &[ffi::Span]) -> u32) -> u32 {
+fn ask(spans: &[Span<'_>], call: impl FnOnce(&[u8], &[ffi::Span]) -> u32) -> Result<(), Error> {
     if let [span] = spans {
         let (from, to, ends) = span.parts();
         if to.is_empty() {
-            return call(from, &[lying(0, from, to, ends)]);
+            return done(call(from, &[lying(0, from, to, ends)]));
         }
     }
-    let (mut keys, mut asked) = (Vec::new(), Vec::with_capacity(spans.len()));
-    for span in spans {
-        let (from, to, ends) = span.parts();
-        asked.push(lying(keys.len(), from, to, ends));
-        keys.extend_from_slice(from);
-        keys.extend_from_slice(to);
-    }
-    call(&keys, &asked)
+    let Flat { keys, parts } = Flat::of(spans, |span| *span, |_, at| at)?;
+    done(call(&keys, &parts))
 }
 
-/// A span whose first key lies at some place among the keys, and the second behind it.
+/// When a write is wanted, and by whom.
 #[inline]
-fn lying(from_at: usize, from: &[u8], to: &[u8], ends: u32) -> ffi::Span {
-    let to_at = from_at + from.len();
-    ffi::Span { from_at, from_len: from.len(), to_at, to_len: to.len(), ends }
-}
-
-/// The time that a call wrote. None is told where there is none, or the wanted one is out of range;
-/// it is refused else only where there are no such ends.
-#[inline]
-fn told(code: u32, time: Time) -> Option<Time> {
-    if code == ffi::NO_TIME || code == ffi::TIME {
-        return None;
-    }
-    answered(code);
-    Some(time)
-}
-
-/// Whether a call said that a write may be made, which it doesn't of a time that is out of range. It
-/// is refused else only where there are no such ends.
-#[inline]
-fn allowed(code: u32, may: bool) -> bool {
-    if code == ffi::TIME {
-        return false;
-    }
-    answered(code);
-    may
+fn written(at: Time, by: [u8; 16]) -> ffi::Value {
+    ffi::Value { wall: at.wall, logical: at.logical, owner: by }
 }
 
 impl Cache {
     /// Whether a transaction may write a span at some time: whether that is clear of what a lookup
     /// of the span answers, and so of each read that was added there, also of one that was dropped
-    /// since. No write may be made at a time that is out of range.
+    /// since.
+    ///
+    /// It is refused as [`earliest_write`](Cache::earliest_write) is, but never with
+    /// [`Error::NoTime`]: no write may be made then, and that is no refusal.
+    ///
+    /// ```
+    /// use tscache::{Cache, Config, Error, Span, Time, Value};
+    /// let mut cache = Cache::open(&Config::default())?;
+    /// let (reader, writer, at) = ([0x11; 16], [0x22; 16], Time::new(20, 0));
+    /// cache.add(&Span::Point(b"b"), Value { time: at, owner: Some(reader) }, at)?;
+    /// assert!(cache.may_write(&Span::Point(b"b"), at, reader)?);
+    /// assert!(!cache.may_write(&Span::Point(b"b"), at, writer)?);
+    /// let too_late = Time::new(1 << 63, 0);
+    /// assert_eq!(cache.may_write(&Span::Point(b"b"), too_late, writer), Err(Error::Time));
+    /// # Ok::<(), Error>(())
+    /// ```
     #[inline]
-    pub fn may_write(&mut self, span: &Span<'_>, at: Time, by: [u8; 16]) -> bool {
+    #[must_use = "a write may be made only where this says so"]
+    pub fn may_write(&mut self, span: &Span<'_>, at: Time, by: [u8; 16]) -> Result<bool, Error> {
         self.may_write_all(std::slice::from_ref(span), at, by)
     }
 
     /// Whether a transaction may write all of these spans at some time, by the rule of
     /// [`may_write`](Cache::may_write). It is so just where [`earliest_write`](Cache::earliest_write)
     /// tells that very time.
+    ///
+    /// ```
+    /// # use tscache::{Cache, Config, Error, Span, Time, Value};
+    /// # let mut cache = Cache::open(&Config::default())?;
+    /// # let (writer, at) = ([0x22; 16], Time::new(20, 0));
+    /// cache.add(&Span::Point(b"b"), Value { time: at, owner: None }, at)?;
+    /// let spans = [Span::Point(b"a"), Span::Point(b"b")];
+    /// assert!(!cache.may_write_all(&spans, at, writer)?);
+    /// assert!(cache.may_write_all(&spans, Time::new(20, 1), writer)?);
+    /// # Ok::<(), Error>(())
+    /// ```
     #[inline]
-    pub fn may_write_all(&mut self, spans: &[Span<'_>], at: Time, by: [u8; 16]) -> bool {
+    #[must_use = "a write may be made only where this says so"]
+    pub fn may_write_all(
+        &mut self,
+        spans: &[Span<'_>],
+        at: Time,
+        by: [u8; 16],
+    ) -> Result<bool, Error> {
         let (write, mut may) = (written(at, by), false);
         // SAFETY: as of the other calls.
-        let code = flat(spans, |keys, asked| unsafe {
+        ask(spans, |keys, asked| unsafe {
             ffi::tsc_may_write(
                 &mut self.store,
                 self.handle,
@@ -101,12 +107,17 @@ impl Cache {
                 &write,
                 &mut may,
             )
-        });
-        allowed(code, may)
+        })?;
+        Ok(may)
     }
 
-    /// The earliest time, not before `at`, at which a transaction may write all of these spans;
-    /// `None` where there is none, or `at` is out of range. It costs a lookup for each.
+    /// The earliest time, not before `at`, at which a transaction may write all of these spans. It
+    /// costs a lookup for each.
+    ///
+    /// It is refused with [`Error::NoTime`] where a read of somebody else stands at the last time,
+    /// with [`Error::Time`] where `at` is out of range, with [`Error::Inverted`] where a span is
+    /// inverted, and with [`Error::NoMemory`] where there is none for the keys of a range, or of
+    /// several spans.
     ///
     /// ```
     /// use tscache::{Cache, Config, Error, Span, Time, Value};
@@ -116,16 +127,21 @@ impl Cache {
     /// cache.add(&Span::until(b"a", b"c"), read, Time::new(20, 0))?;
     /// let wanted = Time::new(15, 0);
     /// let spans = [Span::Point(b"b"), Span::Point(b"z")];
-    /// assert_eq!(cache.earliest_write(&spans, wanted, writer), Some(Time::new(20, 1)));
-    /// assert_eq!(cache.earliest_write(&[Span::Point(b"c")], wanted, writer), Some(wanted));
-    /// assert!(cache.may_write(&Span::Point(b"b"), Time::new(20, 0), reader));
+    /// assert_eq!(cache.earliest_write(&spans, wanted, writer)?, Time::new(20, 1));
+    /// assert_eq!(cache.earliest_write(&[Span::Point(b"c")], wanted, writer)?, wanted);
     /// # Ok::<(), Error>(())
     /// ```
     #[inline]
-    pub fn earliest_write(&mut self, spans: &[Span<'_>], at: Time, by: [u8; 16]) -> Option<Time> {
+    #[must_use = "the write may not be made before the time that this tells"]
+    pub fn earliest_write(
+        &mut self,
+        spans: &[Span<'_>],
+        at: Time,
+        by: [u8; 16],
+    ) -> Result<Time, Error> {
         let (write, mut time) = (written(at, by), at);
         // SAFETY: as of the other calls.
-        let code = flat(spans, |keys, asked| unsafe {
+        ask(spans, |keys, asked| unsafe {
             ffi::tsc_earliest_write(
                 &mut self.store,
                 self.handle,
@@ -136,30 +152,31 @@ impl Cache {
                 &write,
                 &mut time,
             )
-        });
-        told(code, time)
+        })?;
+        Ok(time)
     }
-}
-
-/// When a write is wanted, and by whom.
-#[inline]
-fn written(at: Time, by: [u8; 16]) -> ffi::Value {
-    ffi::Value { wall: at.wall, logical: at.logical, owner: by }
 }
 
 impl Seat {
     /// As [`Cache::may_write`], by what a lookup of the seat answers. It waits for nobody.
     #[inline]
-    pub fn may_write(&mut self, span: &Span<'_>, at: Time, by: [u8; 16]) -> bool {
+    #[must_use = "a write may be made only where this says so"]
+    pub fn may_write(&mut self, span: &Span<'_>, at: Time, by: [u8; 16]) -> Result<bool, Error> {
         self.may_write_all(std::slice::from_ref(span), at, by)
     }
 
     /// As [`Cache::may_write_all`], by what lookups of the seat answer, one after another.
     #[inline]
-    pub fn may_write_all(&mut self, spans: &[Span<'_>], at: Time, by: [u8; 16]) -> bool {
+    #[must_use = "a write may be made only where this says so"]
+    pub fn may_write_all(
+        &mut self,
+        spans: &[Span<'_>],
+        at: Time,
+        by: [u8; 16],
+    ) -> Result<bool, Error> {
         let (write, mut may, mut seen) = (written(at, by), false, 0);
         // SAFETY: as of the other calls.
-        let code = flat(spans, |keys, asked| unsafe {
+        ask(spans, |keys, asked| unsafe {
             ffi::tsc_seat_may_write(
                 &mut self.store,
                 self.handle,
@@ -171,16 +188,33 @@ impl Seat {
                 &mut seen,
                 &mut may,
             )
-        });
-        allowed(code, may)
+        })?;
+        Ok(may)
     }
 
     /// As [`Cache::earliest_write`], by what lookups of the seat answer. It waits for nobody.
+    ///
+    /// ```
+    /// use tscache::{Config, Error, Shared, Span, Time, Value};
+    /// let (_shared, mut seats) = Shared::open(&Config::default(), 2, u64::MAX)?;
+    /// let (writer, at) = ([0x22; 16], Time::new(20, 0));
+    /// seats[0].add(&Span::Point(b"a"), Value { time: at, owner: None }, at, 64)?;
+    /// let told = seats[1].earliest_write(&[Span::Point(b"a")], at, writer)?;
+    /// assert_eq!(told, Time::new(20, 1));
+    /// assert!(seats[1].may_write(&Span::Point(b"a"), told, writer)?);
+    /// # Ok::<(), Error>(())
+    /// ```
     #[inline]
-    pub fn earliest_write(&mut self, spans: &[Span<'_>], at: Time, by: [u8; 16]) -> Option<Time> {
+    #[must_use = "the write may not be made before the time that this tells"]
+    pub fn earliest_write(
+        &mut self,
+        spans: &[Span<'_>],
+        at: Time,
+        by: [u8; 16],
+    ) -> Result<Time, Error> {
         let (write, mut time, mut seen) = (written(at, by), at, 0);
         // SAFETY: as of the other calls.
-        let code = flat(spans, |keys, asked| unsafe {
+        ask(spans, |keys, asked| unsafe {
             ffi::tsc_seat_earliest_write(
                 &mut self.store,
                 self.handle,
@@ -192,8 +226,8 @@ impl Seat {
                 &mut seen,
                 &mut time,
             )
-        });
-        told(code, time)
+        })?;
+        Ok(time)
     }
 }
 
@@ -208,21 +242,21 @@ mod tests {
 
     /// A read, the time and the transaction of a write, and the earliest time at which that is
     /// clear.
-    type Row = ((Time, Option<[u8; 16]>), Time, [u8; 16], Option<Time>);
+    type Row = ((Time, Option<[u8; 16]>), Time, [u8; 16], Result<Time, Error>);
 
     #[test]
     fn the_earliest_time_is_clear_and_none_before_it_is() {
         let t = Time::new;
         let rows: [Row; 9] = [
-            ((t(20, 0), Some(ONE)), t(20, 1), TWO, Some(t(20, 1))),
-            ((t(20, 0), Some(ONE)), t(20, 0), TWO, Some(t(20, 1))),
-            ((t(20, 0), Some(ONE)), t(20, 0), ONE, Some(t(20, 0))),
-            ((t(20, 0), Some(ONE)), t(15, 3), ONE, Some(t(20, 0))),
-            ((t(20, 0), None), t(20, 0), ONE, Some(t(20, 1))),
-            ((t(20, MOST_LOGICAL), None), t(15, 0), ONE, Some(t(21, 0))),
-            ((LAST, None), t(15, 0), ONE, None),
-            ((LAST, Some(ONE)), t(15, 0), ONE, Some(LAST)),
-            ((t(20, 0), None), t(20, 0), [0; 16], Some(t(20, 1))),
+            ((t(20, 0), Some(ONE)), t(20, 1), TWO, Ok(t(20, 1))),
+            ((t(20, 0), Some(ONE)), t(20, 0), TWO, Ok(t(20, 1))),
+            ((t(20, 0), Some(ONE)), t(20, 0), ONE, Ok(t(20, 0))),
+            ((t(20, 0), Some(ONE)), t(15, 3), ONE, Ok(t(20, 0))),
+            ((t(20, 0), None), t(20, 0), ONE, Ok(t(20, 1))),
+            ((t(20, MOST_LOGICAL), None), t(15, 0), ONE, Ok(t(21, 0))),
+            ((LAST, None), t(15, 0), ONE, Err(Error::NoTime)),
+            ((LAST, Some(ONE)), t(15, 0), ONE, Ok(LAST)),
+            ((t(20, 0), None), t(20, 0), [0; 16], Ok(t(20, 1))),
         ];
         let span = Span::Point(b"a");
         for (row, ((time, owner), at, by, wanted)) in rows.into_iter().enumerate() {
@@ -230,8 +264,10 @@ mod tests {
             cache.add(&span, Value { time, owner }, t(20, 0)).unwrap();
             let told = cache.earliest_write(&[span], at, by);
             assert_eq!(told, wanted, "row {row}");
-            assert_eq!(cache.may_write(&span, at, by), told == Some(at), "row {row}");
-            assert!(told.map_or(true, |told| cache.may_write(&span, told, by)), "row {row}");
+            assert_eq!(cache.may_write(&span, at, by), Ok(told == Ok(at)), "row {row}");
+            if let Ok(told) = told {
+                assert_eq!(cache.may_write(&span, told, by), Ok(true), "row {row}");
+            }
         }
     }
 
@@ -257,12 +293,77 @@ mod tests {
         let mut cache = Cache::open(&Config::default()).unwrap();
         for wrong in [Time::new(MOST_WALL + 1, 0), Time::new(20, MOST_LOGICAL + 1)] {
             for spans in [&[Span::Point(b"a")][..], &[]] {
-                assert!(!cache.may_write_all(spans, wrong, ONE));
-                assert!(!seats[0].may_write_all(spans, wrong, ONE));
-                assert_eq!(cache.earliest_write(spans, wrong, ONE), None);
-                assert_eq!(seats[0].earliest_write(spans, wrong, ONE), None);
+                assert_eq!(cache.may_write_all(spans, wrong, ONE), Err(Error::Time));
+                assert_eq!(seats[0].may_write_all(spans, wrong, ONE), Err(Error::Time));
+                assert_eq!(cache.earliest_write(spans, wrong, ONE), Err(Error::Time));
+                assert_eq!(seats[0].earliest_write(spans, wrong, ONE), Err(Error::Time));
             }
         }
+    }
+
+    /// A span that is asked of by itself is asked of as among others, with its ends. After a read
+    /// of one key, at 20, it is told whether that key is in each of these spans.
+    #[test]
+    fn a_span_by_itself() {
+        let range =
+            |from, to, exclude_from, exclude_to| Span::Range { from, to, exclude_from, exclude_to };
+        let onward = |from, exclude_from| Span::Onward { from, exclude_from };
+        let rows: [(&[u8], Span<'_>, bool); 14] = [
+            (b"a", Span::Point(b"a"), true),
+            (b"a", onward(b"a", false), true),
+            (b"a", onward(b"a", true), false),
+            (b"a", onward(b"", true), true),
+            (b"a", onward(b"b", false), false),
+            (b"a", range(b"a", b"b", false, false), true),
+            (b"a", range(b"a", b"b", true, false), false),
+            (b"b", range(b"a", b"b", true, false), true),
+            (b"b", range(b"a", b"b", true, true), false),
+            (b"", Span::Point(b""), true),
+            (b"", onward(b"", false), true),
+            (b"", onward(b"", true), false),
+            (b"", range(b"", b"", false, false), true),
+            (b"", range(b"", b"", true, true), false),
+        ];
+        let (wanted, at, next) = (Time::new(15, 0), Time::new(20, 0), Time::new(20, 1));
+        for (key, span, is_in) in rows {
+            let read = Value { time: at, owner: Some(ONE) };
+            let mut cache = Cache::open(&Config::default()).unwrap();
+            let (_shared, mut seats) = Shared::open(&Config::default(), 1, 9).unwrap();
+            cache.add(&Span::Point(key), read, at).unwrap();
+            seats[0].add(&Span::Point(key), read, at, 64).unwrap();
+            let earliest = Ok(if is_in { next } else { wanted });
+            let other = Span::Point(b"other");
+            for spans in [&[span][..], &[span, other], &[other, span]] {
+                assert_eq!(cache.earliest_write(spans, wanted, TWO), earliest, "{spans:?}");
+                assert_eq!(seats[0].earliest_write(spans, wanted, TWO), earliest, "{spans:?}");
+                assert_eq!(cache.may_write_all(spans, at, TWO), Ok(!is_in), "{spans:?}");
+                assert_eq!(seats[0].may_write_all(spans, at, TWO), Ok(!is_in), "{spans:?}");
+            }
+            assert_eq!(cache.may_write(&span, at, TWO), Ok(!is_in), "{span:?}");
+            assert_eq!(seats[0].may_write(&span, at, TWO), Ok(!is_in), "{span:?}");
+        }
+    }
+
+    /// A span that has no keys only because its ends were exchanged lets no write pass.
+    #[test]
+    fn inverted_spans() {
+        let (_shared, mut seats) = Shared::open(&Config::default(), 1, 9).unwrap();
+        let mut cache = Cache::open(&Config::default()).unwrap();
+        let (at, inverted) = (Time::new(20, 0), Span::until(b"b", b"a"));
+        let to_no_bytes = Span::until(b"b", b"");
+        for spans in [
+            &[inverted][..],
+            &[to_no_bytes],
+            &[Span::Point(b"a"), inverted],
+            &[to_no_bytes, Span::Point(b"a")],
+        ] {
+            assert_eq!(cache.may_write_all(spans, at, ONE), Err(Error::Inverted), "{spans:?}");
+            assert_eq!(seats[0].may_write_all(spans, at, ONE), Err(Error::Inverted), "{spans:?}");
+            assert_eq!(cache.earliest_write(spans, at, ONE), Err(Error::Inverted), "{spans:?}");
+            assert_eq!(seats[0].earliest_write(spans, at, ONE), Err(Error::Inverted), "{spans:?}");
+        }
+        assert_eq!(cache.may_write(&inverted, at, ONE), Err(Error::Inverted));
+        assert_eq!(seats[0].may_write(&inverted, at, ONE), Err(Error::Inverted));
     }
 
     #[test]
@@ -271,16 +372,23 @@ mod tests {
         let read = Value { time: Time::new(20, 0), owner: Some(ONE) };
         seats[0].add(&Span::Point(b"a"), read, Time::new(20, 0), 1).unwrap();
         let spans = [Span::Point(b"b"), Span::until(b"a", b"b")];
-        assert_eq!(seats[1].earliest_write(&spans, Time::new(15, 0), TWO), Some(Time::new(20, 1)));
-        assert_eq!(seats[1].earliest_write(&spans, Time::new(15, 0), ONE), Some(Time::new(20, 0)));
-        let (at, other) = (Time::new(20, 0), Time::new(20, 1));
-        assert!(!seats[1].may_write(&spans[1], at, TWO) && seats[1].may_write(&spans[1], at, ONE));
-        assert!(
-            !seats[1].may_write_all(&spans, at, TWO) && seats[1].may_write_all(&spans, at, ONE)
-        );
-        assert!(
-            seats[1].may_write(&spans[0], at, TWO) && seats[1].may_write_all(&spans, other, TWO)
-        );
+        let (wanted, at, next) = (Time::new(15, 0), Time::new(20, 0), Time::new(20, 1));
+        assert_eq!(seats[1].earliest_write(&spans, wanted, TWO), Ok(next));
+        assert_eq!(seats[1].earliest_write(&spans, wanted, ONE), Ok(at));
+        let rows = [
+            (&spans[1..], at, TWO, false),
+            (&spans[1..], at, ONE, true),
+            (&spans[..], at, TWO, false),
+            (&spans[..], at, ONE, true),
+            (&spans[..1], at, TWO, true),
+            (&spans[..], next, TWO, true),
+        ];
+        for (spans, at, by, may) in rows {
+            assert_eq!(seats[1].may_write_all(spans, at, by), Ok(may), "{spans:?} {at:?}");
+            if let [span] = spans {
+                assert_eq!(seats[1].may_write(span, at, by), Ok(may), "{span:?} {at:?}");
+            }
+        }
         drop(seats);
         assert_eq!(shared.close().unwrap(), 1);
     }

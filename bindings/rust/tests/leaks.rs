@@ -43,6 +43,15 @@ fn applied() -> Result<(), Error> {
     cache.apply(&summary, Time::new(20, 0)).map(drop)
 }
 
+fn applied_of_a_seat() -> Result<(), Error> {
+    let value = Value { time: Time::new(20, 0), owner: None };
+    let (_shared, mut seats) = Shared::open(&CONFIG, 2, 9)?;
+    seats[0].add(&Span::Point(b"a"), value, Time::new(20, 0), 64)?;
+    let all = Span::Onward { from: b"", exclude_from: false };
+    let (summary, _) = seats[1].summary(&all, usize::MAX)?;
+    Cache::open(&CONFIG)?.apply(&summary, Time::new(20, 0)).map(drop)
+}
+
 fn shared(closes: bool) -> Result<(), Error> {
     let (shared, mut seats) = Shared::open(&CONFIG, 2, 9)?;
     let value = Value { time: Time::new(20, 0), owner: None };
@@ -67,9 +76,10 @@ type Kind = fn() -> Result<(), Error>;
 #[test]
 fn nothing_is_left_behind() -> Result<(), Error> {
     const TIMES: usize = 2_000;
-    let kinds: [(&str, Kind); 5] = [
+    let kinds: [(&str, Kind); 6] = [
         ("caches", cache),
         ("summaries that are applied", applied),
+        ("summaries of a seat that are applied", applied_of_a_seat),
         ("shared caches that are closed", || shared(true)),
         ("shared caches that are dropped", || shared(false)),
         ("refused ones", refused),

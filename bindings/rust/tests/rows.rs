@@ -139,10 +139,12 @@ fn told_error(why: Error) -> &'static str {
         Error::Seats => "seats",
         Error::Busy => "busy",
         Error::Full => "full",
+        Error::NoTime => "none",
         Error::SummaryVersion => "summary_version",
         Error::SummaryLength => "summary_length",
         Error::SummaryChecksum => "summary_checksum",
         Error::SummaryForm => "summary_form",
+        Error::Tries => "tries",
         other => panic!("{other}"),
     }
 }
@@ -243,7 +245,7 @@ impl Table {
             }
             ["low"] => told_time(self.ask(Cache::low_water, Seat::low_water)),
             ["figures"] => {
-                let Figures { pages, rotations, nodes, bytes } =
+                let Figures { pages, rotations, nodes, bytes, .. } =
                     self.ask(Cache::figures, Seat::figures);
                 format!("{pages} {rotations} {nodes} {bytes}")
             }
@@ -253,12 +255,18 @@ impl Table {
                 let spans: Vec<_> = owned.iter().map(Keys::span).collect();
                 let told = self.earliest_write(&spans, at, by);
                 let may = self.may_write(&spans, at, by);
-                assert_eq!(may, told == Some(at), "{words:?}");
-                assert!(told.map_or(true, |then| self.may_write(&spans, then, by)), "{words:?}");
-                if *call == "earliest" {
-                    return told.map_or("none".into(), told_time);
+                let at_once = match told {
+                    Ok(then) => Ok(then == at),
+                    Err(Error::NoTime) => Ok(false),
+                    Err(why) => Err(why),
+                };
+                assert_eq!(may, at_once, "{words:?}");
+                if let Ok(then) = told {
+                    assert_eq!(self.may_write(&spans, then, by), Ok(true), "{words:?}");
                 }
-                told_bool(may)
+                let answer =
+                    if *call == "earliest" { told.map(told_time) } else { may.map(told_bool) };
+                answer.unwrap_or_else(|why| told_error(why).into())
             }
             ["tries", count] => {
                 if let Table::Seats { tries, .. } = self {
@@ -270,7 +278,12 @@ impl Table {
         }
     }
 
-    fn earliest_write(&mut self, spans: &[Span<'_>], at: Time, by: [u8; 16]) -> Option<Time> {
+    fn earliest_write(
+        &mut self,
+        spans: &[Span<'_>],
+        at: Time,
+        by: [u8; 16],
+    ) -> Result<Time, Error> {
         let adds = self.adds();
         self.ask(
             |cache| cache.earliest_write(spans, at, by),
@@ -279,7 +292,7 @@ impl Table {
     }
 
     /// One span is asked for by itself, and several by the call for those.
-    fn may_write(&mut self, spans: &[Span<'_>], at: Time, by: [u8; 16]) -> bool {
+    fn may_write(&mut self, spans: &[Span<'_>], at: Time, by: [u8; 16]) -> Result<bool, Error> {
         let adds = self.adds();
         if let [span] = spans {
             return self.ask(
