@@ -11,6 +11,7 @@
 #include <string>
 #include <thread>
 #include <type_traits>
+#include <utility>
 #include <vector>
 
 using namespace tscache;
@@ -273,11 +274,12 @@ void results()
     std::set<std::string> texts;
     for (std::uint32_t code = 1; code <= TSC_TRIES; code++) {
         const auto error = static_cast<Error>(code);
-        const Result<Time> refused = error;
+        Result<Time> refused = error;
         texts.insert(text(error));
         CHECK(!refused.ok() && refused.error() == error && refused.why() == text(error));
         CHECK(throws(error, [&] { return refused.value(); }));
-        CHECK(throws(error, [&] { return Result<Time>(error).value(); }));
+        CHECK(throws(error, [&] { return std::as_const(refused).value(); }));
+        CHECK(throws(error, [&] { return std::move(refused).value(); }));
     }
     CHECK(texts.size() == TSC_TRIES &&
           std::string(text(static_cast<Error>(99))) == "no such answer");
