@@ -1,7 +1,7 @@
 package tscache
 
 /*
-#include "tscache.h"
+#include "block.h"
 */
 import "C"
 

@@ -17,19 +17,19 @@ import "runtime"
 // It is refused as an Add of the span is, and with ErrClosed. A Shared cache has no summary: its
 // lease goes on by a floor.
 func (c *Cache) Summary(span Span, most uint) ([]byte, error) {
-	c.take()
-	if c.block == nil {
-		return nil, c.leave(C.TSC_CLOSED)
+	in, err := c.take()
+	if err != nil {
+		return nil, err
 	}
 	out, err := told(func(out []byte) (uint32, int) {
 		code := C.tsc_go_summary(
-			c.block, bytes(span.from), C.size_t(len(span.from)), bytes(span.to),
+			in.block, bytes(span.from), C.size_t(len(span.from)), bytes(span.to),
 			C.size_t(len(span.to)), span.ends-1, C.size_t(most), bytes(out), C.size_t(len(out)),
 		)
-		return uint32(code), int(c.block.told)
+		return uint32(code), int(in.block.told)
 	})
-	_ = c.leave(C.TSC_OK)
-	runtime.KeepAlive(c)
+	_ = in.leave(C.TSC_OK)
+	runtime.KeepAlive(in)
 	return out, err
 }
 
@@ -44,14 +44,14 @@ func (c *Cache) Summary(span Span, most uint) ([]byte, error) {
 // ErrSummaryForm, and as AddAll is. Where it is refused the holder asks for the bytes again, or
 // opens a cache with LowWater at or above each time at which a read was answered.
 func (c *Cache) Apply(summary []byte, now Time) (Added, error) {
-	c.take()
-	if c.block == nil {
-		return Added{}, c.leave(C.TSC_CLOSED)
+	in, err := c.take()
+	if err != nil {
+		return Added{}, err
 	}
-	putTime(&c.block.time, now)
-	code := C.tsc_go_apply(c.block, bytes(summary), C.size_t(len(summary)))
-	out := added(code, &c.block.added)
-	err := c.leave(code)
-	runtime.KeepAlive(c)
+	putTime(&in.block.time, now)
+	code := C.tsc_go_apply(in.block, bytes(summary), C.size_t(len(summary)))
+	out := added(code, &in.block.added)
+	err = in.leave(code)
+	runtime.KeepAlive(in)
 	return out, err
 }
