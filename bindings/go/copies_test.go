@@ -6,6 +6,7 @@ import (
 	"sync"
 	"sync/atomic"
 	"testing"
+	"time"
 )
 
 // copyOf copies what must not be copied, behind the back of `go vet`.
@@ -56,41 +57,32 @@ func copies(t *testing.T) (*Cache, *Shared, *Seat, *Pool) {
 	return copyOf(c), copyOf(shared), copyOf(seats[0]), copyOf(NewPool(seats[1:]))
 }
 
-// Of goroutines that begin a call at the same moment one does, and each other one panics.
-func TestOneOfManyBegins(t *testing.T) {
-	rounds, goroutines := 20_000, runtime.GOMAXPROCS(0)
-	if goroutines < 2 {
-		goroutines = 2
-	}
+// Of goroutines that begin calls on one cache one at a time is in a call, and each other one panics.
+func TestOneCallAtATime(t *testing.T) {
+	const goroutines, calls = 4, 1_000_000
 	in := small(t).inner
-	var arrived, began int64
+	var within, met int64
 	var all sync.WaitGroup
+	stop := time.Now().Add(5 * time.Second)
 	for g := 0; g < goroutines; g++ {
 		all.Add(1)
 		go func() {
 			defer all.Done()
-			meet := func(place int) {
-				for atomic.AddInt64(&arrived, 1); atomic.LoadInt64(&arrived) < int64(place*goroutines); {
-					runtime.Gosched()
+			for i := 0; i < calls && time.Now().Before(stop); i++ {
+				if panics(func() { _ = in.take() }) != "" {
+					continue
 				}
-			}
-			for round := 0; round < rounds; round++ {
-				meet(3*round + 1)
-				begins := panics(func() { _ = in.take() }) == ""
-				if begins {
-					atomic.AddInt64(&began, 1)
+				if atomic.AddInt64(&within, 1) > 1 {
+					atomic.AddInt64(&met, 1)
 				}
-				meet(3*round + 2)
-				if begins {
-					_ = in.leave(0)
-				}
-				meet(3*round + 3)
+				atomic.AddInt64(&within, -1)
+				_ = in.leave(0)
 			}
 		}()
 	}
 	all.Wait()
-	if began != int64(rounds) {
-		t.Errorf("%d calls began in %d rounds", began, rounds)
+	if met > 0 {
+		t.Errorf("%d calls began while another was under way", met)
 	}
 }
 
