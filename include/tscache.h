@@ -6,15 +6,17 @@
  * pages are full the oldest ones are dropped, and a floor answers for them. An answer may be later
  * than the reads that there were, and never earlier.
  *
- *     static tsc_store store;   // zeros: owns nothing yet
- *     uint64_t n;               // the handle of a cache in it
+ *     tsc_store store = TSC_STORE_INIT;   // owns nothing yet
+ *     uint64_t n;                         // the handle of a cache in it
  *     tsc_time low = {5, 0}, now = {20, 0};
  *     tsc_value read = {20, 0, {0x11}}, latest;
  *     tsc_added added;
  *     if (tsc_open(&store, 4096, 65536, 2, 10000000000, &low, &n)) return 1;
- *     // [a, c) was read at 20
- *     tsc_checked_add(&store, n, "a", 1, "c", 1, TSC_EXCLUDE_TO, &read, &now, &added);
- *     tsc_checked_get_max(&store, n, "b", 1, NULL, 0, TSC_POINT, &latest);   // latest.wall is 20
+ *     // [a, c) was read at 20. A read that is not remembered must not be answered.
+ *     if (tsc_checked_add(&store, n, "a", 1, "c", 1, TSC_EXCLUDE_TO, &read, &now, &added))
+ *         return 1;
+ *     if (tsc_checked_get_max(&store, n, "b", 1, NULL, 0, TSC_POINT, &latest)) return 1;
+ *     // latest.wall is 20
  *     tsc_free(&store);
  *
  * When a write may be made: at a time above what a lookup of its span answers, or at that very
@@ -29,7 +31,7 @@
  * Each function that is declared here is proved, over whatever numbers and bytes it is given, to
  * return and to do what is said of it, as long as the caller keeps to this:
  *
- *   - A `tsc_store` begins as zeros, and only these functions change it. What its pointer leads to
+ *   - A `tsc_store` begins as TSC_STORE_INIT, and only these functions change it. What it leads to
  *     is the library's: no one else reads, writes or frees it. A store may be moved (the old
  *     memory is a store no more); it is never copied and used twice.
  *   - Each pointer leads to as much as its type and the length after it say, which nothing else
@@ -49,25 +51,30 @@
  *
  * Who owns what: an Add copies the bytes of its keys, a lookup copies nothing, and no call keeps a
  * pointer that it is given. All memory that a call takes belongs to the store until `tsc_close`
- * (one cache) or `tsc_free` (all of them, and the store's own). A shared cache belongs to its
- * handle and to its seats together, and is freed with the last of these. Lookups and the calls for
- * writes, floors and figures take no memory. What `tsc_summary`, `tsc_replay` and `tsc_check` take
- * they free before they return.
+ * (one cache) or `tsc_free` (all of them, and the store's own). The store's own is enough for as
+ * many handles as were open at once, so a store that opens and closes for ever does not grow. A
+ * shared cache belongs to its handle and to its seats together, and is freed with the last of
+ * these. Lookups and the calls for writes, floors and figures take no memory, and neither does a
+ * call that closes. What `tsc_summary`, `tsc_seat_summary`, `tsc_replay` and `tsc_check` take they
+ * free before they return.
  *
  * A cache that threads share has seats, each for one thread at a time. A program opens it, and
  * moves each seat to a store of its own, which it hands to a thread:
  *
  *     uint64_t n, seat, at, seen, adds;
- *     static tsc_store theirs;   // the store of another thread
+ *     uint32_t did;
+ *     tsc_store theirs = TSC_STORE_INIT;   // the store of another thread
  *     // two seats, n + 1 and n + 2
  *     if (tsc_open_shared(&store, 4096, 65536, 2, 10000000000, &low, 2, UINT64_MAX, &n)) return 1;
  *     // the other thread's seat is `seat` in `theirs`
  *     if (tsc_move(&store, n + 2, &theirs, &seat)) return 1;
- *     while (tsc_checked_seat_add(&store, n + 1, "a", 1, "c", 1, TSC_EXCLUDE_TO, &read, &now, 64,
- *                                 &at, &added) == TSC_BUSY)
+ *     while ((did = tsc_checked_seat_add(&store, n + 1, "a", 1, "c", 1, TSC_EXCLUDE_TO, &read,
+ *                                        &now, 64, &at, &added)) == TSC_BUSY)
  *         thrd_yield();
+ *     if (did) return 1;
  *     // in the other thread
- *     tsc_checked_seat_get_max(&theirs, seat, "b", 1, NULL, 0, TSC_POINT, &seen, &latest);
+ *     if (tsc_checked_seat_get_max(&theirs, seat, "b", 1, NULL, 0, TSC_POINT, &seen, &latest))
+ *         return 1;
  *     tsc_seat_close(&theirs, seat);        // each seat is handed in,
  *     tsc_seat_close(&store, n + 1);
  *     tsc_close_shared(&store, n, &adds);   // and then there were so many Adds
@@ -83,6 +90,17 @@
 extern "C" {
 #endif
 
+/* Stands before each call whose answer says whether a read was remembered, or whether a write may
+ * be made. The compiler warns where a program drops that answer. */
+#if (defined(__cplusplus) && __cplusplus >= 201703L) || \
+    (defined(__STDC_VERSION__) && __STDC_VERSION__ >= 202311L)
+#define TSC_NODISCARD [[nodiscard]]
+#elif defined(__GNUC__)
+#define TSC_NODISCARD __attribute__((warn_unused_result))
+#else
+#define TSC_NODISCARD
+#endif
+
 /* The version of this header: a million for each major number, a thousand for each minor one, and
  * the patch. Before 1.0 each minor version may change what stands here, and CHANGELOG.md says
  * how. */
@@ -93,6 +111,18 @@ extern "C" {
 
 /* The version of the library that is linked, which should be TSC_VERSION. */
 uint32_t tsc_version(void);
+
+/* How the library that is linked was built. */
+typedef struct {
+    const char *version; /* as "0.1.0" */
+    const char *commit;  /* the full hash of its sources' commit, or "unknown" */
+    const char *kit;     /* the kit that compiled it, and the logic that proved it */
+    bool proved;         /* whether it was proved as it was built */
+} tsc_build;
+
+/* What a program writes into its log, so that one knows later what it ran on. The texts stand in
+ * the program for good, and nobody frees them. */
+const tsc_build *tsc_built(void);
 
 /* What a call answers: TSC_OK, or why it was refused. A call that is refused adds nothing to a
  * cache, and writes nothing but to the store (and with TSC_REFUSED and TSC_SHORT what is said
@@ -105,10 +135,11 @@ enum {
     TSC_ENDS = 3,         /* `ends` is none of the sums named below */
     TSC_KEY_TOO_LONG = 4, /* a key of a span to be added has more than 4096 bytes; a lookup takes
                            * any */
-    TSC_INVERTED = 5,     /* of a span to be added the first key is greater than the second */
+    TSC_INVERTED = 5,     /* of a span that is to be added, written or summarized the first key is
+                           * greater than the second */
     TSC_TOO_LARGE = 6,    /* a span to be added costs more than page_max: 32 and its bytes for each
                            * key */
-    TSC_OUTSIDE = 7,      /* a key of a mark does not lie among `keys` */
+    TSC_OUTSIDE = 7,      /* a key of a mark or of a span does not lie among `keys` */
     TSC_PAGE_SIZE = 8,    /* page_first is below 64 or above page_max, or that is above 2^30 */
     TSC_MIN_PAGES = 9,    /* min_pages is 0 or above 64 */
     TSC_RETENTION = 10,   /* retention is above 2^63 - 1 */
@@ -117,11 +148,12 @@ enum {
     TSC_STILL_OUT = 13,   /* a seat of the shared cache was not handed in */
     TSC_BUSY = 14,        /* others were in the way at each of the tries: another Add, or a
                            * lookup */
-    TSC_FULL = 15,        /* the shared cache has had as many Adds as `limit` says */
+    TSC_FULL = 15,        /* the shared cache has had as many Adds as `limit` says; or the store
+                           * has given 2^64 - 1 handles */
     TSC_REFUSED = 16,     /* of tsc_replay and tsc_check: the text says why the bytes are no trace,
                            * or no log */
-    TSC_SHORT = 17,       /* of the same, and of tsc_summary: what is told is longer than `room`,
-                           * and `*len` says how long */
+    TSC_SHORT = 17,       /* of the same, and of tsc_summary and tsc_seat_summary: what is told is
+                           * longer than `room`, and `*len` says how long */
     TSC_NO_TIME = 18,     /* a read of somebody else stands at the last time, so a write may be
                            * made at none */
     TSC_SUMMARY_VERSION = 19,  /* of tsc_apply, as those below: the bytes are a summary of another
@@ -131,12 +163,14 @@ enum {
     TSC_SUMMARY_CHECKSUM = 21, /* the summary was changed: its digest is another one */
     TSC_SUMMARY_FORM = 22,     /* the digest is right, and what it is of is no summary: its sender
                                 * made it wrong */
+    TSC_TRIES = 23,       /* `tries` is 0, by which no Add is ever made */
     TSC_NULL = 255        /* a pointer is null: told by the calls with `checked_` in their names
                            * alone */
 };
 
 /* The ends of a span: TSC_POINT, or TSC_ONWARD with or without TSC_EXCLUDE_FROM, or any sum of the
- * first two, 0 too. */
+ * first two, 0 too. From a key to that same key with one end excluded, [a, a) or (a, a], is the
+ * key itself: it is neither empty nor inverted. */
 enum {
     TSC_EXCLUDE_FROM = 1, /* `from` itself is no part of it */
     TSC_EXCLUDE_TO = 2,   /* `to` itself is no part of it */
@@ -144,10 +178,13 @@ enum {
     TSC_POINT = 8         /* the key `from` alone; `to` is passed over */
 };
 
-/* A store that owns caches. Zeros own nothing. */
+/* A store that owns caches. It begins as TSC_STORE_INIT, or as zeros, which own nothing:
+ * `tsc_store store = TSC_STORE_INIT;`. Its memory does not grow by opening and closing. */
 typedef struct {
     void *at;
 } tsc_store;
+
+#define TSC_STORE_INIT {NULL}
 
 /* A time of a hybrid logical clock: nanoseconds, and a count among those of one nanosecond. */
 typedef struct {
@@ -185,35 +222,50 @@ typedef struct {
     uint32_t ends;
 } tsc_span;
 
-/* What can be counted of a cache. Each count stays at 2^64 - 1 once it is there. */
+/* What can be counted of a cache, and of what was asked of it by one handle. Each count stays at
+ * 2^64 - 1 once it is there. The last four are of a cache that one thread uses, or of one seat
+ * alone, so seats share none of them: a program adds up what its seats tell. */
 typedef struct {
     uint64_t pages;     /* how many there are */
     uint64_t rotations; /* how often they rotated */
     uint64_t nodes;     /* how many end keys the pages hold, each counted once for each page that
                          * holds it */
     uint64_t bytes;     /* what these cost: for each as many bytes as it has, and 32 more */
+    uint64_t memory;    /* bytes of all blocks of memory that hold these pages, as malloc was asked
+                         * for them; at a seat, of the copy that it reads */
+    uint64_t adds;      /* Adds by this handle that were accepted; several marks at once are one
+                         * Add, and so is a summary that is applied */
+    uint64_t refusals;  /* Adds by this handle that were refused, for whatever reason */
+    uint64_t lookups;   /* lookups and questions for writes by this handle that were answered by
+                         * TSC_OK: one for each call */
+    uint64_t evicted;   /* pages that these Adds dropped */
 } tsc_figures;
 
 /* Opens a cache, and writes its handle. Handles count on from 0 and none is given twice, until the
- * store is freed; each takes some memory of the store until then, also where its cache is closed.
- * The first page has `page_first` bytes, and no page more than `page_max`. A page is dropped only
- * while there are at least `min_pages`, and once all of it is older than `retention` nanoseconds.
- * `low_water` is where the floor stands at first. */
+ * store is freed. A handle that is closed or moved leaves its place to a later one, so the store
+ * takes memory for as many as were open at once. The first page has `page_first` bytes, and no
+ * page more than `page_max`. A page is dropped only while there are at least `min_pages`, and once
+ * all of it is older than `retention` nanoseconds. `low_water` is where the floor stands at
+ * first. */
+TSC_NODISCARD
 uint32_t tsc_open(tsc_store *store, uint32_t page_first, uint32_t page_max, uint32_t min_pages,
                   uint64_t retention, const tsc_time *low_water, uint64_t *handle);
 
 /* Adds a span that was read, with the time and the owner of the read, at the moment `now`. */
+TSC_NODISCARD
 uint32_t tsc_add(tsc_store *store, uint64_t handle, const void *from, size_t from_len,
                  const void *to, size_t to_len, uint32_t ends, const tsc_value *value,
                  const tsc_time *now, tsc_added *out);
 
 /* Adds several marks, one after another at one moment, all of them or none. */
+TSC_NODISCARD
 uint32_t tsc_add_all(tsc_store *store, uint64_t handle, const void *keys, size_t keys_len,
                      const tsc_mark *marks, size_t marks_len, const tsc_time *now, tsc_added *out);
 
 /* The latest time on a span, with its owner where all reads of that time are one transaction's, or
  * the floor. A span whose first key is greater than the second is empty, and the floor answers. A
  * key may be of any length. It is refused by TSC_CLOSED and TSC_ENDS alone. */
+TSC_NODISCARD
 uint32_t tsc_get_max(tsc_store *store, uint64_t handle, const void *from, size_t from_len,
                      const void *to, size_t to_len, uint32_t ends, tsc_value *out);
 
@@ -222,7 +274,8 @@ uint32_t tsc_get_max(tsc_store *store, uint64_t handle, const void *from, size_t
  * the spans that was added so far, and no earlier one from that of `write` on is clear of what
  * lookups of the spans answer. A write may be made at once where it is told its own time. It costs
  * a lookup for each span, and takes no memory. It is refused by TSC_NO_TIME where there is no such
- * time, by TSC_TIME, TSC_ENDS and TSC_OUTSIDE, and by TSC_CLOSED. */
+ * time, by TSC_TIME, TSC_ENDS, TSC_OUTSIDE and TSC_INVERTED, and by TSC_CLOSED. */
+TSC_NODISCARD
 uint32_t tsc_earliest_write(tsc_store *store, uint64_t handle, const void *keys, size_t keys_len,
                             const tsc_span *spans, size_t spans_len, const tsc_value *write,
                             tsc_time *out);
@@ -231,15 +284,17 @@ uint32_t tsc_earliest_write(tsc_store *store, uint64_t handle, const void *keys,
  * that time is clear of what a lookup of each span answers. Then it is clear of each read on one
  * of the spans that was added so far. It is so just where `tsc_earliest_write` tells that very
  * time. A write that may not be made is not refused: TSC_OK is told, and `*out` is false. It costs
- * what `tsc_earliest_write` does, and is refused by TSC_TIME, TSC_ENDS, TSC_OUTSIDE and
- * TSC_CLOSED; `*out` is as before then. */
+ * what `tsc_earliest_write` does, and is refused by TSC_TIME, TSC_ENDS, TSC_OUTSIDE, TSC_INVERTED
+ * and TSC_CLOSED; `*out` is as before then. */
+TSC_NODISCARD
 uint32_t tsc_may_write(tsc_store *store, uint64_t handle, const void *keys, size_t keys_len,
                        const tsc_span *spans, size_t spans_len, const tsc_value *write, bool *out);
 
 /* Where the floor stands. */
+TSC_NODISCARD
 uint32_t tsc_low_water(tsc_store *store, uint64_t handle, tsc_time *out);
 
-/* What can be counted. It costs a step for each page. */
+/* What can be counted. It costs a step for each page, and for `memory` one for each block. */
 uint32_t tsc_figures_of(tsc_store *store, uint64_t handle, tsc_figures *out);
 
 /* What was read of a span, as bytes to be sent to the next holder of its lease, who hands them to
@@ -255,8 +310,9 @@ uint32_t tsc_figures_of(tsc_store *store, uint64_t handle, tsc_figures *out);
  *
  * It costs a lookup for each end key of a read within the span, and for each gap between two. It
  * is refused as a span to be added is, by TSC_ENDS, TSC_KEY_TOO_LONG and TSC_INVERTED, and by
- * TSC_NO_MEMORY and TSC_CLOSED: `out` and `*len` are as before then. A shared cache and its seats
- * have no summary: their lease goes on by a floor. */
+ * TSC_NO_MEMORY and TSC_CLOSED: `out` and `*len` are as before then. A shared cache is asked at a
+ * seat, by `tsc_seat_summary`. */
+TSC_NODISCARD
 uint32_t tsc_summary(tsc_store *store, uint64_t handle, const void *from, size_t from_len,
                      const void *to, size_t to_len, uint32_t ends, size_t most, void *out,
                      size_t room, size_t *len);
@@ -273,6 +329,7 @@ uint32_t tsc_summary(tsc_store *store, uint64_t handle, const void *from, size_t
  * cache; and by TSC_TIME, TSC_NO_MEMORY and TSC_CLOSED. Where it is refused the holder asks for
  * the bytes again, or opens a cache with `low_water` at or above each time at which a read was
  * answered; until then it answers no write of the span. */
+TSC_NODISCARD
 uint32_t tsc_apply(tsc_store *store, uint64_t handle, const void *summary, size_t summary_len,
                    const tsc_time *now, tsc_added *out);
 
@@ -286,11 +343,13 @@ void tsc_free(tsc_store *store);
 /* What a handle names goes to another store, where it gets the next handle, which is written. The
  * handle names nothing from then on. The two stores are different ones. Where it is refused the
  * other one may own some memory too, which `tsc_free` frees. */
+TSC_NODISCARD
 uint32_t tsc_move(tsc_store *store, uint64_t handle, tsc_store *other, uint64_t *other_handle);
 
 /* Opens a cache that threads share, and writes its handle. Its `seats` have the handles behind
  * that, in their order: 1 to 64 of them. There may be `limit` Adds: take UINT64_MAX, which is
  * never reached, since a smaller limit is for tests. What else it takes is as with `tsc_open`. */
+TSC_NODISCARD
 uint32_t tsc_open_shared(tsc_store *store, uint32_t page_first, uint32_t page_max,
                          uint32_t min_pages, uint64_t retention, const tsc_time *low_water,
                          uint32_t seats, uint64_t limit, uint64_t *handle);
@@ -305,41 +364,57 @@ uint32_t tsc_open_shared(tsc_store *store, uint32_t page_first, uint32_t page_ma
  * in practice once. Each later lookup of its seat counts the Add. That the first call does, if it
  * begins after the Add has returned, is tested and not proved.
  *
- * There is no call that has a seat learn what another one has seen, and none that tells what a
- * seat has seen of a span to the next holder of a lease (that one opens its cache with `low_water`
- * at or above each time at which a read was answered).
+ * There is no call that has a seat learn what another one has seen.
  *
  * `tsc_seat_earliest_write` looks up one span after another, and each lookup may see more Adds
  * than the one before. The time is clear of each read on a span that the seat had seen when it
  * looked that span up, which is at least all that it had seen before. `tsc_seat_may_write` asks in
- * the same way, and `*out` is true just where it is told the time of `write`.
+ * the same way, and `*out` is true just where it is told the time of `write`. All spans are read
+ * before the first lookup: where one is refused the seat has seen no more than before.
  *
  * Adds come one after another. An Add tries `tries` times to acquire the lock that another seat's
  * Add may hold, and looks as often at each seat that is inside a lookup. Meanwhile `tsc_seat_add`
  * asks the seat that holds the lock, which may make the Add as well. If others are in the way each
- * time, the Add is refused with TSC_BUSY, and may be tried again; with 0 tries it always is. Take
- * 64 tries. After TSC_BUSY, let other threads run (`sched_yield`, `thrd_yield`), and try again.
+ * time, the Add is refused with TSC_BUSY, and may be tried again. Take 64 tries. After TSC_BUSY,
+ * let other threads run (`sched_yield`, `thrd_yield`), and try again. With 0 tries no Add would
+ * ever be made: TSC_TRIES says so, before anything else of the call is looked at but its handle.
  * TSC_FULL means that `limit` Adds were made. `place_in_history` is the Add's position among all
  * Adds, from 0 on. Lookups wait for nobody, and are refused as those of `tsc_get_max` are. `seen`
  * is the number of Adds that the seat has seen then, which never sinks. */
+TSC_NODISCARD
 uint32_t tsc_seat_add(tsc_store *store, uint64_t seat, const void *from, size_t from_len,
                       const void *to, size_t to_len, uint32_t ends, const tsc_value *value,
                       const tsc_time *now, uint32_t tries, uint64_t *place_in_history,
                       tsc_added *out);
+TSC_NODISCARD
 uint32_t tsc_seat_add_all(tsc_store *store, uint64_t seat, const void *keys, size_t keys_len,
                           const tsc_mark *marks, size_t marks_len, const tsc_time *now,
                           uint32_t tries, uint64_t *place_in_history, tsc_added *out);
+TSC_NODISCARD
 uint32_t tsc_seat_get_max(tsc_store *store, uint64_t seat, const void *from, size_t from_len,
                           const void *to, size_t to_len, uint32_t ends, uint64_t *seen,
                           tsc_value *out);
+TSC_NODISCARD
 uint32_t tsc_seat_earliest_write(tsc_store *store, uint64_t seat, const void *keys,
                                  size_t keys_len, const tsc_span *spans, size_t spans_len,
                                  const tsc_value *write, uint64_t *seen, tsc_time *out);
+TSC_NODISCARD
 uint32_t tsc_seat_may_write(tsc_store *store, uint64_t seat, const void *keys, size_t keys_len,
                             const tsc_span *spans, size_t spans_len, const tsc_value *write,
                             uint64_t *seen, bool *out);
+TSC_NODISCARD
 uint32_t tsc_seat_low_water(tsc_store *store, uint64_t seat, uint64_t *seen, tsc_time *out);
 uint32_t tsc_seat_figures_of(tsc_store *store, uint64_t seat, uint64_t *seen, tsc_figures *out);
+
+/* What was read of a span of a shared cache, as bytes for the next holder of its lease, without
+ * closing the cache. It is what `tsc_summary` tells, after a history that begins with all that the
+ * seat has seen, and refused as that is. The caller stops answering reads of the span, and then
+ * asks again and again until `*seen` is above the place of each thread's last Add; in practice
+ * once. `*seen` is written with TSC_OK and with TSC_SHORT, and is as before with all else. */
+TSC_NODISCARD
+uint32_t tsc_seat_summary(tsc_store *store, uint64_t seat, const void *from, size_t from_len,
+                          const void *to, size_t to_len, uint32_t ends, size_t most,
+                          uint64_t *seen, void *out, size_t room, size_t *len);
 
 /* Hands in a seat. Its handle names nothing from then on. */
 uint32_t tsc_seat_close(tsc_store *store, uint64_t seat);
@@ -369,6 +444,7 @@ uint32_t tsc_check(const void *trace, size_t trace_len, const void *log, size_t 
 /* The same calls where a pointer may be null. Then all but tsc_checked_free, which does nothing,
  * answer TSC_NULL. */
 
+TSC_NODISCARD
 static inline uint32_t tsc_checked_open(tsc_store *store, uint32_t page_first, uint32_t page_max,
                                         uint32_t min_pages, uint64_t retention,
                                         const tsc_time *low_water, uint64_t *handle)
@@ -378,6 +454,7 @@ static inline uint32_t tsc_checked_open(tsc_store *store, uint32_t page_first, u
     return tsc_open(store, page_first, page_max, min_pages, retention, low_water, handle);
 }
 
+TSC_NODISCARD
 static inline uint32_t tsc_checked_open_shared(tsc_store *store, uint32_t page_first,
                                                uint32_t page_max, uint32_t min_pages,
                                                uint64_t retention, const tsc_time *low_water,
@@ -389,6 +466,7 @@ static inline uint32_t tsc_checked_open_shared(tsc_store *store, uint32_t page_f
                            limit, handle);
 }
 
+TSC_NODISCARD
 static inline uint32_t tsc_checked_move(tsc_store *store, uint64_t handle, tsc_store *other,
                                         uint64_t *other_handle)
 {
@@ -399,18 +477,24 @@ static inline uint32_t tsc_checked_move(tsc_store *store, uint64_t handle, tsc_s
 
 static inline uint32_t tsc_checked_close(tsc_store *store, uint64_t handle)
 {
-    return store ? tsc_close(store, handle) : (uint32_t)TSC_NULL;
+    if (!store)
+        return TSC_NULL;
+    return tsc_close(store, handle);
 }
 
 static inline uint32_t tsc_checked_seat_close(tsc_store *store, uint64_t seat)
 {
-    return store ? tsc_seat_close(store, seat) : (uint32_t)TSC_NULL;
+    if (!store)
+        return TSC_NULL;
+    return tsc_seat_close(store, seat);
 }
 
 static inline uint32_t tsc_checked_close_shared(tsc_store *store, uint64_t handle,
                                                 uint64_t *length)
 {
-    return store && length ? tsc_close_shared(store, handle, length) : (uint32_t)TSC_NULL;
+    if (!store || !length)
+        return TSC_NULL;
+    return tsc_close_shared(store, handle, length);
 }
 
 static inline void tsc_checked_free(tsc_store *store)
@@ -424,6 +508,7 @@ static inline const void *tsc_bytes(const void *bytes)
     return bytes ? bytes : "";
 }
 
+TSC_NODISCARD
 static inline uint32_t tsc_checked_add(tsc_store *store, uint64_t handle, const void *from,
                                        size_t from_len, const void *to, size_t to_len,
                                        uint32_t ends, const tsc_value *value, const tsc_time *now,
@@ -435,6 +520,7 @@ static inline uint32_t tsc_checked_add(tsc_store *store, uint64_t handle, const 
                    now, out);
 }
 
+TSC_NODISCARD
 static inline uint32_t tsc_checked_add_all(tsc_store *store, uint64_t handle, const void *keys,
                                            size_t keys_len, const tsc_mark *marks,
                                            size_t marks_len, const tsc_time *now, tsc_added *out)
@@ -446,6 +532,7 @@ static inline uint32_t tsc_checked_add_all(tsc_store *store, uint64_t handle, co
                        now, out);
 }
 
+TSC_NODISCARD
 static inline uint32_t tsc_checked_get_max(tsc_store *store, uint64_t handle, const void *from,
                                            size_t from_len, const void *to, size_t to_len,
                                            uint32_t ends, tsc_value *out)
@@ -455,6 +542,7 @@ static inline uint32_t tsc_checked_get_max(tsc_store *store, uint64_t handle, co
     return tsc_get_max(store, handle, tsc_bytes(from), from_len, tsc_bytes(to), to_len, ends, out);
 }
 
+TSC_NODISCARD
 static inline uint32_t tsc_checked_earliest_write(tsc_store *store, uint64_t handle,
                                                   const void *keys, size_t keys_len,
                                                   const tsc_span *spans, size_t spans_len,
@@ -467,6 +555,7 @@ static inline uint32_t tsc_checked_earliest_write(tsc_store *store, uint64_t han
                               spans_len, write, out);
 }
 
+TSC_NODISCARD
 static inline uint32_t tsc_checked_may_write(tsc_store *store, uint64_t handle, const void *keys,
                                              size_t keys_len, const tsc_span *spans,
                                              size_t spans_len, const tsc_value *write, bool *out)
@@ -478,6 +567,7 @@ static inline uint32_t tsc_checked_may_write(tsc_store *store, uint64_t handle, 
                          spans_len, write, out);
 }
 
+TSC_NODISCARD
 static inline uint32_t tsc_checked_summary(tsc_store *store, uint64_t handle, const void *from,
                                            size_t from_len, const void *to, size_t to_len,
                                            uint32_t ends, size_t most, void *out, size_t room,
@@ -490,6 +580,7 @@ static inline uint32_t tsc_checked_summary(tsc_store *store, uint64_t handle, co
                        most, out ? out : none, room, len);
 }
 
+TSC_NODISCARD
 static inline uint32_t tsc_checked_apply(tsc_store *store, uint64_t handle, const void *summary,
                                          size_t summary_len, const tsc_time *now, tsc_added *out)
 {
@@ -498,16 +589,22 @@ static inline uint32_t tsc_checked_apply(tsc_store *store, uint64_t handle, cons
     return tsc_apply(store, handle, tsc_bytes(summary), summary_len, now, out);
 }
 
+TSC_NODISCARD
 static inline uint32_t tsc_checked_low_water(tsc_store *store, uint64_t handle, tsc_time *out)
 {
-    return store && out ? tsc_low_water(store, handle, out) : (uint32_t)TSC_NULL;
+    if (!store || !out)
+        return TSC_NULL;
+    return tsc_low_water(store, handle, out);
 }
 
 static inline uint32_t tsc_checked_figures_of(tsc_store *store, uint64_t handle, tsc_figures *out)
 {
-    return store && out ? tsc_figures_of(store, handle, out) : (uint32_t)TSC_NULL;
+    if (!store || !out)
+        return TSC_NULL;
+    return tsc_figures_of(store, handle, out);
 }
 
+TSC_NODISCARD
 static inline uint32_t tsc_checked_seat_add(tsc_store *store, uint64_t seat, const void *from,
                                             size_t from_len, const void *to, size_t to_len,
                                             uint32_t ends, const tsc_value *value,
@@ -521,6 +618,7 @@ static inline uint32_t tsc_checked_seat_add(tsc_store *store, uint64_t seat, con
                         value, now, tries, place_in_history, out);
 }
 
+TSC_NODISCARD
 static inline uint32_t tsc_checked_seat_add_all(tsc_store *store, uint64_t seat, const void *keys,
                                                 size_t keys_len, const tsc_mark *marks,
                                                 size_t marks_len, const tsc_time *now,
@@ -535,6 +633,7 @@ static inline uint32_t tsc_checked_seat_add_all(tsc_store *store, uint64_t seat,
                             marks_len, now, tries, place_in_history, out);
 }
 
+TSC_NODISCARD
 static inline uint32_t tsc_checked_seat_get_max(tsc_store *store, uint64_t seat, const void *from,
                                                 size_t from_len, const void *to, size_t to_len,
                                                 uint32_t ends, uint64_t *seen, tsc_value *out)
@@ -545,6 +644,7 @@ static inline uint32_t tsc_checked_seat_get_max(tsc_store *store, uint64_t seat,
                             seen, out);
 }
 
+TSC_NODISCARD
 static inline uint32_t tsc_checked_seat_earliest_write(tsc_store *store, uint64_t seat,
                                                        const void *keys, size_t keys_len,
                                                        const tsc_span *spans, size_t spans_len,
@@ -558,6 +658,7 @@ static inline uint32_t tsc_checked_seat_earliest_write(tsc_store *store, uint64_
                                    spans_len, write, seen, out);
 }
 
+TSC_NODISCARD
 static inline uint32_t tsc_checked_seat_may_write(tsc_store *store, uint64_t seat,
                                                   const void *keys, size_t keys_len,
                                                   const tsc_span *spans, size_t spans_len,
@@ -571,16 +672,34 @@ static inline uint32_t tsc_checked_seat_may_write(tsc_store *store, uint64_t sea
                               spans_len, write, seen, out);
 }
 
+TSC_NODISCARD
 static inline uint32_t tsc_checked_seat_low_water(tsc_store *store, uint64_t seat, uint64_t *seen,
                                                   tsc_time *out)
 {
-    return store && seen && out ? tsc_seat_low_water(store, seat, seen, out) : (uint32_t)TSC_NULL;
+    if (!store || !seen || !out)
+        return TSC_NULL;
+    return tsc_seat_low_water(store, seat, seen, out);
 }
 
 static inline uint32_t tsc_checked_seat_figures_of(tsc_store *store, uint64_t seat,
                                                    uint64_t *seen, tsc_figures *out)
 {
-    return store && seen && out ? tsc_seat_figures_of(store, seat, seen, out) : (uint32_t)TSC_NULL;
+    if (!store || !seen || !out)
+        return TSC_NULL;
+    return tsc_seat_figures_of(store, seat, seen, out);
+}
+
+TSC_NODISCARD
+static inline uint32_t tsc_checked_seat_summary(tsc_store *store, uint64_t seat, const void *from,
+                                                size_t from_len, const void *to, size_t to_len,
+                                                uint32_t ends, size_t most, uint64_t *seen,
+                                                void *out, size_t room, size_t *len)
+{
+    uint8_t none[1];
+    if (!store || !seen || !len || (!from && from_len) || (!to && to_len) || (!out && room))
+        return TSC_NULL;
+    return tsc_seat_summary(store, seat, tsc_bytes(from), from_len, tsc_bytes(to), to_len, ends,
+                            most, seen, out ? out : none, room, len);
 }
 
 static inline uint32_t tsc_checked_replay(const void *trace, size_t trace_len, void *out,
@@ -652,6 +771,7 @@ static inline const char *tsc_text(uint32_t answer)
     case TSC_SUMMARY_LENGTH: return "the summary has another length";
     case TSC_SUMMARY_CHECKSUM: return "the summary was changed";
     case TSC_SUMMARY_FORM: return "the bytes are no summary";
+    case TSC_TRIES: return "with 0 tries no Add is ever made";
     case TSC_NULL: return "a pointer is null";
     default: return "no such answer";
     }

@@ -107,8 +107,68 @@ static void leaves(bool (*run)(void), const char *what)
         printf("%d %s leave %zu bytes\n", TIMES, what, after - before);
 }
 
+/* A store that goes on opens and closes for ever, beside a cache that stays open, and an old handle
+ * names nothing. */
+
+enum { PAIRS = 1000000, SHARED = 10000, SEATS = 64 };
+
+static bool pair(tsc_store *store)
+{
+    uint64_t n, other;
+    bool is_right = tsc_open(store, 132, 132, 2, 10, &LOW, &n) == TSC_OK &&
+                    tsc_open(store, 132, 132, 2, 10, &LOW, &other) == TSC_OK && other == n + 1 &&
+                    tsc_close(store, n) == TSC_OK;
+    return is_right && tsc_close(store, other) == TSC_OK && tsc_close(store, n) == TSC_CLOSED;
+}
+
+static bool with_seats(tsc_store *store)
+{
+    uint64_t n, adds;
+    bool is_right = tsc_open_shared(store, 132, 132, 2, 10, &LOW, SEATS, 9, &n) == TSC_OK;
+    for (uint64_t seat = 1; seat <= SEATS; seat++)
+        is_right = is_right && tsc_seat_close(store, n + seat) == TSC_OK;
+    return is_right && tsc_close_shared(store, n, &adds) == TSC_OK &&
+           tsc_seat_close(store, n + SEATS) == TSC_CLOSED;
+}
+
+static bool moved_on(tsc_store *store)
+{
+    tsc_store other = {NULL};
+    uint64_t n, moved;
+    bool is_right = tsc_open(store, 132, 132, 2, 10, &LOW, &n) == TSC_OK &&
+                    tsc_move(store, n, &other, &moved) == TSC_OK &&
+                    tsc_close(store, n) == TSC_CLOSED;
+    tsc_free(&other);
+    return is_right;
+}
+
+static void goes_on(bool (*run)(tsc_store *store), int times, uint64_t given, const char *what)
+{
+    tsc_store store = {NULL};
+    uint64_t stays, next;
+    bool is_right = tsc_open(&store, 132, 132, 2, 10, &LOW, &stays) == TSC_OK;
+    for (int i = 0; i < 10; i++)
+        is_right = run(&store) && is_right;
+    size_t before = in_use();
+    for (int i = 0; i < times; i++)
+        is_right = run(&store) && is_right;
+    size_t after = in_use();
+    check(is_right, what);
+    check(after == before, what);
+    if (after != before)
+        printf("%d of %s: from %zu bytes to %zu\n", times, what, before, after);
+    check(add(&store, stays) == TSC_OK && stays == 0, what);
+    check(tsc_open(&store, 132, 132, 2, 10, &LOW, &next) == TSC_OK &&
+              next == given * (uint64_t)(times + 10) + 1,
+          what);
+    tsc_free(&store);
+}
+
 int main(void)
 {
+    goes_on(pair, PAIRS, 2, "pairs in one store");
+    goes_on(with_seats, SHARED, 1 + SEATS, "shared caches in one store");
+    goes_on(moved_on, PAIRS / 10, 1, "moves out of one store");
     leaves(caches, "caches");
     leaves(refused_ones, "refused ones");
     leaves(shared_caches, "shared caches");

@@ -92,16 +92,20 @@ static uint32_t apply(tsc_store *store, uint64_t handle, const void *bytes, size
     return answer;
 }
 
-/* Whether two caches have the same figures. */
+/* Whether a cache is as it was, and only more was refused and looked up. */
 static bool same_figures(tsc_store *store, uint64_t handle, tsc_figures was)
 {
-    tsc_figures f = {0, 0, 0, 0};
-    return tsc_figures_of(store, handle, &f) == TSC_OK && memcmp(&f, &was, sizeof f) == 0;
+    tsc_figures f = {0, 0, 0, 0, 0, 0, 0, 0, 0};
+    bool told = tsc_figures_of(store, handle, &f) == TSC_OK;
+    bool more = f.refusals >= was.refusals && f.lookups >= was.lookups;
+    f.refusals = was.refusals;
+    f.lookups = was.lookups;
+    return told && more && memcmp(&f, &was, sizeof f) == 0;
 }
 
 static tsc_figures figures(tsc_store *store, uint64_t handle)
 {
-    tsc_figures f = {0, 0, 0, 0};
+    tsc_figures f = {0, 0, 0, 0, 0, 0, 0, 0, 0};
     EACH(tsc_figures_of(store, handle, &f) == TSC_OK);
     return f;
 }
@@ -473,9 +477,122 @@ static void refused_writes(void)
     tsc_free(&store);
 }
 
+/* ---- at a seat */
+
+/* One Add at a cache, and the same one at one of the seats in turn. */
+static bool add_both(tsc_store *store, uint64_t seat, const char *from, const char *to,
+                     uint64_t wall, uint8_t owner)
+{
+    tsc_value value = {wall, 0, {owner}};
+    tsc_added added;
+    uint64_t place;
+    uint32_t ends = to ? TSC_EXCLUDE_TO : TSC_POINT;
+    const char *end = to ? to : "";
+    return add(store, FORMER, from, to, wall, owner) &&
+           tsc_seat_add(store, seat, from, strlen(from), end, strlen(end), ends, &value, &AT_20,
+                        64, &place, &added) == TSC_OK;
+}
+
+/* A seat tells what a cache tells to which the same was added, byte for byte, and goes on. */
+static void seat_summaries(void)
+{
+    static uint8_t out[ROOM];
+    static const char long_key[4098] = {0};
+    enum { SHARED = 2, FIRST, SECOND, ADDS = 40 };
+    tsc_store store = TSC_STORE_INIT;
+    uint64_t handle = 77, seen = 77, adds = 77;
+    size_t len = 99;
+    tsc_added added;
+    tsc_value latest;
+    open_caches(&store, 2, 1024);
+    CHECK(tsc_open_shared(&store, 64, 1024, 2, UINT64_C(1) << 62, &LOW, 2, 99, &handle) == TSC_OK);
+    CHECK(handle == SHARED);
+    for (uint64_t i = 0; i < ADDS; i++) {
+        char key[3] = {'b', (char)('A' + i), 0};
+        EACH(add_both(&store, FIRST + i % 2, key, i % 3 ? "c" : NULL, 30 + i, 1 + i % 2));
+        for (size_t most = 0; most < 3; most++) {
+            const struct told *t = tell(&store, FORMER, "a", "d", most ? most * i : 0);
+            uint64_t seat = FIRST + (i + most) % 2;
+            EACH(tsc_checked_seat_summary(&store, seat, "a", 1, "d", 1, TSC_EXCLUDE_TO,
+                                          most ? most * i : 0, &seen, out, sizeof out,
+                                          &len) == TSC_OK);
+            EACH(seen == i + 1 && len == t->len && memcmp(out, t->bytes, len) == 0);
+        }
+    }
+    CHECK(failed == 0);
+
+    /* into a buffer that has room for them */
+    const struct told *t = tell(&store, FORMER, "a", "d", SIZE_MAX);
+    for (size_t room = 0; room <= t->len + 1; room++) {
+        memset(out, 7, sizeof out);
+        seen = len = 99;
+        uint32_t answer =
+            tsc_checked_seat_summary(&store, SECOND, "a", 1, "d", 1, TSC_EXCLUDE_TO, SIZE_MAX,
+                                     &seen, room ? out : NULL, room, &len);
+        EACH(seen == ADDS && len == t->len && answer == (room < len ? TSC_SHORT : TSC_OK));
+        EACH(room < len ? out[0] == 7 : memcmp(out, t->bytes, len) == 0 && out[len] == 7);
+    }
+    CHECK(failed == 0);
+
+    /* the next holder knows what all seats were told, and the shared cache goes on */
+    CHECK(tsc_apply(&store, NEXT, t->bytes, t->len, &AT_20, &added) == TSC_OK);
+    CHECK(known(&store, NEXT, "bB") == known(&store, FORMER, "bB"));
+    CHECK(add_both(&store, FIRST, "bz", NULL, 90, 1));
+    CHECK(tsc_checked_seat_get_max(&store, SECOND, "bz", 2, NULL, 0, TSC_POINT, &seen, &latest) ==
+              TSC_OK &&
+          latest.wall == 90 && seen == ADDS + 1);
+
+    /* refused as a summary of a cache is, and nothing is written */
+    memset(out, 7, sizeof out);
+    seen = 77, len = 9;
+    CHECK(tsc_seat_summary(&store, FIRST, "a", 1, "c", 1, 6, 9, &seen, out, 2, &len) == TSC_ENDS);
+    CHECK(tsc_seat_summary(&store, FIRST, long_key, 4097, "c", 1, TSC_POINT, 9, &seen, out, 2,
+                           &len) == TSC_KEY_TOO_LONG);
+    CHECK(tsc_seat_summary(&store, FIRST, "c", 1, "a", 1, 0, 9, &seen, out, 2, &len) ==
+          TSC_INVERTED);
+    CHECK(tsc_seat_summary(&store, FORMER, "a", 1, "c", 1, 0, 9, &seen, out, 2, &len) ==
+          TSC_CLOSED);
+    CHECK(tsc_seat_summary(&store, SHARED, "a", 1, "c", 1, 0, 9, &seen, out, 2, &len) ==
+          TSC_CLOSED);
+    CHECK(tsc_seat_summary(&store, 5, "a", 1, "c", 1, 0, 9, &seen, out, 2, &len) == TSC_CLOSED);
+    CHECK(seen == 77 && len == 9 && out[0] == 7 && out[1] == 7);
+    CHECK(tsc_checked_seat_summary(NULL, FIRST, "a", 1, "c", 1, 0, 9, &seen, out, 2, &len) ==
+          TSC_NULL);
+    CHECK(tsc_checked_seat_summary(&store, FIRST, NULL, 1, "c", 1, 0, 9, &seen, out, 2, &len) ==
+          TSC_NULL);
+    CHECK(tsc_checked_seat_summary(&store, FIRST, "a", 1, NULL, 1, 0, 9, &seen, out, 2, &len) ==
+          TSC_NULL);
+    CHECK(tsc_checked_seat_summary(&store, FIRST, "a", 1, "c", 1, 0, 9, NULL, out, 2, &len) ==
+          TSC_NULL);
+    CHECK(tsc_checked_seat_summary(&store, FIRST, "a", 1, "c", 1, 0, 9, &seen, NULL, 2, &len) ==
+          TSC_NULL);
+    CHECK(tsc_checked_seat_summary(&store, FIRST, "a", 1, "c", 1, 0, 9, &seen, out, 2, NULL) ==
+          TSC_NULL);
+    CHECK(seen == 77 && len == 9 && out[0] == 7);
+
+    /* each request for memory refused in turn */
+    uint32_t answer = TSC_NO_MEMORY;
+    uint64_t told = 0;
+    for (refused_request = 1; answer == TSC_NO_MEMORY; refused_request++) {
+        requests = 0;
+        answer = tsc_seat_summary(&store, FIRST, "a", 1, "d", 1, TSC_EXCLUDE_TO, SIZE_MAX, &seen,
+                                  out, ROOM, &len);
+        EACH(answer == TSC_OK || (len == 9 && out[0] == 7 && seen == 77));
+        told += answer == TSC_NO_MEMORY;
+    }
+    refused_request = 0;
+    CHECK(answer == TSC_OK && told > 5 && out[0] == 1 && seen == ADDS + 1);
+
+    /* a summary keeps nothing of the cache */
+    CHECK(tsc_seat_close(&store, FIRST) == TSC_OK && tsc_seat_close(&store, SECOND) == TSC_OK);
+    CHECK(tsc_close_shared(&store, SHARED, &adds) == TSC_OK && adds == ADDS + 1);
+    tsc_free(&store);
+}
+
 int main(void)
 {
     buffers();
+    seat_summaries();
     marks();
     refused_spans();
     changed_bytes();

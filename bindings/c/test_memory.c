@@ -51,7 +51,7 @@ static void of_a_cache(void)
     tsc_added added;
     tsc_value value;
     tsc_mark marks[2] = {{0, 1, 0, 0, {30, 0, {0}}, TSC_POINT}, {1, 1, 0, 0, {31, 0, {0}}, TSC_POINT}};
-    asks("tsc_open", tsc_checked_open(&store, 1024, 1024, 2, 10, &LOW, &n), 4, 720);
+    asks("tsc_open", tsc_checked_open(&store, 1024, 1024, 2, 10, &LOW, &n), 5, 900);
     asks("tsc_open of a second one", tsc_checked_open(&store, 1024, 1024, 2, 10, &LOW, &second), 2, 132);
     asks("tsc_add of a first key", tsc_checked_add(&store, n, "x", 1, NULL, 0, TSC_POINT, &READ, &NOW, &added), 8, 315);
     asks("tsc_add of a second key", tsc_checked_add(&store, n, "y", 1, NULL, 0, TSC_POINT, &READ, &NOW, &added), 4, 430);
@@ -68,8 +68,14 @@ static void of_a_cache(void)
     asks("tsc_summary of two keys", tsc_checked_summary(&store, n, "x", 1, "y", 1, 0, SIZE_MAX, told, sizeof told, &len), 18, 1060);
     asks("tsc_apply of what is known", tsc_checked_apply(&store, n, told, len, &NOW, &added), 16, 1290);
     asks("tsc_apply to an empty cache", tsc_checked_apply(&store, second, told, len, &NOW, &added), 24, 1620);
-    asks("tsc_move to an empty store", tsc_checked_move(&store, n, &other, &moved), 2, 590);
+    asks("tsc_move to an empty store", tsc_checked_move(&store, n, &other, &moved), 3, 770);
     asks("tsc_move of a second one", tsc_checked_move(&store, second, &other, &moved), 0, 0);
+    tsc_figures figures;
+    asks("tsc_low_water", tsc_checked_low_water(&other, moved, &first), 0, 0);
+    asks("tsc_figures_of", tsc_checked_figures_of(&other, moved, &figures), 0, 0);
+    asks("tsc_close", tsc_checked_close(&other, moved), 0, 0);
+    asks("tsc_close of the other", tsc_checked_close(&other, moved - 1), 0, 0);
+    asks("tsc_open where two were closed", tsc_checked_open(&other, 1024, 1024, 2, 10, &LOW, &n), 2, 132);
     tsc_checked_free(&store);
     tsc_checked_free(&other);
 }
@@ -80,12 +86,24 @@ static void of_seats(void)
     uint64_t n = 77, moved = 77, at = 77, seen = 77;
     tsc_added added;
     tsc_value value;
-    asks("tsc_open_shared", tsc_checked_open_shared(&store, 1024, 1024, 2, 10, &LOW, 2, 9, &n), 22, 5760);
+    asks("tsc_open_shared", tsc_checked_open_shared(&store, 1024, 1024, 2, 10, &LOW, 2, 9, &n), 23, 5760);
     asks("tsc_seat_add of a first key", tsc_checked_seat_add(&store, n + 1, "x", 1, NULL, 0, TSC_POINT, &READ, &NOW, 1, &at, &added), 9, 316);
     asks("tsc_seat_add of a second key", tsc_checked_seat_add(&store, n + 1, "y", 1, NULL, 0, TSC_POINT, &READ, &NOW, 1, &at, &added), 13, 745);
     asks("tsc_seat_add of a known key", tsc_checked_seat_add(&store, n + 1, "y", 1, NULL, 0, TSC_POINT, &LATER, &NOW, 1, &at, &added), 6, 430);
     asks("tsc_seat_get_max", tsc_checked_seat_get_max(&store, n + 2, "x", 1, NULL, 0, TSC_POINT, &seen, &value), 0, 0);
-    asks("tsc_move of a seat", tsc_checked_move(&store, n + 1, &other, &moved), 2, 590);
+    uint8_t told[300];
+    size_t len = 0;
+    tsc_figures figures;
+    tsc_time first;
+    tsc_span span = {0, 1, 0, 0, TSC_POINT};
+    bool may = false;
+    asks("tsc_seat_figures_of", tsc_checked_seat_figures_of(&store, n + 2, &seen, &figures), 0, 0);
+    asks("tsc_seat_low_water", tsc_checked_seat_low_water(&store, n + 2, &seen, &first), 0, 0);
+    asks("tsc_seat_earliest_write", tsc_checked_seat_earliest_write(&store, n + 2, "x", 1, &span, 1, &LATER, &seen, &first), 0, 0);
+    asks("tsc_seat_may_write", tsc_checked_seat_may_write(&store, n + 2, "x", 1, &span, 1, &LATER, &seen, &may), 0, 0);
+    asks("tsc_seat_summary of two keys", tsc_checked_seat_summary(&store, n + 2, "x", 1, "y", 1, 0, SIZE_MAX, &seen, told, sizeof told, &len), 18, 1060);
+    asks("tsc_seat_close", tsc_checked_seat_close(&store, n + 2), 0, 0);
+    asks("tsc_move of a seat", tsc_checked_move(&store, n + 1, &other, &moved), 3, 770);
     tsc_checked_free(&store);
     tsc_checked_free(&other);
 }

@@ -141,6 +141,7 @@ static const char *name_of(uint32_t answer)
     case TSC_SUMMARY_LENGTH: return "summary_length";
     case TSC_SUMMARY_CHECKSUM: return "summary_checksum";
     case TSC_SUMMARY_FORM: return "summary_form";
+    case TSC_TRIES: return "tries";
     default: return tsc_text(answer);
     }
 }
@@ -304,7 +305,7 @@ static void ask(struct question *q, char *const *words, int count)
 }
 
 /* The earliest time at which a write may be made, and whether it may at once: it may just where
- * that is its own time, and it may at the time that is told. */
+ * that is its own time, and it may at the time that is told. Both questions are refused alike. */
 static uint32_t earliest(struct table *t, const struct question *q, tsc_value write, tsc_time *at,
                          bool *may)
 {
@@ -313,6 +314,10 @@ static uint32_t earliest(struct table *t, const struct question *q, tsc_value wr
     uint32_t answer = earliest_write(t, q->keys, q->len, q->spans, q->count, &write, at),
              other = may_write(t, q->keys, q->len, q->spans, q->count, &write, may);
     bool is_told = answer == TSC_OK && at->wall == write.wall && at->logical == write.logical;
+    if (answer != TSC_OK && answer != TSC_NO_TIME) {
+        t->is_right = t->is_right && other == answer;
+        return answer;
+    }
     t->is_right = t->is_right && other == TSC_OK && *may == is_told;
     if (answer == TSC_OK) {
         at_told.wall = at->wall;
@@ -498,11 +503,13 @@ static void call(struct table *t, const struct line *l, char *told)
         bool may = false;
         ask(&q, w + 3, l->calls - 3);
         uint32_t answer = earliest(t, &q, value_of(w[1], w[2]), &at, &may);
-        if (strcmp(w[0], "may") == 0)
+        if (answer != TSC_OK && answer != TSC_NO_TIME)
+            strcpy(told, name_of(answer));
+        else if (strcmp(w[0], "may") == 0)
             strcpy(told, may ? "yes" : "no");
         else if (answer == TSC_OK)
             sprintf(told, "%" PRIu64 ".%" PRIu32, at.wall, at.logical);
-        else if (answer == TSC_NO_TIME)
+        else
             strcpy(told, "none");
     } else if (strcmp(w[0], "summary") == 0) {
         struct span s = span_of(w[2]);

@@ -49,7 +49,7 @@ static bool answers(tsc_store *store, uint64_t seat, const char *key, uint64_t w
 static bool has(tsc_store *store, uint64_t seat, uint64_t pages, uint64_t rotations, uint64_t seen)
 {
     uint64_t long_ = 99;
-    tsc_figures f = {99, 99, 99, 99};
+    tsc_figures f = {99, 99, 99, 99, 99, 99, 99, 99, 99};
     return tsc_checked_seat_figures_of(store, seat, &long_, &f) == TSC_OK && f.pages == pages && f.rotations == rotations && long_ == seen;
 }
 
@@ -57,7 +57,7 @@ static bool has(tsc_store *store, uint64_t seat, uint64_t pages, uint64_t rotati
 static bool counts(tsc_store *store, uint64_t seat, uint64_t nodes, uint64_t bytes)
 {
     uint64_t long_ = 99;
-    tsc_figures f = {99, 99, 99, 99};
+    tsc_figures f = {99, 99, 99, 99, 99, 99, 99, 99, 99};
     return tsc_checked_seat_figures_of(store, seat, &long_, &f) == TSC_OK && f.nodes == nodes && f.bytes == bytes;
 }
 
@@ -100,7 +100,7 @@ static void nulls(void)
     tsc_added a = {99, false, true};
     tsc_value v = {7, 7, {7}};
     tsc_time floor = {7, 7};
-    tsc_figures f = {7, 7, 7, 7};
+    tsc_figures f = {7, 7, 7, 7, 7, 7, 7, 7, 7};
     tsc_mark mark = {0, 1, 0, 0, {30, 0, {0}}, TSC_POINT};
     CHECK(open_shared(p, 1, 9, &n) == TSC_OK && n == 0);
     CHECK(tsc_checked_seat_add(NULL, 1, "a", 1, NULL, 0, TSC_POINT, &READ, &NOW, 1, &at, &a) == TSC_NULL && tsc_checked_seat_add(p, 1, NULL, 1, NULL, 0, TSC_POINT, &READ, &NOW, 1, &at, &a) == TSC_NULL);
@@ -148,7 +148,7 @@ static void refusals(void)
     uint64_t n = 77, own = 77, at = 77, seen = 77, adds = 77;
     tsc_added added = {99, false, true};
     tsc_value v = {7, 7, {7}};
-    tsc_figures f = {7, 7, 7, 7};
+    tsc_figures f = {7, 7, 7, 7, 7, 7, 7, 7, 7};
     uint32_t not_allowed[] = {0, 65, 100000000, UINT32_MAX};
     for (size_t i = 0; i < sizeof not_allowed / sizeof *not_allowed; i++)
         CHECK(open_shared(&store, not_allowed[i], 9, &n) == TSC_SEATS && n == 77 && store.at == NULL);
@@ -169,19 +169,28 @@ static void refusals(void)
     char long_key[4097];
     memset(long_key, 'k', sizeof long_key);
     tsc_mark one = {0, 1, 0, 0, {30, 0, {0}}, TSC_POINT};
-    CHECK(add(&store, 1, "a", 0, &at) == TSC_BUSY && at == 77 && answers(&store, 1, "a", 5, 0));
-    CHECK(tsc_checked_seat_add_all(&store, 1, "a", 1, &one, 1, &NOW, 0, &at, &added) == TSC_BUSY && at == 77 && answers(&store, 1, "a", 5, 0));
-    CHECK(tsc_checked_seat_add_all(&store, 1, NULL, 0, NULL, 0, &NOW, 0, &at, &added) == TSC_BUSY && at == 77 && has(&store, 1, 1, 0, 0));
+    CHECK(add(&store, 1, "a", 0, &at) == TSC_TRIES && at == 77 && answers(&store, 1, "a", 5, 0));
+    CHECK(tsc_checked_seat_add_all(&store, 1, "a", 1, &one, 1, &NOW, 0, &at, &added) == TSC_TRIES && at == 77 && answers(&store, 1, "a", 5, 0));
+    CHECK(tsc_checked_seat_add_all(&store, 1, NULL, 0, NULL, 0, &NOW, 0, &at, &added) == TSC_TRIES && at == 77 && has(&store, 1, 1, 0, 0));
     CHECK(tsc_checked_seat_add(&store, 1, "c", 1, "a", 1, 0, &READ, &NOW, 1, &at, &added) == TSC_INVERTED);
     CHECK(tsc_checked_seat_add(&store, 1, "a", 1, NULL, 0, 6, &READ, &NOW, 1, &at, &added) == TSC_ENDS);
     CHECK(tsc_checked_seat_add(&store, 1, long_key, 4097, NULL, 0, TSC_POINT, &READ, &NOW, 1, &at, &added) == TSC_KEY_TOO_LONG);
-    CHECK(tsc_checked_seat_add(&store, 1, long_key, 993, NULL, 0, TSC_POINT, &READ, &NOW, 0, &at, &added) == TSC_TOO_LARGE);
+    CHECK(tsc_checked_seat_add(&store, 1, long_key, 993, NULL, 0, TSC_POINT, &READ, &NOW, 1, &at, &added) == TSC_TOO_LARGE);
     tsc_value late = {UINT64_C(1) << 63, 0, {0}};
     tsc_time odd = {0, UINT32_C(1) << 31};
     CHECK(tsc_checked_seat_add(&store, 1, "a", 1, NULL, 0, TSC_POINT, &late, &NOW, 1, &at, &added) == TSC_TIME);
     CHECK(tsc_checked_seat_add(&store, 1, "a", 1, NULL, 0, TSC_POINT, &READ, &odd, 1, &at, &added) == TSC_TIME);
     tsc_mark outside = {1, 1, 0, 0, {30, 0, {0}}, TSC_POINT};
     CHECK(tsc_checked_seat_add_all(&store, 1, "x", 1, &outside, 1, &NOW, 1, &at, &added) == TSC_OUTSIDE && at == 77 && added.evicted == 99);
+    /* 0 tries are told before all else that is wrong, and after a handle that names no seat */
+    CHECK(tsc_checked_seat_add(&store, 1, "c", 1, "a", 1, 6, &late, &odd, 0, &at, &added) == TSC_TRIES);
+    CHECK(tsc_checked_seat_add(&store, n, "c", 1, NULL, 0, 6, &late, &odd, 0, &at, &added) == TSC_CLOSED);
+    CHECK(tsc_checked_seat_add_all(&store, 1, "x", 1, &outside, 1, &odd, 0, &at, &added) == TSC_TRIES);
+    CHECK(tsc_checked_seat_add_all(&store, n, "x", 1, &outside, 1, &odd, 0, &at, &added) == TSC_CLOSED && at == 77 && added.evicted == 99);
+    /* each of these Adds was refused at the first seat, and none at the other ones */
+    CHECK(tsc_checked_seat_figures_of(&store, 1, &seen, &f) == TSC_OK && f.refusals == 12 && f.adds == 0 && f.lookups == 2);
+    CHECK(tsc_checked_seat_figures_of(&store, 2, &seen, &f) == TSC_OK && f.refusals == 0 && f.adds == 0 && f.lookups == 0);
+    seen = 77, f = (tsc_figures){7, 7, 7, 7, 7, 7, 7, 7, 7};
     CHECK(tsc_checked_seat_get_max(&store, 1, "a", 1, NULL, 0, 6, &seen, &v) == TSC_ENDS && seen == 77 && v.wall == 7);
     CHECK(tsc_checked_seat_get_max(&store, 1, "c", 1, "a", 1, 0, &seen, &v) == TSC_OK && seen == 0 && v.wall == 5);
     CHECK(tsc_checked_seat_add_all(&store, 1, NULL, 0, NULL, 0, &NOW, 1, &at, &added) == TSC_OK && at == 0); /* no marks are an entry too */

@@ -152,10 +152,19 @@ static bool has(struct cache *c, uint64_t pages, uint64_t rotations, uint64_t wa
         && tsc_low_water(&c->store, c->handle, &floor) == TSC_OK && floor.wall == wall && floor.logical == logical;
 }
 
+/* What was asked of the cache, and how many pages its Adds dropped. */
+static bool asked(struct cache *c, uint64_t adds, uint64_t refusals, uint64_t lookups,
+                  uint64_t evicted)
+{
+    tsc_figures f = {99, 99, 99, 99, 99, 99, 99, 99, 99};
+    return tsc_figures_of(&c->store, c->handle, &f) == TSC_OK && f.adds == adds &&
+           f.refusals == refusals && f.lookups == lookups && f.evicted == evicted;
+}
+
 /* How many keys the pages hold, each counted once for each page, and what they cost. */
 static bool counts(struct cache *c, uint64_t nodes, uint64_t bytes)
 {
-    tsc_figures f = {99, 99, 99, 99};
+    tsc_figures f = {99, 99, 99, 99, 99, 99, 99, 99, 99};
     return tsc_figures_of(&c->store, c->handle, &f) == TSC_OK && f.nodes == nodes && f.bytes == bytes;
 }
 
@@ -463,11 +472,12 @@ static void texts(void)
         "the span is too large for a page", "a key does not lie among the bytes", "page_first is 64 to page_max, and page_max is at most 2^30", "min_pages is 1 to 64",
         "retention is at most 2^63 - 1 nanoseconds", "out of memory", "seats are 1 to 64", "a seat is still out", "others were in the way", "there are as many Adds as there may be",
         "the bytes are refused, and the text says why", "what is told is longer than the buffer", "there is no time at which the write may be made",
-        "the summary is of another version", "the summary has another length", "the summary was changed", "the bytes are no summary", "a pointer is null"};
+        "the summary is of another version", "the summary has another length", "the summary was changed", "the bytes are no summary",
+        "with 0 tries no Add is ever made", "a pointer is null"};
     static const uint32_t ANSWERS[] = {
         TSC_OK, TSC_CLOSED, TSC_TIME, TSC_ENDS, TSC_KEY_TOO_LONG, TSC_INVERTED, TSC_TOO_LARGE, TSC_OUTSIDE, TSC_PAGE_SIZE, TSC_MIN_PAGES, TSC_RETENTION, TSC_NO_MEMORY,
         TSC_SEATS, TSC_STILL_OUT, TSC_BUSY, TSC_FULL, TSC_REFUSED, TSC_SHORT, TSC_NO_TIME, TSC_SUMMARY_VERSION, TSC_SUMMARY_LENGTH,
-        TSC_SUMMARY_CHECKSUM, TSC_SUMMARY_FORM, TSC_NULL};
+        TSC_SUMMARY_CHECKSUM, TSC_SUMMARY_FORM, TSC_TRIES, TSC_NULL};
     for (size_t i = 0; i < sizeof TEXTS / sizeof *TEXTS; i++)
         CHECK(strcmp(tsc_text(ANSWERS[i]), TEXTS[i]) == 0);
 }
@@ -494,12 +504,16 @@ static void writes(void)
         CHECK(tsc_checked_earliest_write(&c.store, c.handle, NULL, 0, NULL, 0, &write, &at) == TSC_OK && at.wall == 15 && at.logical == 3);
     }
     /* refused, and nothing is written */
-    static const tsc_span OUT = {1, 2, 0, 0, TSC_POINT}, BEHIND = {0, 1, 3, 0, TSC_POINT}, ENDS = {0, 1, 0, 0, 6};
-    const tsc_span *const wrong[] = {&OUT, &BEHIND, &ENDS};
+    static const tsc_span OUT = {1, 2, 0, 0, TSC_POINT}, BEHIND = {0, 1, 3, 0, TSC_POINT}, ENDS = {0, 1, 0, 0, 6}, BACK = {1, 1, 0, 1, TSC_EXCLUDE_TO};
+    const tsc_span *const wrong[] = {&OUT, &BEHIND, &ENDS, &BACK};
+    const uint32_t answers_to[] = {TSC_OUTSIDE, TSC_OUTSIDE, TSC_ENDS, TSC_INVERTED};
+    bool may = true;
     tsc_value never = {INT64_MAX + UINT64_C(1), 0, {0}}, write = {15, 3, {0x22}};
     at = (tsc_time){7, 8}, seen = 7;
-    for (int i = 0; i < 3; i++) {
-        uint32_t answer = i < 2 ? TSC_OUTSIDE : TSC_ENDS;
+    for (int i = 0; i < 4; i++) {
+        uint32_t answer = answers_to[i];
+        CHECK(tsc_may_write(&c.store, c.handle, "bc", 2, wrong[i], 1, &write, &may) == answer && may);
+        CHECK(tsc_seat_may_write(&c.store, n + 1, "bc", 2, wrong[i], 1, &write, &seen, &may) == answer && may);
         CHECK(tsc_earliest_write(&c.store, c.handle, "bc", 2, wrong[i], 1, &write, &at) == answer);
         CHECK(tsc_seat_earliest_write(&c.store, n + 1, "bc", 2, wrong[i], 1, &write, &seen, &at) == answer);
     }
@@ -509,6 +523,107 @@ static void writes(void)
     CHECK(tsc_earliest_write(&c.store, c.handle, "bc", 2, SPANS, 3, &write, &at) == TSC_NO_TIME);
     CHECK(tsc_seat_earliest_write(&c.store, n + 1, "bc", 2, SPANS, 3, &write, &seen, &at) == TSC_NO_TIME);
     CHECK(at.wall == 7 && at.logical == 8 && seen == 7);
+    tsc_free(&c.store);
+}
+
+/* Each handle counts what was asked of it, and a call that is refused is no lookup. */
+static void counted(void)
+{
+    static const tsc_span SPAN = {0, 1, 0, 0, TSC_POINT}, BACK = {0, 1, 1, 1, 0};
+    static const tsc_value WRITE = {15, 0, {0x22}}, LATE = {UINT64_MAX, 0, {0}};
+    static const tsc_value LAST = {INT64_MAX, INT32_MAX, {0x11}};
+    struct cache c = open_cache(132, 132, 2);
+    tsc_mark marks[2] = {{0, 1, 0, 0, {20, 0, {0x11}}, TSC_POINT},
+                         {1, 1, 0, 0, {20, 0, {0x11}}, TSC_POINT}};
+    tsc_store other = TSC_STORE_INIT;
+    tsc_time at, low = {5, 0};
+    tsc_value v;
+    tsc_added a;
+    tsc_figures f;
+    uint64_t second = 77, moved = 77;
+    uint8_t summary[300];
+    size_t len = 0;
+    bool may;
+    CHECK(asked(&c, 0, 0, 0, 0));
+    CHECK(adds_at(&c, "a", 20, 'A', AT_20, true, false, 0) && asked(&c, 1, 0, 0, 0));
+    CHECK(tsc_add_all(&c.store, c.handle, "bc", 2, marks, 2, &AT_20, &a) == TSC_OK);
+    CHECK(asked(&c, 2, 0, 0, 0));
+    CHECK(tsc_checked_get_max(&c.store, c.handle, "a", 1, NULL, 0, TSC_POINT, &v) == TSC_OK);
+    CHECK(tsc_checked_get_max(&c.store, c.handle, "c", 1, "a", 1, 0, &v) == TSC_OK);
+    CHECK(asked(&c, 2, 0, 2, 0));
+    CHECK(tsc_checked_get_max(&c.store, c.handle, "a", 1, NULL, 0, 6, &v) == TSC_ENDS);
+    CHECK(tsc_low_water(&c.store, c.handle, &at) == TSC_OK && asked(&c, 2, 0, 2, 0));
+    CHECK(tsc_earliest_write(&c.store, c.handle, "ba", 2, &SPAN, 1, &WRITE, &at) == TSC_OK);
+    CHECK(tsc_may_write(&c.store, c.handle, "ba", 2, &SPAN, 1, &WRITE, &may) == TSC_OK && !may);
+    CHECK(asked(&c, 2, 0, 4, 0));
+    CHECK(tsc_earliest_write(&c.store, c.handle, "ba", 2, &BACK, 1, &WRITE, &at) == TSC_INVERTED);
+    CHECK(tsc_may_write(&c.store, c.handle, "ba", 2, &BACK, 1, &WRITE, &may) == TSC_INVERTED);
+    CHECK(tsc_earliest_write(&c.store, c.handle, "ba", 2, &SPAN, 1, &LATE, &at) == TSC_TIME);
+    CHECK(asked(&c, 2, 0, 4, 0));
+    CHECK(tsc_checked_add(&c.store, c.handle, "a", 1, NULL, 0, 6, &WRITE, &AT_20, &a) == TSC_ENDS);
+    CHECK(tsc_checked_add(&c.store, c.handle, "c", 1, "a", 1, 0, &WRITE, &AT_20, &a) ==
+          TSC_INVERTED);
+    marks[1].ends = 6;
+    CHECK(tsc_add_all(&c.store, c.handle, "bc", 2, marks, 2, &AT_20, &a) == TSC_ENDS);
+    CHECK(tsc_apply(&c.store, c.handle, "x", 1, &AT_20, &a) == TSC_SUMMARY_VERSION ||
+          tsc_apply(&c.store, c.handle, "x", 1, &AT_20, &a) == TSC_SUMMARY_LENGTH);
+    CHECK(tsc_figures_of(&c.store, c.handle, &f) == TSC_OK && f.refusals >= 4 && f.adds == 2);
+
+    /* a summary is no lookup, and one that is applied is an Add */
+    CHECK(tsc_open(&c.store, 132, 132, 2, 10, &low, &second) == TSC_OK);
+    CHECK(tsc_checked_summary(&c.store, c.handle, "a", 1, "d", 1, TSC_EXCLUDE_TO, SIZE_MAX,
+                              summary, sizeof summary, &len) == TSC_OK);
+    CHECK(tsc_apply(&c.store, second, summary, len, &AT_20, &a) == TSC_OK);
+    CHECK(tsc_figures_of(&c.store, second, &f) == TSC_OK && f.adds == 1 && f.refusals == 0 &&
+          f.lookups == 0 && f.evicted == a.evicted);
+
+    /* pages that Adds drop, and no write at all */
+    struct cache dropping = open_cache(66, 66, 1);
+    uint64_t dropped = 0, many = 0;
+    for (uint64_t i = 0; i < 26; i++, many++) {
+        char key[2] = {(char)('a' + i), 0};
+        tsc_value read = {30 + i, 0, {0x11}};
+        tsc_time now = {100 * i + 100, 0};
+        CHECK(tsc_checked_add(&dropping.store, dropping.handle, key, 1, NULL, 0, TSC_POINT, &read,
+                              &now, &a) == TSC_OK);
+        dropped += a.evicted;
+    }
+    CHECK(dropped > 5 && asked(&dropping, many, 0, 0, dropped));
+    tsc_time far = {INT64_MAX, 0};
+    CHECK(tsc_checked_add(&dropping.store, dropping.handle, "b", 1, NULL, 0, TSC_POINT, &LAST,
+                          &far, &a) == TSC_OK);
+    CHECK(tsc_earliest_write(&dropping.store, dropping.handle, "ba", 2, &SPAN, 1, &WRITE, &at) ==
+          TSC_NO_TIME);
+    CHECK(asked(&dropping, many + 1, 0, 0, dropped + a.evicted));
+    tsc_free(&dropping.store);
+
+    /* what is moved takes its counts along, and the next handle has none */
+    CHECK(tsc_figures_of(&c.store, c.handle, &f) == TSC_OK);
+    tsc_figures there = {0};
+    CHECK(tsc_move(&c.store, c.handle, &other, &moved) == TSC_OK && moved == 0);
+    CHECK(tsc_figures_of(&other, moved, &there) == TSC_OK && memcmp(&f, &there, sizeof f) == 0);
+    c.handle = 77;
+    CHECK(tsc_open(&c.store, 132, 132, 2, 10, &low, &c.handle) == TSC_OK && c.handle == 2);
+    CHECK(asked(&c, 0, 0, 0, 0));
+    tsc_free(&c.store);
+    tsc_free(&other);
+}
+
+/* What the pages really take is no less than what their keys cost by count, and grows with them. */
+static void memory_taken(void)
+{
+    struct cache c = open_cache(1 << 16, 1 << 20, 2);
+    tsc_figures f = {0}, before = {0};
+    CHECK(tsc_figures_of(&c.store, c.handle, &before) == TSC_OK);
+    for (int i = 0; i < 1000; i++) {
+        char key[5] = {'k', (char)('0' + i / 100), (char)('0' + i / 10 % 10), (char)('0' + i % 10)};
+        tsc_value read = {20, 0, {0x11}};
+        tsc_added a;
+        CHECK(tsc_checked_add(&c.store, c.handle, key, 4, NULL, 0, TSC_POINT, &read, &AT_20, &a) ==
+              TSC_OK);
+    }
+    CHECK(tsc_figures_of(&c.store, c.handle, &f) == TSC_OK && f.nodes == 1000);
+    CHECK(f.memory > before.memory + f.bytes && f.memory < 20 * f.bytes);
     tsc_free(&c.store);
 }
 
@@ -522,7 +637,7 @@ static void nulls(void)
     tsc_added a = {99, true, true};
     tsc_mark mark = {0, 1, 0, 0, {20, 0, {0}}, TSC_POINT};
     tsc_time floor = {7, 8};
-    tsc_figures f = {7, 8, 9, 10};
+    tsc_figures f = {7, 8, 9, 10, 11, 12, 13, 14, 15};
     CHECK(tsc_checked_add(NULL, n, "b", 1, NULL, 0, TSC_POINT, &v, &AT_20, &a) == TSC_NULL && tsc_checked_add(p, n, NULL, 1, NULL, 0, TSC_POINT, &v, &AT_20, &a) == TSC_NULL);
     CHECK(tsc_checked_add(p, n, "b", 1, NULL, 1, 0, &v, &AT_20, &a) == TSC_NULL && tsc_checked_add(p, n, "b", 1, NULL, 0, TSC_POINT, NULL, &AT_20, &a) == TSC_NULL);
     CHECK(tsc_checked_add(p, n, "b", 1, NULL, 0, TSC_POINT, &v, NULL, &a) == TSC_NULL && tsc_checked_add(p, n, "b", 1, NULL, 0, TSC_POINT, &v, &AT_20, NULL) == TSC_NULL);
@@ -629,7 +744,7 @@ static uint64_t names_something(tsc_store *store, uint64_t handle)
     tsc_value v = {7, 7, {7}};
     tsc_added a = {7, false, true};
     tsc_time floor = {7, 7};
-    tsc_figures f = {7, 7, 7, 7};
+    tsc_figures f = {7, 7, 7, 7, 7, 7, 7, 7, 7};
     uint64_t at = 7, seen = 7, moved = 7, adds = 7, wrong = 0;
     uint8_t out[2] = {7, 7};
     size_t len = 7;
@@ -862,8 +977,7 @@ static int measure(void)
             x ^= x >> 7;
             x ^= x << 17;
             key_of(key, x % KEYS);
-            tsc_get_max(&c.store, c.handle, key, 8, key, 8, TSC_POINT, &v);
-            sum += v.wall;
+            sum += tsc_get_max(&c.store, c.handle, key, 8, key, 8, TSC_POINT, &v) + v.wall;
         }
         double took = seconds() - start;
         lookup = took < lookup ? took : lookup;
@@ -875,8 +989,7 @@ static int measure(void)
             key_of(key, x % KEYS);
             tsc_time now = {wall, 0};
             v.wall = wall++;
-            tsc_add(&c.store, c.handle, key, 8, key, 8, TSC_POINT, &v, &now, &a);
-            sum += a.kept;
+            sum += tsc_add(&c.store, c.handle, key, 8, key, 8, TSC_POINT, &v, &now, &a) + a.kept;
         }
         took = seconds() - start;
         add = took < add ? took : add;
@@ -906,6 +1019,8 @@ int main(int argc, char **argv)
     refusals();
     texts();
     writes();
+    counted();
+    memory_taken();
     nulls();
     lookups();
     times();

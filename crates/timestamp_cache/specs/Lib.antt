@@ -7,3 +7,4 @@ pub mod SummaryReading
 pub mod SummaryLaws
 pub mod Laws
 pub mod Words
+pub mod SeatSummaries

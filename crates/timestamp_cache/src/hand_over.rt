@@ -8,11 +8,14 @@ ghost use Rattle.tsc_cache.specs.Batch.{all_fit, is_any_kept, AddsAll};
 ghost use Rattle.tsc_cache.specs.CacheView.{RepresentsState};
 ghost use Rattle.tsc_cache.specs.Keys.{keys_seen};
 ghost use Rattle.timestamp_cache.specs.HandOver.{marks_told, RefusesOnlyFor, Summarizes, TakesOver};
+ghost use Rattle.tsc_shared.specs.Answers.{HasLookedOn};
+ghost use Rattle.timestamp_cache.specs.SeatSummaries.{SummarizesAt};
 ghost use Rattle.timestamp_cache.specs.Stretches.{is_after, stretch_end, IsStretch, told_more};
 
 use std::alloc::Global;
 use std::marker::Model;
 use tsc_cache::{Added, Cache, CacheFault, Mark, TimestampCache};
+use tsc_shared::{Seat, SharedCache};
 use tsc_span::{Cut, Ends, Key, Span, SpanRef};
 use tsc_time::{NoMemory, Timestamp, Value};
 
@@ -34,6 +37,14 @@ impl Model for ReadSummary {
     ghost Value = { Summary };
 
     ghost view = { λ s. record { span = s.span; floor = s.floor; marks = s.marks.items } };
+}
+
+/// What a seat of a shared cache is told of the reads of a span.
+#[derive(Debug, Drop)]
+pub struct SeatSummary {
+    pub summary: ReadSummary,
+    /// The length of the history that is summarized, which the seat has seen then.
+    pub front: u64,
 }
 
 /// Summarizes what a cache answers on a span, in at most `most` marks.
@@ -62,6 +73,35 @@ pub fn summary(
         Some(cuts) => told.over(alloc, cache, cuts, most),
         None => Ok(told),
     }
+}
+
+/// As [`summary`], at a seat of a shared cache, which goes on: of the cache after a history that
+/// begins with all that the seat has seen, and that has each Add that returned before, as in
+/// [`get_max`](SharedCache::get_max). The seat has then seen all of it.
+///
+/// The summary tells no less than each read of that history on the span. So a lease moves in this
+/// order: the old holder answers no further read of the span, its threads' Adds return, and a seat
+/// then summarizes.
+///
+/// The call waits for nobody. It is made over a [`snapshot`](SharedCache::snapshot), so an Add
+/// meanwhile waits for no more than a lookup, and finds the pages shared. Where memory is refused,
+/// the seat has seen as much as after a lookup.
+pub fn summary_at(
+    alloc: Global,
+    cache: &SharedCache,
+    seat: &mut Seat,
+    span: &Span,
+    most: usize,
+) -> Result<SeatSummary, NoMemory>
+    requires cache { seat.old.cache ≡ cache.now }
+    ensures told { IfOk result (λ told. SummarizesAt seat.old seat.new span.now most told) }
+    ensures looked { HasLookedOn seat.old seat.new }
+{
+    let snapshot = cache.snapshot(seat)?;
+    Ok(SeatSummary {
+        summary: summary(alloc, &snapshot.cache, span, most)?,
+        front: snapshot.front,
+    })
 }
 
 impl ReadSummary {

@@ -9,7 +9,8 @@
 //! cache.
 //!
 //! Where the lease goes on to somebody else, [`summary`] tells what was read of a span, in as many
-//! marks as are to be sent, and [`apply`] adds it to the cache of the new holder.
+//! marks as are to be sent, and [`apply`] adds it to the cache of the new holder. [`summary_at`]
+//! tells it at a seat of a shared cache, which goes on.
 //!
 //! A span that is sent is taken apart by its [`cuts`](Span::cuts), of which each [`Cut`] has a key
 //! or is above all keys. A [`Gate`] is told when an Add of a shared cache is about to be published,
@@ -40,7 +41,7 @@ mod summary_writing;
 mod writes;
 
 pub use clear::{earliest_clear_of, is_clear_of};
-pub use hand_over::{ReadSummary, apply, summary};
+pub use hand_over::{ReadSummary, SeatSummary, apply, summary, summary_at};
 pub use next::next_time;
 pub use summary_fault::SummaryFault;
 pub use tsc_cache::{
@@ -50,7 +51,7 @@ pub use tsc_cache::{
 pub use tsc_page_nodes::{LEAST_SIZE, MOST_SIZE};
 pub use tsc_shared::{
     AddFault, Answer, Closed, Front, Gate, Gone, LowWater, NoGate, OpenFault, Receipt, Seat,
-    SeatFigures, SharedCache, StillOut, TryAddFault,
+    SeatFigures, SharedCache, Snapshot, StillOut, TryAddFault,
 };
 pub use tsc_span::{Cut, Ends, Key, KeyRef, LONGEST_KEY, Span, SpanFault, SpanRef};
 pub use tsc_time::{NoMemory, Timestamp, Value, ratchet};

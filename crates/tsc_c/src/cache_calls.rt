@@ -1,7 +1,8 @@
 //! The calls for caches of one thread at a time.
 
 ghost use Rattle.std.specs.Prelude.{◌≡◌, OnErr, None};
-ghost use Rattle.tsc_ffi_store.specs.CacheCalls.{AnswersOpen, AnswersLookup, AnswersAlways, AnswersAdd, AnswersAddAll, StandsAt, Counts};
+ghost use Rattle.tsc_ffi_store.specs.CacheCalls.{AnswersOpen, AnswersLookup, AnswersAlways, AnswersAdd, AnswersAddAll, StandsAt, TellsFigures};
+ghost use Rattle.tsc_ffi_store.specs.Counts.{CountsLookup, CountsAdd};
 ghost use Rattle.tsc_ffi_store.specs.Codes.{Tells};
 ghost use Rattle.tsc_ffi_store.specs.Decode.{time_of, value_of, added_of, span_asked, add_asked, batch_asked, config_asked, asked_config};
 ghost use Rattle.tsc_ffi_store.specs.Store.{slots_of, cache_at, AnswersClose, AnswersOfCache, DoesToCache};
@@ -71,10 +72,10 @@ pub extern "C" fn tsc_add(
     out: &mut TscAdded,
 ) -> u32
     ensures answers { Tells
-        (DoesToCache
+        (DoesToCache (CountsAdd
         (AnswersAdd (add_asked (span_asked from.now to.now ends) value.now moment.now)
-        (added_of out.new)) (slots_of store.old.owned) (slots_of store.new.owned) handle)
-        (out.new ≡ out.old) result }
+        (added_of out.new)) out.new.evicted) (slots_of store.old.owned) (slots_of store.new.owned)
+        handle) (out.new ≡ out.old) result }
 {
     let span = SpanArgs { from, to, ends };
     let args = AddArgs {
@@ -105,8 +106,10 @@ pub extern "C" fn tsc_add_all(
     out: &mut TscAdded,
 ) -> u32
     ensures answers { Tells
-        (DoesToCache (AnswersAddAll (batch_asked keys.now marks.now moment.now) (added_of out.new))
-        (slots_of store.old.owned) (slots_of store.new.owned) handle) (out.new ≡ out.old) result }
+        (DoesToCache (CountsAdd
+        (AnswersAddAll (batch_asked keys.now marks.now moment.now) (added_of out.new))
+        out.new.evicted) (slots_of store.old.owned) (slots_of store.new.owned) handle)
+        (out.new ≡ out.old) result }
 {
     let args = BatchArgs {
         keys,
@@ -136,13 +139,13 @@ pub extern "C" fn tsc_get_max(
     out: &mut TscValue,
 ) -> u32
     ensures answers { Tells
-        (AnswersOfCache (AnswersLookup (span_asked from.now to.now ends) (value_of out.new))
-        (slots_of store.old.owned) handle) (out.new ≡ out.old) result }
-    ensures unchanged { store.new.owned ≡ store.old.owned }
+        (DoesToCache (CountsLookup
+        (AnswersLookup (span_asked from.now to.now ends) (value_of out.new)))
+        (slots_of store.old.owned) (slots_of store.new.owned) handle) (out.new ≡ out.old) result }
 {
     let span = SpanArgs { from, to, ends };
     match store.store_mut() {
-        Some(held) => match held.cache(handle) {
+        Some(held) => match held.cache_mut(handle) {
             Some(cache) => code(look_in(cache, &span, out)),
             None => Refusal::Closed.code(),
         },
@@ -154,7 +157,7 @@ pub extern "C" fn tsc_get_max(
 #[unsafe(no_mangle)]
 pub extern "C" fn tsc_low_water(store: &mut StorePtr, handle: u64, out: &mut TscTime) -> u32
     ensures answers { Tells
-        (AnswersOfCache (AnswersAlways (λ cache. StandsAt cache (time_of out.new)))
+        (AnswersOfCache (AnswersAlways (λ held. StandsAt held.cache (time_of out.new)))
         (slots_of store.old.owned) handle) (out.new ≡ out.old) result }
     ensures unchanged { store.new.owned ≡ store.old.owned }
 {
@@ -174,8 +177,8 @@ pub extern "C" fn tsc_low_water(store: &mut StorePtr, handle: u64, out: &mut Tsc
 #[unsafe(no_mangle)]
 pub extern "C" fn tsc_figures_of(store: &mut StorePtr, handle: u64, out: &mut TscFigures) -> u32
     ensures answers { Tells
-        (AnswersOfCache (AnswersAlways (λ cache. Counts cache out.new)) (slots_of store.old.owned)
-        handle) (out.new ≡ out.old) result }
+        (AnswersOfCache (AnswersAlways (λ held. TellsFigures held out.new))
+        (slots_of store.old.owned) handle) (out.new ≡ out.old) result }
     ensures unchanged { store.new.owned ≡ store.old.owned }
 {
     match store.store_mut() {

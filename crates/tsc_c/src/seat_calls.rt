@@ -2,6 +2,7 @@
 
 ghost use Rattle.std.specs.Prelude.{◌≡◌, OnErr};
 ghost use Rattle.tsc_ffi_store.specs.Codes.{Tells};
+ghost use Rattle.tsc_ffi_store.specs.Counts.{CountsSeatLookup, CountsSeatAdd, CountsNothing};
 ghost use Rattle.tsc_ffi_store.specs.Decode.{time_of, value_of, added_of, span_asked, add_asked, batch_asked, config_asked, asked_config};
 ghost use Rattle.tsc_ffi_store.specs.SeatCalls.{AnswersOpenShared, AnswersSeatLookup, AnswersSeatLowWater, AnswersSeatFigures, AnswersSeatAdd, AnswersSeatAddAll, AnswersMove, AnswersCloseShared};
 ghost use Rattle.tsc_ffi_store.specs.Store.{slots_of, seat_at, AnswersClose, DoesToSeat};
@@ -84,8 +85,10 @@ pub extern "C" fn tsc_seat_add(
 ) -> u32
     ensures answers { Tells
         (DoesToSeat
+        (CountsSeatAdd
         (AnswersSeatAdd (add_asked (span_asked from.now to.now ends) value.now moment.now) tries
-        place.new (added_of out.new)) (slots_of store.old.owned) (slots_of store.new.owned) handle)
+        place.new (added_of out.new)) out.new.evicted) (slots_of store.old.owned)
+        (slots_of store.new.owned) handle)
         ((place.new ≡ place.old) × (out.new ≡ out.old)) result }
 {
     let span = SpanArgs { from, to, ends };
@@ -120,8 +123,8 @@ pub extern "C" fn tsc_seat_add_all(
 ) -> u32
     ensures answers { Tells
         (DoesToSeat
-        (AnswersSeatAddAll (batch_asked keys.now marks.now moment.now) tries place.new
-        (added_of out.new)) (slots_of store.old.owned) (slots_of store.new.owned) handle)
+        (CountsSeatAdd (AnswersSeatAddAll (batch_asked keys.now marks.now moment.now) tries place.new
+        (added_of out.new)) out.new.evicted) (slots_of store.old.owned) (slots_of store.new.owned) handle)
         ((place.new ≡ place.old) × (out.new ≡ out.old)) result }
 {
     let args = BatchArgs {
@@ -154,7 +157,8 @@ pub extern "C" fn tsc_seat_get_max(
 ) -> u32
     ensures answers { Tells
         (DoesToSeat
-        (AnswersSeatLookup (span_asked from.now to.now ends) seen.new (value_of out.new))
+        (CountsSeatLookup
+        (AnswersSeatLookup (span_asked from.now to.now ends) seen.new (value_of out.new)))
         (slots_of store.old.owned) (slots_of store.new.owned) handle)
         ((seen.new ≡ seen.old) × (out.new ≡ out.old)) result }
 {
@@ -177,8 +181,8 @@ pub extern "C" fn tsc_seat_low_water(
     out: &mut TscTime,
 ) -> u32
     ensures answers { Tells
-        (DoesToSeat (AnswersSeatLowWater seen.new (time_of out.new)) (slots_of store.old.owned)
-        (slots_of store.new.owned) handle) ((seen.new ≡ seen.old) × (out.new ≡ out.old)) result }
+        (DoesToSeat (CountsNothing (AnswersSeatLowWater seen.new (time_of out.new)))
+        (slots_of store.old.owned) (slots_of store.new.owned) handle) ((seen.new ≡ seen.old) × (out.new ≡ out.old)) result }
 {
     match store.store_mut() {
         Some(held) => match held.seat_mut(handle) {
@@ -275,9 +279,9 @@ fn move_from(
     other: &mut StorePtr,
     other_handle: &mut u64,
 ) -> Result<(), Refusal>
-    ensures answers { AnswersMove handle other_handle.new held.old.slots.items
-        (slots_of other.old.owned) held.new.slots.items (slots_of other.new.owned) result }
-    ensures kept { OnErr result ((held.new.slots.items ≡ held.old.slots.items) ×
+    ensures answers { AnswersMove handle other_handle.new held.old
+        (slots_of other.old.owned) held.new (slots_of other.new.owned) result }
+    ensures kept { OnErr result ((held.new ≡ held.old) ×
         (slots_of other.new.owned ≡ slots_of other.old.owned) ×
         (other_handle.new ≡ other_handle.old)) }
 {

@@ -3,7 +3,8 @@ ghost use Rattle.std.specs.Prelude.{◌≡◌, IfOk, IfErr, OnErr};
 ghost use Rattle.std.specs.Option.{MatchOption};
 ghost use Rattle.std.specs.declared.option.Option.{Option as Maybe};
 ghost use Rattle.std.specs.declared.option.Option.TheVariants.{None, Some};
-ghost use Rattle.tsc_ffi_store.specs.declared.store.Store.{Store as Held};
+ghost use Rattle.std.specs.Prelude.{List};
+ghost use Rattle.tsc_ffi_store.specs.declared.store.Slot.{Slot as Named};
 ghost use Rattle.tsc_ffi_store.specs.Store.{slots_of};
 ghost use Rattle.tsc_ffi_store.specs.declared.refusal.Refusal.TheVariants.{NoMemory};
 ghost use Rattle.tsc_c.specs.Owning.{ptr_owns};
@@ -22,7 +23,7 @@ use tsc_ffi_store::{Refusal, Store};
 #[derive(Drop)]
 pub struct StorePtr {
     at: *mut u8,
-    pub ghost owned: { Maybe Held },
+    pub ghost owned: { Maybe (List Named) },
 }
 
 impl Model for StorePtr {
@@ -92,7 +93,7 @@ unsafe impl Send for StorePtr {}
 
 /// The store of a pointer, or one that has given no handle. The pointer owns nothing then.
 pub(crate) fn store_in(alloc: Global, ptr: &mut StorePtr) -> Result<Box<Store, Global>, Refusal>
-    ensures taken { IfOk result (λ store. store.value.slots.items ≡ slots_of ptr.old.owned) }
+    ensures taken { IfOk result (λ store. store.value ≡ slots_of ptr.old.owned) }
     ensures unchanged { OnErr result (slots_of ptr.new.owned ≡ slots_of ptr.old.owned) }
     ensures refused { IfErr result (λ why. why ≡ NoMemory) }
 {

@@ -3,6 +3,7 @@
 
 ghost use Rattle.std.specs.Prelude.{◌≡◌};
 ghost use Rattle.tsc_ffi_store.specs.Codes.{Tells};
+ghost use Rattle.tsc_ffi_store.specs.Counts.{CountsAdd};
 ghost use Rattle.tsc_ffi_store.specs.Decode.{span_asked, added_of};
 ghost use Rattle.tsc_ffi_store.specs.Store.{slots_of, AnswersOfCache, DoesToCache};
 ghost use Rattle.tsc_ffi_store.specs.Summaries.{summary_asked, AnswersSummary, PutsOr};
@@ -11,7 +12,8 @@ ghost use Rattle.tsc_ffi_store.specs.Summaries.{apply_asked, AnswersApply};
 use crate::store_ptr::StorePtr;
 use std::alloc::Global;
 use tsc_ffi_store::{
-    ApplyArgs, Refusal, SpanArgs, SummaryArgs, TscAdded, TscTime, apply_in, code, put_in,
+    ApplyArgs, Refusal, SpanArgs, SummaryArgs, TscAdded, TscTime, apply_in, code, put_at,
+    put_in,
 };
 
 /// Puts what was read of a span into a buffer, as bytes, in at most `most` marks.
@@ -27,7 +29,7 @@ pub extern "C" fn tsc_summary(
     len: &mut usize,
 ) -> u32
     ensures answers { PutsOr (AnswersOfCache
-        (AnswersSummary (summary_asked (span_asked from.now to.now ends) most))
+        (λ held. AnswersSummary (summary_asked (span_asked from.now to.now ends) most) held.cache)
         (slots_of store.old.owned) handle) result out.old out.new len.old len.new }
     ensures unchanged { store.new.owned ≡ store.old.owned }
 {
@@ -45,6 +47,34 @@ pub extern "C" fn tsc_summary(
     }
 }
 
+/// Puts what was read of a span of a shared cache into a buffer, as bytes, in at most `most` marks,
+/// and tells how many Adds the seat has seen then.
+#[unsafe(no_mangle)]
+pub extern "C" fn tsc_seat_summary(
+    store: &mut StorePtr,
+    handle: u64,
+    from: &[u8],
+    to: &[u8],
+    ends: u32,
+    most: usize,
+    seen: &mut u64,
+    out: &mut [u8],
+    len: &mut usize,
+) -> u32 {
+    let span = SpanArgs { from, to, ends };
+    let args = SummaryArgs { span, most };
+    match store.store_mut() {
+        Some(held) => {
+            let alloc = held.alloc();
+            match held.seat_mut(handle) {
+                Some(seat) => put_at(seat, alloc, &args, seen, out, len),
+                None => Refusal::Closed.code(),
+            }
+        }
+        None => Refusal::Closed.code(),
+    }
+}
+
 /// Adds what the bytes of a summary tell to a cache, at a moment, all of it or nothing.
 #[unsafe(no_mangle)]
 pub extern "C" fn tsc_apply(
@@ -54,8 +84,8 @@ pub extern "C" fn tsc_apply(
     moment: &TscTime,
     out: &mut TscAdded,
 ) -> u32
-    ensures answers { Tells (DoesToCache
-        (AnswersApply (apply_asked summary.now moment.now) (added_of out.new))
+    ensures answers { Tells (DoesToCache (CountsAdd
+        (AnswersApply (apply_asked summary.now moment.now) (added_of out.new)) out.new.evicted)
         (slots_of store.old.owned) (slots_of store.new.owned) handle) (out.new ≡ out.old) result }
 {
     let args = ApplyArgs { summary, moment };

@@ -2,8 +2,9 @@
 //! tests more of it, from C.
 
 use crate::cache_calls::{tsc_add, tsc_free, tsc_get_max, tsc_open};
+use crate::seat_calls::{tsc_open_shared, tsc_seat_add};
 use crate::store_ptr::StorePtr;
-use crate::summary_calls::{tsc_apply, tsc_summary};
+use crate::summary_calls::{tsc_apply, tsc_seat_summary, tsc_summary};
 use std::alloc::Global;
 use tsc_ffi_store::{TscAdded, TscTime, TscValue};
 
@@ -96,5 +97,45 @@ fn applies_what_was_told(rt: HostRuntime) {
     assert_eq!(rt; known(&mut store), 20);
     let closed = applied(&mut store, 2, &out);
     assert_eq!(rt; closed, (1, false));
+    tsc_free(rt.alloc(), &mut store);
+}
+
+/// Opens a shared cache with two seats at the handles behind the two caches, and reads `b` at the
+/// first of its seats.
+fn shared(alloc: Global, store: &mut StorePtr) -> bool {
+    let mut handle = 9;
+    let opened = tsc_open_shared(alloc, store, 132, 1024, 2, 10, &LOW, 2, 9, &mut handle);
+    let mut added = nothing_done();
+    let mut at = 9;
+    let read = tsc_seat_add(
+        store, 3, b"b", b"", 8, &READ, &NOW, 1, &mut at, &mut added,
+    );
+    opened == 0 && handle == 2 && read == 0 && at == 0 && added.kept
+}
+
+/// The code, the length, and how many Adds the seat has seen, for a buffer that has this room.
+fn told_at(store: &mut StorePtr, seat: u64, out: &mut [u8]) -> (u32, usize, u64) {
+    let mut len = 9;
+    let mut seen = 9;
+    let code = tsc_seat_summary(store, seat, b"a", b"c", 2, 9, &mut seen, out, &mut len);
+    (code, len, seen)
+}
+
+#[test]
+fn a_seat_tells_what_another_one_added(rt: HostRuntime) {
+    let mut store = StorePtr::empty();
+    let mut out = [7; LEN];
+    assert!(rt; opened(rt.alloc(), &mut store));
+    assert!(rt; shared(rt.alloc(), &mut store));
+    let short = told_at(&mut store, 4, &mut out[1..]);
+    assert_eq!(rt; short, (17, LEN, 1));
+    assert_eq!(rt; out, [7; LEN]);
+    let whole = told_at(&mut store, 4, &mut out);
+    assert_eq!(rt; whole, (0, LEN, 1));
+    let took = applied(&mut store, 1, &out);
+    assert_eq!(rt; took, (0, true));
+    assert_eq!(rt; known(&mut store), 20);
+    let closed = told_at(&mut store, 2, &mut out);
+    assert_eq!(rt; closed, (1, 9, 9));
     tsc_free(rt.alloc(), &mut store);
 }

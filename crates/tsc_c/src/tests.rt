@@ -39,6 +39,7 @@ enum Call {
     GetMax(u64, &'static [u8]),
     LowWater(u64),
     Figures(u64),
+    Counts(u64),
     Close(u64),
     Free,
     OpenShared(u32),
@@ -52,6 +53,7 @@ enum Call {
     SeatMay(u64, u64),
     SeatLowWater(u64),
     SeatFigures(u64),
+    SeatCounts(u64),
     SeatClose(u64),
     CloseShared(u64),
 }
@@ -213,6 +215,11 @@ fn nothing_counted() -> TscFigures {
         rotations: 9,
         nodes: 9,
         bytes: 9,
+        memory: 9,
+        adds: 9,
+        refusals: 9,
+        lookups: 9,
+        evicted: 9,
     }
 }
 
@@ -221,6 +228,35 @@ fn figures(store: &mut StorePtr, handle: u64) -> Told {
     let mut told = nothing_counted();
     let code = tsc_figures_of(store, handle, &mut told);
     (code, told.pages, told.rotations, told.nodes, told.bytes, 0)
+}
+
+/// What was asked of a cache: Adds, refused ones, lookups, and the pages that Adds dropped.
+fn counts(store: &mut StorePtr, handle: u64) -> Told {
+    let mut told = nothing_counted();
+    let code = tsc_figures_of(store, handle, &mut told);
+    (
+        code,
+        told.adds,
+        told.refusals,
+        told.lookups,
+        told.evicted,
+        0,
+    )
+}
+
+/// What was asked of a seat, as of a cache.
+fn seat_counts(store: &mut StorePtr, handle: u64) -> Told {
+    let mut seen = 9;
+    let mut told = nothing_counted();
+    let code = tsc_seat_figures_of(store, handle, &mut seen, &mut told);
+    (
+        code,
+        told.adds,
+        told.refusals,
+        told.lookups,
+        told.evicted,
+        0,
+    )
 }
 
 /// The handle of a shared cache of `seats` seats, whose history may have two Adds.
@@ -308,6 +344,7 @@ fn make(alloc: Global, store: &mut StorePtr, other: &mut StorePtr, call: &Call) 
         Call::Earliest(handle) => earliest(store, *handle),
         Call::LowWater(handle) => low_water(store, *handle),
         Call::Figures(handle) => figures(store, *handle),
+        Call::Counts(handle) => counts(store, *handle),
         Call::Close(handle) => (tsc_close(store, *handle), 0, 0, 0, 0, 0),
         Call::Free => freed(alloc, store),
         Call::OpenShared(seats) => open_shared(alloc, store, *seats),
@@ -320,6 +357,7 @@ fn make(alloc: Global, store: &mut StorePtr, other: &mut StorePtr, call: &Call) 
         Call::SeatMay(seat, wall) => seat_may(store, *seat, *wall),
         Call::SeatLowWater(seat) => seat_low_water(store, *seat),
         Call::SeatFigures(seat) => seat_figures(store, *seat),
+        Call::SeatCounts(seat) => seat_counts(store, *seat),
         Call::SeatClose(seat) => (tsc_seat_close(store, *seat), 0, 0, 0, 0, 0),
         Call::CloseShared(handle) => close_shared(store, *handle),
     }
@@ -342,7 +380,7 @@ fn first_wrong(alloc: Global, rows: &[Row]) -> Option<usize> {
     None
 }
 
-static CALLS: [Row; 23] = [
+static CALLS: [Row; 28] = [
     (false, Call::Open, (0, 0, 0, 0, 0, 0)),
     (false, Call::Open, (0, 1, 0, 0, 0, 0)),
     (false, Call::Add(1), (0, 1, 0, 0, 0, 0)),
@@ -361,8 +399,13 @@ static CALLS: [Row; 23] = [
     (false, Call::Figures(0), (0, 1, 0, 0, 0, 0)),
     (false, Call::Figures(1), (0, 1, 0, 3, 99, 0)),
     (false, Call::Figures(2), (1, 9, 9, 9, 9, 0)),
+    (false, Call::Counts(0), (0, 0, 0, 2, 0, 0)),
+    (false, Call::Counts(1), (0, 2, 0, 6, 0, 0)),
     (false, Call::Close(1), (0, 0, 0, 0, 0, 0)),
     (false, Call::Close(1), (1, 0, 0, 0, 0, 0)),
+    (false, Call::Open, (0, 2, 0, 0, 0, 0)),
+    (false, Call::GetMax(1, b"b"), (1, 20, 1, 0x11, 0, 0)),
+    (false, Call::Counts(2), (0, 0, 0, 0, 0, 0)),
     (false, Call::Free, (0, 0, 0, 0, 0, 0)),
     (false, Call::Open, (0, 0, 0, 0, 0, 0)),
     (false, Call::Free, (0, 0, 0, 0, 0, 0)),
@@ -373,12 +416,12 @@ fn each_call_answers(rt: HostRuntime) {
     assert_eq!(rt; first_wrong(rt.alloc(), &CALLS), None);
 }
 
-static SHARED_CALLS: [Row; 26] = [
+static SHARED_CALLS: [Row; 28] = [
     (false, Call::OpenShared(65), (12, 9, 0, 0, 0, 0)),
     (false, Call::OpenShared(2), (0, 0, 0, 0, 0, 0)),
     (false, Call::Move(2), (0, 0, 0, 0, 0, 0)),
     (false, Call::Move(2), (1, 9, 0, 0, 0, 0)),
-    (false, Call::SeatAdd(1, 0), (14, 0, 1, 9, 9, 0)),
+    (false, Call::SeatAdd(1, 0), (23, 0, 1, 9, 9, 0)),
     (false, Call::SeatAdd(1, 1), (0, 1, 0, 0, 0, 0)),
     (true, Call::SeatGetMax(0, b"b"), (0, 20, 1, 0x11, 1, 0)),
     (true, Call::SeatAddAll(0), (0, 1, 0, 0, 1, 0)),
@@ -392,6 +435,8 @@ static SHARED_CALLS: [Row; 26] = [
     (false, Call::SeatLowWater(1), (0, 5, 0, 2, 0, 0)),
     (false, Call::SeatFigures(1), (0, 1, 0, 3, 99, 2)),
     (false, Call::SeatFigures(0), (1, 9, 9, 9, 9, 9)),
+    (false, Call::SeatCounts(1), (0, 1, 2, 4, 0, 0)),
+    (true, Call::SeatCounts(0), (0, 1, 0, 1, 0, 0)),
     (false, Call::SeatClose(1), (0, 0, 0, 0, 0, 0)),
     (false, Call::SeatClose(1), (1, 0, 0, 0, 0, 0)),
     (false, Call::CloseShared(0), (13, 9, 0, 0, 0, 0)),

@@ -3,7 +3,8 @@
 ghost use Rattle.std.specs.Prelude.{◌≡◌};
 ghost use Rattle.tsc_ffi_store.specs.Codes.{Tells};
 ghost use Rattle.tsc_ffi_store.specs.Decode.{time_of};
-ghost use Rattle.tsc_ffi_store.specs.Store.{slots_of, AnswersOfCache, DoesToSeat};
+ghost use Rattle.tsc_ffi_store.specs.Counts.{CountsLookup, CountsSeatLookup};
+ghost use Rattle.tsc_ffi_store.specs.Store.{slots_of, DoesToCache, DoesToSeat};
 ghost use Rattle.tsc_ffi_store.specs.Writes.{write_asked, AnswersWrite, AnswersSeatWrite};
 ghost use Rattle.tsc_ffi_store.specs.Writes.{AnswersMayWrite, AnswersSeatMayWrite};
 
@@ -22,14 +23,13 @@ pub extern "C" fn tsc_earliest_write(
     write: &TscValue,
     out: &mut TscTime,
 ) -> u32
-    ensures answers { Tells (AnswersOfCache
-        (AnswersWrite (write_asked keys.now spans.now write.now) (time_of out.new))
-        (slots_of store.old.owned) handle) (out.new ≡ out.old) result }
-    ensures unchanged { store.new.owned ≡ store.old.owned }
+    ensures answers { Tells (DoesToCache (CountsLookup
+        (AnswersWrite (write_asked keys.now spans.now write.now) (time_of out.new)))
+        (slots_of store.old.owned) (slots_of store.new.owned) handle) (out.new ≡ out.old) result }
 {
     let args = WriteArgs { keys, spans, write };
     match store.store_mut() {
-        Some(held) => match held.cache(handle) {
+        Some(held) => match held.cache_mut(handle) {
             Some(cache) => code(write_in(cache, &args, out)),
             None => Refusal::Closed.code(),
         },
@@ -47,14 +47,13 @@ pub extern "C" fn tsc_may_write(
     write: &TscValue,
     out: &mut bool,
 ) -> u32
-    ensures answers { Tells (AnswersOfCache
-        (AnswersMayWrite (write_asked keys.now spans.now write.now) out.new)
-        (slots_of store.old.owned) handle) (out.new ≡ out.old) result }
-    ensures unchanged { store.new.owned ≡ store.old.owned }
+    ensures answers { Tells (DoesToCache (CountsLookup
+        (AnswersMayWrite (write_asked keys.now spans.now write.now) out.new))
+        (slots_of store.old.owned) (slots_of store.new.owned) handle) (out.new ≡ out.old) result }
 {
     let args = WriteArgs { keys, spans, write };
     match store.store_mut() {
-        Some(held) => match held.cache(handle) {
+        Some(held) => match held.cache_mut(handle) {
             Some(cache) => code(may_in(cache, &args, out)),
             None => Refusal::Closed.code(),
         },
@@ -73,8 +72,8 @@ pub extern "C" fn tsc_seat_earliest_write(
     seen: &mut u64,
     out: &mut TscTime,
 ) -> u32
-    ensures answers { Tells (DoesToSeat
-        (AnswersSeatWrite (write_asked keys.now spans.now write.now) seen.new (time_of out.new))
+    ensures answers { Tells (DoesToSeat (CountsSeatLookup
+        (AnswersSeatWrite (write_asked keys.now spans.now write.now) seen.new (time_of out.new)))
         (slots_of store.old.owned) (slots_of store.new.owned) handle)
         ((seen.new ≡ seen.old) × (out.new ≡ out.old)) result }
 {
@@ -99,8 +98,8 @@ pub extern "C" fn tsc_seat_may_write(
     seen: &mut u64,
     out: &mut bool,
 ) -> u32
-    ensures answers { Tells (DoesToSeat
-        (AnswersSeatMayWrite (write_asked keys.now spans.now write.now) seen.new out.new)
+    ensures answers { Tells (DoesToSeat (CountsSeatLookup
+        (AnswersSeatMayWrite (write_asked keys.now spans.now write.now) seen.new out.new))
         (slots_of store.old.owned) (slots_of store.new.owned) handle)
         ((seen.new ≡ seen.old) × (out.new ≡ out.old)) result }
 {

@@ -10,24 +10,27 @@ use Rattle.tsc_cache.specs.State.{CacheState, opening, step, step_all, look}
 use Rattle.tsc_cache.specs.CacheView.{CacheView, RepresentsState, Adds, cache_answer}
 use Rattle.tsc_cache.specs.Counts.{figures_of, figures_seen}
 use Rattle.tsc_cache.specs.Batch.{AddsAll, all_fit}
+use Rattle.tsc_ffi_store.specs.declared.counts.CountedCache.{CountedCache}
 use Rattle.tsc_ffi_store.specs.declared.ctypes.TscFigures.{TscFigures}
 use Rattle.tsc_ffi_store.specs.declared.refusal.Refusal.{Refusal}
 use Rattle.tsc_ffi_store.specs.declared.refusal.Refusal.TheVariants as refusal
 use Rattle.tsc_ffi_store.specs.declared.store.Slot.{Slot}
 use Rattle.tsc_ffi_store.specs.Decode.{AskedSpan, AskedAdd, AskedBatch, AskedConfig, settings_asked, add_span, lookup_span, figures_told, RefusesTime, RefusesEnds, RefusesAddSpan, RefusesConfig}
 use Rattle.tsc_ffi_store.specs.Marks.{AreMarks, RefusesMarks}
-use Rattle.tsc_ffi_store.specs.Store.{cache_at, GivesNext}
+use Rattle.tsc_ffi_store.specs.Counts.{no_counts}
+use Rattle.tsc_ffi_store.specs.Store.{cache_at, GivesNext, RefusesHandles}
 
--- Where there was none, a cache without Adds is held.
-pub record Opens (old new : Option CacheView) (settings : Settings) : Type 0 where
+-- Where there was none, a cache without Adds is held, of which nothing was asked.
+pub record Opens (old new : Option CountedCache) (settings : Settings) : Type 0 where
   pub cache : CacheView
   pub none : old ≡ None
-  pub holds : new ≡ Some cache
+  pub holds : new ≡ Some (record { cache = cache; counts = no_counts })
   pub stands : RepresentsState cache settings (opening settings)
 
 -- Why no cache was opened.
-abbrev pub RefusesOpen : Refusal → AskedConfig → Type 0
-RefusesOpen why asked = RefusesConfig why asked ⊎ (why ≡ refusal.NoMemory)
+abbrev pub RefusesOpen : Refusal → AskedConfig → List Slot → Type 0
+RefusesOpen why asked slots = RefusesConfig why asked ⊎ RefusesHandles why slots 1 ⊎
+    (why ≡ refusal.NoMemory)
 
 -- What a call does that opens a cache, at the next handle.
 pub record AnswersOpen {A : Type 0} (asked : AskedConfig) (handle : ℕ) (old new : List Slot)
@@ -35,7 +38,7 @@ pub record AnswersOpen {A : Type 0} (asked : AskedConfig) (handle : ℕ) (old ne
   pub opened : IfOk did (λ _. (settings : Settings) × (settings_asked asked ≡ Ok settings) ×
       Opens (cache_at old handle) (cache_at new handle) settings)
   pub given : IfOk did (λ _. GivesNext old new handle)
-  pub refused : IfErr did (λ why. RefusesOpen why asked)
+  pub refused : IfErr did (λ why. RefusesOpen why asked old)
   pub unchanged : OnErr did (new ≡ old)
 
 -- What a cache answers to the span that a call names.
@@ -58,16 +61,16 @@ pub record StandsAt (cache : CacheView) (floor : Time) : Type 0 where
   pub stands : (settings : Settings) (s : CacheState) → RepresentsState cache settings s →
       floor ≡ s.floor
 
--- The figures of a cache.
-pub record Counts (cache : CacheView) (figures : TscFigures) : Type 0 where
-  pub value : figures ≡ figures_told (figures_seen cache)
-  pub stands : (settings : Settings) (s : CacheState) → RepresentsState cache settings s →
-      figures ≡ figures_told (figures_of s)
+-- The figures of a cache, and what was asked of it. Of the memory nothing is said.
+pub record TellsFigures (held : CountedCache) (figures : TscFigures) : Type 0 where
+  pub value : figures ≡ figures_told (figures_seen held.cache) figures.memory held.counts
+  pub stands : (settings : Settings) (s : CacheState) → RepresentsState held.cache settings s →
+      figures ≡ figures_told (figures_of s) figures.memory held.counts
 
 -- What a call answers that no cache refuses.
-pub record AnswersAlways {A : Type 0} (Told : CacheView → Type 0) (cache : CacheView)
+pub record AnswersAlways {A : Type 0} (Told : CountedCache → Type 0) (held : CountedCache)
     (did : Result A Refusal) : Type 0 where
-  pub told : Told cache
+  pub told : Told held
   pub done : IsOk did
 
 -- What an Add of the span that a call names makes of a cache.

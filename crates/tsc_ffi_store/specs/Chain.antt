@@ -13,12 +13,19 @@ use Rattle.tsc_cache.specs.History.{History, state_of}
 use Rattle.tsc_cache.specs.CacheView.{CacheView, RepresentsState}
 use Rattle.tsc_ffi_store.specs.declared.store.Slot.{Slot}
 use Rattle.tsc_ffi_store.specs.Decode.{AskedSpan, AskedAdd, AskedBatch, lookup_span}
+use Rattle.tsc_ffi_store.specs.declared.counts.CountedCache.{CountedCache}
 use Rattle.tsc_ffi_store.specs.CacheCalls.{Opens, AnswersLookup, AnswersAdd, AnswersAddAll}
-use Rattle.tsc_ffi_store.specs.Store.{cache_at, ReadsCache, WorksOnCache}
+use Rattle.tsc_ffi_store.specs.Counts.{CountsAdd, CountsLookup}
+use Rattle.tsc_ffi_store.specs.Store.{cache_at, WorksOnCache}
 
 -- the next entry of a history, all of which is one caller's
 abbrev pub next_entry : History → List Mark → Time → Entry
 next_entry h marks now = record { seat = 0; number = length h; marks = marks; now = now }
+
+-- the cache that is held, without what was asked of it
+abbrev pub bare : Option CountedCache → Option CacheView
+bare None = None
+bare (Some held) = Some held.cache
 
 -- What a handle names becomes what it names later by Adds, whose history this is: none at first,
 -- then one Add or one of several marks after another. A call that leaves the cache as it is adds no
@@ -27,28 +34,32 @@ pub data AddsUp (handle : ℕ) : List Slot → List Slot → History → Type 0 
   nothing_yet : (slots : List Slot) → AddsUp handle slots slots []
   one_more : (opened old new : List Slot) (h : History) (asked : AskedAdd) (told : Added)
       → AddsUp handle opened old h →
-      (w : WorksOnCache (AnswersAdd asked told) old new handle (Ok (tt {0})))
+      (w : WorksOnCache (CountsAdd (AnswersAdd asked told) told.evicted) old new handle
+      (Ok (tt {0})))
       → AddsUp handle opened new (h ++
-      next_entry h (record { span = w.works.added.span; value = asked.value } ∷ [])
+      next_entry h (record { span = w.works.works.added.span; value = asked.value } ∷ [])
       asked.moment ∷ [])
   several_more : (opened old new : List Slot) (h : History) (asked : AskedBatch) (told : Added)
       → AddsUp handle opened old h →
-      (w : WorksOnCache (AnswersAddAll asked told) old new handle (Ok (tt {0})))
-      → AddsUp handle opened new (h ++ next_entry h w.works.added.marks asked.moment ∷ [])
+      (w : WorksOnCache (CountsAdd (AnswersAddAll asked told) told.evicted) old new handle
+      (Ok (tt {0})))
+      → AddsUp handle opened new (h ++ next_entry h w.works.works.added.marks asked.moment ∷ [])
   left : (opened old new : List Slot) (h : History) → AddsUp handle opened old h →
-      cache_at new handle ≡ cache_at old handle → AddsUp handle opened new h
+      bare (cache_at new handle) ≡ bare (cache_at old handle) → AddsUp handle opened new h
 
 -- What is held stands for the state that a history leaves.
-pub record HoldsHistory (held : Option CacheView) (settings : Settings) (h : History) : Type 0 where
+pub record HoldsHistory (held : Option CountedCache) (settings : Settings) (h : History) : Type
+    0 where
   pub cache : CacheView
-  pub holds : held ≡ Some cache
+  pub holds : bare held ≡ Some cache
   pub stands : RepresentsState cache settings (state_of settings h)
 
 -- A lookup in what was opened and added to answers what the state of all that was added does.
 abbrev pub AnswersAllAdded : Type 0
 AnswersAllAdded =
-    (handle : ℕ) (before opened slots : List Slot) (settings : Settings) (h : History)
+    (handle : ℕ) (before opened slots after : List Slot) (settings : Settings) (h : History)
     (asked : AskedSpan) (v : OwnedTime)
     → Opens (cache_at before handle) (cache_at opened handle) settings →
-    AddsUp handle opened slots h → ReadsCache (AnswersLookup asked v) slots handle (Ok (tt {0}))
+    AddsUp handle opened slots h →
+    WorksOnCache (CountsLookup (AnswersLookup asked v)) slots after handle (Ok (tt {0}))
     → (span : Interval) × (lookup_span asked ≡ Some span) × (v ≡ look (state_of settings h) span)

@@ -25,6 +25,7 @@ code_of refusal.SummaryVersion = 19
 code_of refusal.SummaryLength = 20
 code_of refusal.SummaryChecksum = 21
 code_of refusal.SummaryForm = 22
+code_of refusal.Tries = 23
 
 -- what C is told of a call
 abbrev pub code_for : {A : Type 0} → Result A Refusal → ℕ

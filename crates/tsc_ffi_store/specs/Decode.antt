@@ -3,12 +3,13 @@ use Rattle.std.specs.Prelude.{◌≡◌, ◌⊎◌, ◌<◌, ◌==◌, ℕ, List
 use Rattle.tsc_time.specs.Time.{Time, is_in_range}
 use Rattle.tsc_time.specs.OwnedTime.{OwnedTime, owner_of}
 use Rattle.tsc_span.specs.declared.span.Ends.{Ends}
-use Rattle.tsc_span.specs.Span.{KeyBytes, Interval, longest_key, point, range, range_for_lookup, onward}
+use Rattle.tsc_span.specs.Span.{KeyBytes, Interval, longest_key, point, range, range_for_lookup, onward, is_inverted}
 use Rattle.tsc_cache.specs.declared.added.Added.{Added}
 use Rattle.tsc_cache.specs.declared.config.ConfigFault.{ConfigFault}
 use Rattle.tsc_cache.specs.declared.config.ConfigFault.TheVariants as fault
 use Rattle.tsc_cache.specs.declared.figures.Figures.{Figures}
 use Rattle.tsc_cache.specs.Settings.{Settings, settings_of}
+use Rattle.tsc_ffi_store.specs.declared.counts.Counts.{Counts}
 use Rattle.tsc_ffi_store.specs.declared.ctypes.TscTime.{TscTime}
 use Rattle.tsc_ffi_store.specs.declared.ctypes.TscValue.{TscValue}
 use Rattle.tsc_ffi_store.specs.declared.ctypes.TscAdded.{TscAdded}
@@ -38,13 +39,18 @@ value_of words = record {
 abbrev pub added_of : TscAdded → Added
 added_of words = record { kept = words.kept; rotated = words.rotated; evicted = words.evicted }
 
--- the words that tell figures: all but the floor
-abbrev pub figures_told : Figures → TscFigures
-figures_told figures = record {
+-- the words that tell figures, all but the floor, with how much memory they take, and what was asked
+abbrev pub figures_told : Figures → ℕ → Counts → TscFigures
+figures_told figures memory counts = record {
   pages = figures.pages;
   rotations = figures.rotations;
   nodes = figures.nodes;
   bytes = figures.bytes;
+  memory = memory;
+  adds = counts.adds;
+  refusals = counts.refusals;
+  lookups = counts.lookups;
+  evicted = counts.evicted;
 }
 
 -- What a call says of a span: two keys, and a number for its ends.
@@ -188,6 +194,16 @@ RefusesAddSpan why asked =
     RefusesEnds why asked.ends ⊎ RefusesKey why asked.from ⊎
     RefusesSecondKey why asked.to asked.ends ⊎
     ((why ≡ refusal.Inverted) × (add_span asked ≡ None))
+
+-- A call names a range from a key to a smaller one.
+abbrev pub IsInverted : AskedSpan → Type 0
+IsInverted asked = (excluded : Ends) × (form_of asked.ends ≡ Some (Range excluded)) ×
+    (is_inverted asked.from asked.to ≡ true)
+
+-- Why a call names no span to be written, whose keys may be of any length.
+abbrev pub RefusesWrittenSpan : Refusal → AskedSpan → Type 0
+RefusesWrittenSpan why asked = RefusesEnds why asked.ends ⊎
+    ((why ≡ refusal.Inverted) × IsInverted asked)
 
 -- Why settings were refused.
 abbrev pub RefusesSettings : Refusal → ConfigFault → Type 0

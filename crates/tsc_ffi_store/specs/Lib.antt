@@ -1,10 +1,12 @@
 pub mod CacheCalls
 pub mod Chain
 pub mod Codes
+pub mod Counts
 pub mod Decode
 pub mod Laws
 pub mod Lending
 pub mod Marks
+pub mod OpenHandles
 pub mod Puts
 pub mod ReturnSlots
 pub mod ReturnSteps

@@ -1,5 +1,5 @@
 -- What a call makes of a shared cache, or of the seat that it names, and why it is refused.
-use Rattle.std.specs.Prelude.{◌≡◌, ◌≢◌, ◌⊎◌, ◌++◌, ◌∷◌, ℕ, List, [], map, length, slice_get, slice_set, true, false, Option, Some, None, Result, Ok, IfOk, IfErr, IsOk, OnErr}
+use Rattle.std.specs.Prelude.{◌≡◌, ◌≢◌, ◌⊎◌, ◌++◌, ◌∷◌, ◌+◌, ℕ, List, [], map, length, slice_get, slice_set, true, false, Option, Some, None, Result, Ok, Err, IfOk, IfErr, IsOk, OnErr}
 use Rattle.tsc_time.specs.Time.{Time}
 use Rattle.tsc_time.specs.OwnedTime.{OwnedTime}
 use Rattle.tsc_span.specs.Span.{Interval}
@@ -22,7 +22,13 @@ use Rattle.tsc_ffi_store.specs.declared.store.Slot.{Slot}
 use Rattle.tsc_ffi_store.specs.declared.store.Slot.TheVariants.{Closed, Shared, Seat}
 use Rattle.tsc_ffi_store.specs.Decode.{AskedSpan, AskedAdd, AskedBatch, AskedConfig, settings_asked, add_span, lookup_span, figures_told, RefusesTime, RefusesEnds, RefusesAddSpan, RefusesConfig}
 use Rattle.tsc_ffi_store.specs.Marks.{AreMarks, RefusesMarks}
-use Rattle.tsc_ffi_store.specs.Store.{cache_at, shared_at, seat_at, Keeps}
+use Rattle.tsc_ffi_store.specs.declared.counts.CountedSeat.{CountedSeat}
+use Rattle.tsc_ffi_store.specs.Counts.{no_counts}
+use Rattle.tsc_ffi_store.specs.Store.{cache_at, shared_at, seat_at, Keeps, RefusesHandles}
+
+-- a seat of which nothing was asked
+abbrev pub unasked : SeatView → CountedSeat
+unasked seat = record { seat = seat; counts = no_counts }
 
 -- A shared cache is opened at the next handle, and its seats, which nobody has used, at the handles
 -- behind it, in their order. All that was given stays.
@@ -30,7 +36,7 @@ pub record OpensShared (old new : List Slot) (handle : ℕ) (settings : Settings
     Type 0 where
   pub cache : SharedView
   pub next : handle ≡ length old
-  pub given : new ≡ old ++ Shared cache ∷ map (λ s. Seat s) (new_seats cache 0 count)
+  pub given : new ≡ old ++ Shared cache ∷ map (λ s. Seat (unasked s)) (new_seats cache 0 count)
   pub settings_kept : cache.config ≡ settings
   pub count_kept : cache.seats ≡ count
   pub limit_kept : cache.limit ≡ limit
@@ -49,7 +55,7 @@ pub record AnswersOpenShared {A : Type 0} (asked : AskedConfig) (count limit han
   pub opened : IfOk did (λ _. (settings : Settings) × (settings_asked asked ≡ Ok settings) ×
       OpensShared old new handle settings count limit)
   pub refused : IfErr did (λ why. RefusesConfig why asked ⊎ RefusesSeats why count ⊎
-      RefusesRoom why count)
+      RefusesHandles why old (count + 1) ⊎ RefusesRoom why count)
   pub unchanged : OnErr did (new ≡ old)
 
 -- What the cache of a seat answers to the span that a call names: by all that the seat has seen
@@ -75,16 +81,18 @@ pub record AnswersSeatLowWater {A : Type 0} (seen : ℕ) (floor : Time) (old new
   pub reads : ReadsFloor old new (record { time = floor; front = seen })
   pub done : IsOk did
 
--- The figures of the cache of a seat, after all that the seat has seen then.
-pub record CountsAt (old new : SeatView) (seen : ℕ) (figures : TscFigures) : Type 0 where
+-- The figures of the cache of a seat, after all that the seat has seen then, and what was asked of
+-- the seat. Of the memory nothing is said.
+pub record TellsFiguresAt (old new : CountedSeat) (seen : ℕ) (figures : TscFigures) : Type 0 where
   pub counted : Figures
-  pub told : figures ≡ figures_told counted
-  pub reads : ReadsFigures old new (record { figures = counted; front = seen })
+  pub told : figures ≡ figures_told counted figures.memory old.counts
+  pub reads : ReadsFigures old.seat new.seat (record { figures = counted; front = seen })
+  pub same : new.counts ≡ old.counts
 
 -- What a call answers that tells them.
-pub record AnswersSeatFigures {A : Type 0} (seen : ℕ) (figures : TscFigures) (old new : SeatView)
-    (did : Result A Refusal) : Type 0 where
-  pub counts : CountsAt old new seen figures
+pub record AnswersSeatFigures {A : Type 0} (seen : ℕ) (figures : TscFigures)
+    (old new : CountedSeat) (did : Result A Refusal) : Type 0 where
+  pub tells : TellsFiguresAt old new seen figures
   pub done : IsOk did
 
 -- An Add of some marks at a seat, which has this place in the history of its cache, and did this.
@@ -124,10 +132,9 @@ abbrev pub IsFull : Refusal → SeatView → SeatView → Type 0
 IsFull why old new = (why ≡ refusal.Full) × (length new.seen ≡ old.cache.limit)
 
 -- Why a cache refused an Add that fits a page of it: it did not wait for others, or it came to its
--- turn, and its history was full or memory was refused. Without tries it never comes to its turn.
-abbrev pub RefusesTried : Refusal → SeatView → SeatView → ℕ → Type 0
-RefusesTried why old new tries = (why ≡ refusal.Busy) ⊎
-    ((tries ≢ 0) × (IsFull why old new ⊎ (why ≡ refusal.NoMemory)))
+-- turn, and its history was full or memory was refused.
+abbrev pub RefusesTried : Refusal → SeatView → SeatView → Type 0
+RefusesTried why old new = (why ≡ refusal.Busy) ⊎ IsFull why old new ⊎ (why ≡ refusal.NoMemory)
 
 -- what a cache says of an Add that it refused, and what C is told
 abbrev pub IsCodeOf : TryAddFault → Refusal → Type 0
@@ -146,19 +153,30 @@ pub record IsSeatTooLarge (why : Refusal) (old new : SeatView) (asked : AskedSpa
   pub same : new ≡ old
 
 -- Why an Add at a seat was refused.
-abbrev pub RefusesSeatAdd : Refusal → SeatView → SeatView → AskedAdd → ℕ → Type 0
-RefusesSeatAdd why old new asked tries =
+abbrev pub RefusesSeatAdd : Refusal → SeatView → SeatView → AskedAdd → Type 0
+RefusesSeatAdd why old new asked =
     RefusesTime why asked.value.time ⊎ RefusesTime why asked.moment ⊎
     RefusesAddSpan why asked.span ⊎ IsSeatTooLarge why old new asked.span ⊎
-    RefusesTried why old new tries
+    RefusesTried why old new
 
--- What an Add at a seat does.
-pub record AnswersSeatAdd {A : Type 0} (asked : AskedAdd) (tries place : ℕ) (told : Added)
+-- What an Add at a seat does that may be tried.
+pub record AnswersTriedAdd {A : Type 0} (asked : AskedAdd) (place : ℕ) (told : Added)
     (old new : SeatView) (did : Result A Refusal) : Type 0 where
   pub added : IfOk did (λ _. SeatAdds old new asked place told)
-  pub tried : IfOk did (λ _. tries ≢ 0)
-  pub refused : IfErr did (λ why. RefusesSeatAdd why old new asked tries)
+  pub refused : IfErr did (λ why. RefusesSeatAdd why old new asked)
   pub spared : OnErr did (KeepsOnRefusal old new)
+
+-- Without tries an Add is refused by name, before all else that it names is read. The seat is as it
+-- was.
+pub record RefusesNoTries {A : Type 0} (old new : SeatView) (did : Result A Refusal) : Type 0 where
+  pub told : did ≡ Err refusal.Tries
+  pub same : new ≡ old
+
+-- What an Add at a seat does. It is refused for its tries just where they are 0.
+pub record AnswersSeatAdd {A : Type 0} (asked : AskedAdd) (tries place : ℕ) (told : Added)
+    (old new : SeatView) (did : Result A Refusal) : Type 0 where
+  pub no_tries : tries ≡ 0 → RefusesNoTries old new did
+  pub tried : tries ≢ 0 → AnswersTriedAdd asked place told old new did
 
 -- The span of a mark that was named costs more than the largest page may have. The seat is as it
 -- was.
@@ -170,18 +188,23 @@ pub record AreSeatTooLarge (why : Refusal) (old new : SeatView) (asked : AskedBa
   pub same : new ≡ old
 
 -- Why an Add of several marks at a seat was refused.
-abbrev pub RefusesSeatAddAll : Refusal → SeatView → SeatView → AskedBatch → ℕ → Type 0
-RefusesSeatAddAll why old new asked tries =
+abbrev pub RefusesSeatAddAll : Refusal → SeatView → SeatView → AskedBatch → Type 0
+RefusesSeatAddAll why old new asked =
     RefusesTime why asked.moment ⊎ RefusesMarks why asked.keys asked.marks ⊎
-    AreSeatTooLarge why old new asked ⊎ RefusesTried why old new tries
+    AreSeatTooLarge why old new asked ⊎ RefusesTried why old new
 
--- What an Add of several marks at a seat does.
-pub record AnswersSeatAddAll {A : Type 0} (asked : AskedBatch) (tries place : ℕ) (told : Added)
+-- What an Add of several marks at a seat does that may be tried.
+pub record AnswersTriedAddAll {A : Type 0} (asked : AskedBatch) (place : ℕ) (told : Added)
     (old new : SeatView) (did : Result A Refusal) : Type 0 where
   pub added : IfOk did (λ _. SeatAddsAll old new asked place told)
-  pub tried : IfOk did (λ _. tries ≢ 0)
-  pub refused : IfErr did (λ why. RefusesSeatAddAll why old new asked tries)
+  pub refused : IfErr did (λ why. RefusesSeatAddAll why old new asked)
   pub spared : OnErr did (KeepsOnRefusal old new)
+
+-- What an Add of several marks at a seat does. It is refused for its tries just where they are 0.
+pub record AnswersSeatAddAll {A : Type 0} (asked : AskedBatch) (tries place : ℕ) (told : Added)
+    (old new : SeatView) (did : Result A Refusal) : Type 0 where
+  pub no_tries : tries ≡ 0 → RefusesNoTries old new did
+  pub tried : tries ≢ 0 → AnswersTriedAddAll asked place told old new did
 
 -- What a handle names in one store goes to the next handle of another. The handle names nothing
 -- from then on.
@@ -199,15 +222,15 @@ NamesNone slots handle = (cache_at slots handle ≡ None) × (shared_at slots ha
     (seat_at slots handle ≡ None)
 
 -- Why nothing was moved.
-abbrev pub RefusesMove : Refusal → List Slot → ℕ → Type 0
-RefusesMove why slots handle = ((why ≡ refusal.Closed) × NamesNone slots handle) ⊎
-    (why ≡ refusal.NoMemory)
+abbrev pub RefusesMove : Refusal → List Slot → List Slot → ℕ → Type 0
+RefusesMove why slots other handle = ((why ≡ refusal.Closed) × NamesNone slots handle) ⊎
+    RefusesHandles why other 1 ⊎ (why ≡ refusal.NoMemory)
 
 -- What a call does that moves what a handle names.
 pub record AnswersMove {A : Type 0} (handle m : ℕ) (from to from' to' : List Slot)
     (did : Result A Refusal) : Type 0 where
   pub moved : IfOk did (λ _. Moves from to from' to' handle m)
-  pub refused : IfErr did (λ why. RefusesMove why from handle)
+  pub refused : IfErr did (λ why. RefusesMove why from to handle)
 
 -- A shared cache is closed. All its seats were handed in, and what all of them saw was a beginning
 -- of one history, which has `adds` Adds.

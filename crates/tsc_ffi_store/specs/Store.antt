@@ -1,26 +1,26 @@
 -- A store: what its handles name, and what a call does to what a handle names.
-use Rattle.std.specs.Prelude.{◌≡◌, ◌≢◌, ◌+◌, ◌⊎◌, ℕ, List, [], length, slice_get, slice_set, Option, Some, None, Result, Err, IfOk, IfErr}
-use Rattle.tsc_cache.specs.CacheView.{CacheView}
-use Rattle.tsc_shared.specs.Seats.{SharedView, SeatView}
+use Rattle.std.specs.Prelude.{◌≡◌, ◌≢◌, ◌+◌, ◌-◌, ◌^◌, ◌<◌, ◌⊎◌, ℕ, List, [], length, slice_get, slice_set, Option, Some, None, Result, Err, IfOk, IfErr}
+use Rattle.tsc_shared.specs.Seats.{SharedView}
+use Rattle.tsc_ffi_store.specs.declared.counts.CountedCache.{CountedCache}
+use Rattle.tsc_ffi_store.specs.declared.counts.CountedSeat.{CountedSeat}
 use Rattle.tsc_ffi_store.specs.declared.refusal.Refusal.{Refusal}
 use Rattle.tsc_ffi_store.specs.declared.refusal.Refusal.TheVariants as refusal
 use Rattle.tsc_ffi_store.specs.declared.store.Slot.{Slot}
-use Rattle.tsc_ffi_store.specs.declared.store.Store.{Store}
 use Rattle.tsc_ffi_store.specs.declared.store.Slot.TheVariants.{Closed, Own, Shared, Seat}
 
--- the cache that a slot holds
-abbrev pub cache_of : Slot → Option CacheView
+-- the cache that a slot holds, with what was asked of it
+abbrev pub cache_of : Slot → Option CountedCache
 cache_of Closed = None
 cache_of (Own cache) = Some cache
 cache_of (Shared cache) = None
 cache_of (Seat seat) = None
 
-abbrev pub cache_in : Option Slot → Option CacheView
+abbrev pub cache_in : Option Slot → Option CountedCache
 cache_in None = None
 cache_in (Some slot) = cache_of slot
 
 -- the cache that a handle names, if it names one
-abbrev pub cache_at : List Slot → ℕ → Option CacheView
+abbrev pub cache_at : List Slot → ℕ → Option CountedCache
 cache_at slots handle = cache_in (slice_get slots handle)
 
 -- the shared cache that a slot holds
@@ -38,19 +38,19 @@ shared_in (Some slot) = shared_of slot
 abbrev pub shared_at : List Slot → ℕ → Option SharedView
 shared_at slots handle = shared_in (slice_get slots handle)
 
--- the seat that a slot holds
-abbrev pub seat_of : Slot → Option SeatView
+-- the seat that a slot holds, with what was asked of it
+abbrev pub seat_of : Slot → Option CountedSeat
 seat_of Closed = None
 seat_of (Own cache) = None
 seat_of (Shared cache) = None
 seat_of (Seat seat) = Some seat
 
-abbrev pub seat_in : Option Slot → Option SeatView
+abbrev pub seat_in : Option Slot → Option CountedSeat
 seat_in None = None
 seat_in (Some slot) = seat_of slot
 
 -- the seat that a handle names, if it names one
-abbrev pub seat_at : List Slot → ℕ → Option SeatView
+abbrev pub seat_at : List Slot → ℕ → Option CountedSeat
 seat_at slots handle = seat_in (slice_get slots handle)
 
 -- No handle is given, and whatever another handle than this one names is as before.
@@ -79,6 +79,10 @@ pub record GivesNext (old new : List Slot) (handle : ℕ) : Type 0 where
   pub others : (other : ℕ) → other ≢ handle → cache_at new other ≡ cache_at old other
   pub all_others : (other : ℕ) → other ≢ handle → slice_get new other ≡ slice_get old other
 
+-- There are not so many handles more: they end at 2^64 - 1, which is none.
+abbrev pub RefusesHandles : Refusal → List Slot → ℕ → Type 0
+RefusesHandles why slots more = (why ≡ refusal.Full) × (2 ^ 64 - 1 < length slots + more)
+
 -- A handle names no cache, so a call is refused.
 pub record NamesNoCache {A : Type 0} (slots : List Slot) (handle : ℕ) (did : Result A Refusal) :
     Type 0 where
@@ -86,30 +90,32 @@ pub record NamesNoCache {A : Type 0} (slots : List Slot) (handle : ℕ) (did : R
   pub closed : did ≡ Err refusal.Closed
 
 -- A call reads the cache that a handle names.
-pub record ReadsCache {A : Type 0} (Reads : CacheView → Result A Refusal → Type 0)
+pub record ReadsCache {A : Type 0} (Reads : CountedCache → Result A Refusal → Type 0)
     (slots : List Slot) (handle : ℕ) (did : Result A Refusal) : Type 0 where
-  pub cache : CacheView
+  pub cache : CountedCache
   pub holds : cache_at slots handle ≡ Some cache
   pub reads : Reads cache did
 
 -- What a call answers that reads a cache by its handle.
-abbrev pub AnswersOfCache : {A : Type 0} → (CacheView → Result A Refusal → Type 0) → List Slot → ℕ →
-    Result A Refusal → Type 0
+abbrev pub AnswersOfCache : {A : Type 0} → (CountedCache → Result A Refusal → Type 0) → List Slot →
+    ℕ → Result A Refusal → Type 0
 AnswersOfCache Reads slots handle did =
     NamesNoCache slots handle did ⊎ ReadsCache Reads slots handle did
 
 -- A call works on the cache that a handle names. What the other handles name is as before.
-pub record WorksOnCache {A : Type 0} (Works : CacheView → CacheView → Result A Refusal → Type 0)
-    (old new : List Slot) (handle : ℕ) (did : Result A Refusal) : Type 0 where
-  pub cache : CacheView
-  pub after : CacheView
+pub record WorksOnCache {A : Type 0}
+    (Works : CountedCache → CountedCache → Result A Refusal → Type 0) (old new : List Slot)
+    (handle : ℕ) (did : Result A Refusal) : Type 0 where
+  pub cache : CountedCache
+  pub after : CountedCache
   pub holds : cache_at old handle ≡ Some cache
   pub leaves : new ≡ slice_set old handle (Own after)
   pub works : Works cache after did
 
 -- What a call does that works on a cache by its handle.
-abbrev pub DoesToCache : {A : Type 0} → (CacheView → CacheView → Result A Refusal → Type 0) →
-    List Slot → List Slot → ℕ → Result A Refusal → Type 0
+abbrev pub DoesToCache : {A : Type 0} →
+    (CountedCache → CountedCache → Result A Refusal → Type 0) → List Slot → List Slot → ℕ →
+    Result A Refusal → Type 0
 DoesToCache Works old new handle did =
     (NamesNoCache old handle did × (new ≡ old)) ⊎ WorksOnCache Works old new handle did
 
@@ -120,22 +126,22 @@ pub record NamesNoSeat {A : Type 0} (slots : List Slot) (handle : ℕ) (did : Re
   pub closed : did ≡ Err refusal.Closed
 
 -- A call works on the seat that a handle names. What the other handles name is as before.
-pub record WorksOnSeat {A : Type 0} (Works : SeatView → SeatView → Result A Refusal → Type 0)
+pub record WorksOnSeat {A : Type 0} (Works : CountedSeat → CountedSeat → Result A Refusal → Type 0)
     (old new : List Slot) (handle : ℕ) (did : Result A Refusal) : Type 0 where
-  pub seat : SeatView
-  pub after : SeatView
+  pub seat : CountedSeat
+  pub after : CountedSeat
   pub holds : seat_at old handle ≡ Some seat
   pub leaves : new ≡ slice_set old handle (Seat after)
   pub works : Works seat after did
 
 -- What a call does that works on a seat by its handle.
-abbrev pub DoesToSeat : {A : Type 0} → (SeatView → SeatView → Result A Refusal → Type 0) →
+abbrev pub DoesToSeat : {A : Type 0} → (CountedSeat → CountedSeat → Result A Refusal → Type 0) →
     List Slot → List Slot → ℕ → Result A Refusal → Type 0
 DoesToSeat Works old new handle did =
     (NamesNoSeat old handle did × (new ≡ old)) ⊎ WorksOnSeat Works old new handle did
 
 -- the slots of the store that a pointer of C owns; one that owns none is like one with an empty
 -- store
-abbrev pub slots_of : Option Store → List Slot
+abbrev pub slots_of : Option (List Slot) → List Slot
 slots_of None = []
-slots_of (Some store) = store.slots.items
+slots_of (Some slots) = slots

@@ -1,5 +1,5 @@
 -- What was read of a span, told as bytes, and what such bytes make of a cache.
-use Rattle.std.specs.Prelude.{◌≡◌, ◌⊎◌, ℕ, List, false, Some, Result, Ok, Err, IfOk, IfErr, OnErr}
+use Rattle.std.specs.Prelude.{◌≡◌, ◌⊎◌, ℕ, List, length, false, Some, Result, Ok, Err, IfOk, IfErr, OnErr}
 use Rattle.tsc_time.specs.Time.{Time}
 use Rattle.tsc_span.specs.Span.{Interval}
 use Rattle.tsc_cache.specs.declared.added.Added.{Added}
@@ -7,11 +7,15 @@ use Rattle.tsc_cache.specs.Settings.{Settings}
 use Rattle.tsc_cache.specs.State.{CacheState, step_all}
 use Rattle.tsc_cache.specs.Batch.{AddsAll, all_fit}
 use Rattle.tsc_cache.specs.CacheView.{CacheView, RepresentsState}
+use Rattle.tsc_shared.specs.Seats.{SeatView}
+use Rattle.tsc_shared.specs.Answers.{HasLookedOn}
 use Rattle.timestamp_cache.specs.declared.summary_fault.SummaryFault.{SummaryFault}
 use Rattle.timestamp_cache.specs.declared.summary_fault.SummaryFault.TheVariants.{Version, Length}
 use Rattle.timestamp_cache.specs.declared.summary_fault.SummaryFault.TheVariants.{Checksum, Form}
 use Rattle.timestamp_cache.specs.declared.summary_fault.SummaryFault.TheVariants.{NoMemory}
 use Rattle.timestamp_cache.specs.HandOver.{Summary, Summarizes, marks_told, TakesOver}
+use Rattle.timestamp_cache.specs.declared.hand_over.SeatSummary.{SeatSummary}
+use Rattle.timestamp_cache.specs.SeatSummaries.{SummarizesAt}
 use Rattle.timestamp_cache.specs.SummaryBytes.{summary_bytes}
 use Rattle.timestamp_cache.specs.SummaryReading.{summary_of}
 use Rattle.tsc_ffi_store.specs.declared.ctypes.TscTime.{TscTime}
@@ -64,6 +68,25 @@ pub record AnswersSummary (asked : AskedSummary) (cache : CacheView) (did : Resu
     : Type 0 where
   pub told : IfOk did (λ bytes. TellsSummary cache asked bytes)
   pub refused : IfErr did (λ why. RefusesSummary why asked)
+
+-- Bytes tell what a seat is told of the reads of the span that a call names. They are read back as
+-- that, and the seat has seen `seen` Adds then.
+pub record TellsSeatSummary (old new : SeatView) (asked : AskedSummary) (seen : ℕ) (bytes : List ℕ)
+    : Type 0 where
+  pub span : Interval
+  pub asked_for : add_span asked.span ≡ Some span
+  pub told : SeatSummary
+  pub summarizes : SummarizesAt old new span asked.most told
+  pub front : seen ≡ length new.seen
+  pub written : bytes ≡ summary_bytes told.summary
+  pub read_back : summary_of bytes ≡ Ok told.summary
+
+-- What a seat answers that is asked for a summary. It has no Add more of its own then, and goes on.
+pub record AnswersSeatSummary (asked : AskedSummary) (seen : ℕ) (old new : SeatView)
+    (did : Result (List ℕ) Refusal) : Type 0 where
+  pub told : IfOk did (λ bytes. TellsSeatSummary old new asked seen bytes)
+  pub refused : IfErr did (λ why. RefusesSummary why asked)
+  pub looked : (new ≡ old) ⊎ HasLookedOn old new
 
 -- Bytes that are answered go into a buffer. Where they are refused it is as before.
 abbrev pub PutsBytes : Result (List ℕ) Refusal → ℕ → List ℕ → List ℕ → ℕ → ℕ → Type 0

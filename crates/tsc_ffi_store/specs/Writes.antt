@@ -16,8 +16,8 @@ use Rattle.tsc_ffi_store.specs.declared.ctypes.TscValue.{TscValue}
 use Rattle.tsc_ffi_store.specs.declared.ctypes.WriteArgs.{WriteArgs}
 use Rattle.tsc_ffi_store.specs.declared.refusal.Refusal.{Refusal}
 use Rattle.tsc_ffi_store.specs.declared.refusal.Refusal.TheVariants as refusal
-use Rattle.tsc_ffi_store.specs.Decode.{span_asked, lookup_span, RefusesTime}
-use Rattle.tsc_ffi_store.specs.Decode.{RefusesEnds}
+use Rattle.tsc_ffi_store.specs.Decode.{span_asked, add_span, RefusesTime}
+use Rattle.tsc_ffi_store.specs.Decode.{RefusesWrittenSpan}
 use Rattle.tsc_ffi_store.specs.Marks.{part_of, RefusesPart}
 
 -- What a call says of a write: where the keys of its spans lie, these, when it is to be made, and
@@ -39,13 +39,14 @@ write_asked keys spans write = record {
 abbrev pub asked_write : WriteArgs → AskedWrite
 asked_write args = write_asked args.keys.now args.spans.now args.write.now
 
--- A span is the one that some words ask for: both of its keys are parts of the bytes.
+-- A span is the one that some words ask for: both of its keys are parts of the bytes, and it is not
+-- inverted.
 pub record IsSpan (keys : List ℕ) (words : TscSpan) (s : Interval) : Type 0 where
   pub from : KeyBytes
   pub to : KeyBytes
   pub from_lies : part_of keys words.from_at words.from_len ≡ Some from
   pub to_lies : part_of keys words.to_at words.to_len ≡ Some to
-  pub span : lookup_span (span_asked from to words.ends) ≡ Some s
+  pub span : add_span (span_asked from to words.ends) ≡ Some s
 
 -- Spans are those that an array asks for: as many, in their order.
 abbrev pub AreSpans : List ℕ → List TscSpan → List Interval → Type 0
@@ -54,12 +55,23 @@ AreSpans keys [] (s ∷ ss) = ⊥
 AreSpans keys (w ∷ ws) [] = ⊥
 AreSpans keys (w ∷ ws) (s ∷ ss) = IsSpan keys w s × AreSpans keys ws ss
 
+-- each of some words asks for a span
+abbrev pub AllSpans : List ℕ → List TscSpan → Type 0
+AllSpans keys words = (spans : List Interval) × AreSpans keys words spans
+
+-- Both keys of a span lie among the bytes, and they and its ends name no span to be written.
+pub record RefusesKeysAndEnds (why : Refusal) (keys : List ℕ) (words : TscSpan) : Type 0 where
+  pub from : KeyBytes
+  pub to : KeyBytes
+  pub from_lies : part_of keys words.from_at words.from_len ≡ Some from
+  pub to_lies : part_of keys words.to_at words.to_len ≡ Some to
+  pub refused : RefusesWrittenSpan why (span_asked from to words.ends)
+
 -- Why the words of a span were refused.
 abbrev pub RefusesSpan : Refusal → List ℕ → TscSpan → Type 0
 RefusesSpan why keys words =
-    RefusesPart why keys words.from_at words.from_len ⊎ RefusesPart why keys words.to_at
-    words.to_len
-    ⊎ RefusesEnds why words.ends
+    RefusesPart why keys words.from_at words.from_len ⊎
+    RefusesPart why keys words.to_at words.to_len ⊎ RefusesKeysAndEnds why keys words
 
 -- Why an array of spans was refused: one of them is.
 abbrev pub RefusesSpans : Refusal → List ℕ → List TscSpan → Type 0
@@ -95,12 +107,19 @@ TellsTime Tells asked at did =
 abbrev pub AnswersWrite : {A : Type 0} → AskedWrite → Time → CacheView → Result A Refusal → Type 0
 AnswersWrite asked at cache did = TellsTime (TellsWrite cache asked) asked at did
 
+-- A seat was asked about what is no write, or a write is clear at no time. Where it was no write,
+-- the seat is as it was.
+abbrev pub RefusesSeatWrite : Refusal → AskedWrite → SeatView → SeatView → Type 0
+RefusesSeatWrite why asked old new = (RefusesWrite why asked × (new ≡ old)) ⊎
+    ((why ≡ refusal.NoTime) × AsksWrite old new asked None)
+
 -- What a seat answers to the question from when on a write may be made. The seat has seen `seen`
 -- Adds in the end.
 pub record AnswersSeatWrite {A : Type 0} (asked : AskedWrite) (seen : ℕ) (at : Time)
     (old new : SeatView) (did : Result A Refusal) : Type 0 where
-  pub told : TellsTime (AsksWrite old new asked) asked at did
+  pub told : IfOk did (λ _. AsksWrite old new asked (Some at))
   pub front : IfOk did (λ _. seen ≡ length new.seen)
+  pub refused : IfErr did (λ why. RefusesSeatWrite why asked old new)
 
 -- A cache tells whether a write of some spans may be made at its time: whether that is clear of
 -- what it answers to each. If it may, the write is clear of each read that was added.
@@ -131,4 +150,4 @@ pub record AnswersSeatMayWrite {A : Type 0} (asked : AskedWrite) (seen : ℕ) (m
     (old new : SeatView) (did : Result A Refusal) : Type 0 where
   pub told : IfOk did (λ _. AsksMayWrite old new asked may)
   pub front : IfOk did (λ _. seen ≡ length new.seen)
-  pub refused : IfErr did (λ why. RefusesWrite why asked)
+  pub refused : IfErr did (λ why. RefusesWrite why asked × (new ≡ old))

@@ -1,11 +1,13 @@
 //! The requests for caches of one thread at a time.
 
 ghost use Rattle.std.specs.Prelude.{◌≡◌, IfOk, IfErr, OnErr};
-ghost use Rattle.tsc_ffi_store.specs.CacheCalls.{Opens, StandsAt, Counts, AnswersLookup, AnswersAdd, AnswersAddAll};
+ghost use Rattle.tsc_ffi_store.specs.CacheCalls.{Opens, StandsAt, TellsFigures, AnswersLookup, AnswersAdd, AnswersAddAll};
+ghost use Rattle.tsc_ffi_store.specs.Counts.{CountsLookup, CountsAdd, add_counted};
 ghost use Rattle.tsc_ffi_store.specs.Decode.{time_of, value_of, added_of, asked_span, asked_add, asked_batch};
 ghost use Rattle.tsc_ffi_store.specs.Store.{cache_of, cache_at, LetsGo, AnswersClose, GivesNext};
 ghost use Rattle.tsc_ffi_store.specs.declared.refusal.Refusal.TheVariants.{NoMemory, TooLarge};
 
+use crate::counts::{CountedCache, Counts};
 use crate::ctypes::{AddArgs, BatchArgs, SpanArgs, TscAdded, TscFigures, TscTime, TscValue};
 use crate::decode::{
     POINT, added_span, looked_up_span, time, value, words_of, words_of_added, words_of_figures,
@@ -13,7 +15,7 @@ use crate::decode::{
 };
 use crate::marks::marks;
 use crate::refusal::Refusal;
-use crate::store::{Slot, Store};
+use crate::store::{Slot, Store, give_next, place_of};
 use std::alloc::Global;
 use std::mem::replace;
 use tsc_cache::{Cache, CacheFault, Config, TimestampCache};
@@ -39,30 +41,43 @@ impl Store {
     /// Opens a cache, and gives its handle.
     pub fn open(&mut self, alloc: Global, config: Config) -> Result<u64, Refusal>
         ensures opened { IfOk result
-            (λ handle. Opens (cache_at self.old.slots.items handle)
-            (cache_at self.new.slots.items handle) config) }
-        ensures given { IfOk result
-            (λ handle. GivesNext self.old.slots.items self.new.slots.items handle) }
-        ensures refused { IfErr result (λ why. why ≡ NoMemory) }
-        ensures unchanged { OnErr result (self.new.slots.items ≡ self.old.slots.items) }
+            (λ handle. Opens (cache_at self.old handle) (cache_at self.new handle) config) }
+        ensures given { IfOk result (λ handle. GivesNext self.old self.new handle) }
+        ensures refused { IfErr result (λ why. RefusesHandles why self.old 1 ⊎ (why ≡ NoMemory)) }
+        ensures unchanged { OnErr result (self.new ≡ self.old) }
     {
+        if self.next == u64::MAX {
+            return Err(Refusal::Full);
+        }
         let Ok(cache) = Cache::new(alloc, config) else {
             return Err(Refusal::NoMemory);
         };
-        let handle = self.slots.len() as u64;
-        match self.slots.push(Slot::Own(cache)) {
-            Ok(()) => Ok(handle),
+        if self.handles.reserve(1).is_err() {
+            return Err(Refusal::NoMemory);
+        }
+        match self.slots.push(Slot::Own(CountedCache::new(cache))) {
+            Ok(()) => Ok(give_next(&mut self.handles, &mut self.next)),
             Err(_) => Err(Refusal::NoMemory),
         }
     }
 
     /// Frees a cache.
     pub fn close(&mut self, handle: u64) -> Result<(), Refusal>
-        ensures answers { AnswersClose cache_at handle self.old.slots.items self.new.slots.items
-            result }
-        ensures kept { OnErr result (self.new.slots.items ≡ self.old.slots.items) }
+        ensures answers { AnswersClose cache_at handle self.old self.new result }
+        ensures kept { OnErr result (self.new ≡ self.old) }
     {
-        match self.slots.get_mut(handle as usize) {
+        let did = self.close_there(handle);
+        self.forget(handle);
+        did
+    }
+
+    /// Frees a cache, and keeps the place of its handle.
+    fn close_there(&mut self, handle: u64) -> Result<(), Refusal>
+        ensures answers { AnswersClose cache_at handle self.old self.new result }
+        ensures kept { OnErr result (self.new ≡ self.old) }
+    {
+        let place = place_of(&self.handles, handle);
+        match self.slots.get_mut(place) {
             Some(slot) => slot.close(),
             None => Err(Refusal::Closed),
         }
@@ -70,48 +85,96 @@ impl Store {
 }
 
 /// Writes the latest time on a span.
-pub fn look_in(cache: &Cache, span: &SpanArgs<'_>, out: &mut TscValue) -> Result<(), Refusal>
-    ensures answers { AnswersLookup (asked_span span.now) (value_of out.new) cache.now result }
+pub fn look_in(
+    held: &mut CountedCache,
+    span: &SpanArgs<'_>,
+    out: &mut TscValue,
+) -> Result<(), Refusal>
+    ensures answers { CountsLookup (AnswersLookup (asked_span span.now) (value_of out.new)) held.old
+        held.new result }
     ensures kept { OnErr result (out.new ≡ out.old) }
 {
     if span.ends != POINT {
-        return look_formed(cache, span, out);
+        return look_formed(held, span, out);
     }
-    *out = words_of(cache.get_max_ref(&SpanRef::point(span.from)));
+    *out = words_of(held.cache.get_max_ref(&SpanRef::point(span.from)));
+    held.counts.answer();
     Ok(())
 }
 
 /// Writes the latest time on a span of any form, as [`look_in`] does.
 #[inline(never)]
-fn look_formed(cache: &Cache, span: &SpanArgs<'_>, out: &mut TscValue) -> Result<(), Refusal>
-    ensures answers { AnswersLookup (asked_span span.now) (value_of out.new) cache.now result }
+fn look_formed(
+    held: &mut CountedCache,
+    span: &SpanArgs<'_>,
+    out: &mut TscValue,
+) -> Result<(), Refusal>
+    ensures answers { CountsLookup (AnswersLookup (asked_span span.now) (value_of out.new)) held.old
+        held.new result }
     ensures kept { OnErr result (out.new ≡ out.old) }
 {
     let span = looked_up_span(span)?;
-    *out = words_of(cache.get_max_ref(&span));
+    *out = words_of(held.cache.get_max_ref(&span));
+    held.counts.answer();
     Ok(())
 }
 
 /// Writes where the floor stands.
-pub fn floor_in(cache: &Cache, out: &mut TscTime)
-    ensures { StandsAt cache.now (time_of out.new) }
+pub fn floor_in(held: &CountedCache, out: &mut TscTime)
+    ensures { StandsAt held.now.cache (time_of out.new) }
 {
-    *out = words_of_time(cache.low_water());
+    *out = words_of_time(held.cache.low_water());
 }
 
-/// Writes what can be counted of a cache.
-pub fn figures_in(cache: &Cache, out: &mut TscFigures)
-    ensures { Counts cache.now out.new }
+/// Writes what can be counted of a cache, and of what was asked of it.
+pub fn figures_in(held: &CountedCache, out: &mut TscFigures)
+    ensures { TellsFigures held.now out.new }
 {
-    *out = words_of_figures(cache.figures());
+    *out = words_of_figures(held.cache.figures(), held.cache.memory(), held.counts);
+}
+
+/// Counts an Add that was accepted, with the pages that it dropped, or that was refused.
+pub(crate) fn count(
+    counts: &mut Counts,
+    did: Result<(), Refusal>,
+    added: &TscAdded,
+) -> Result<(), Refusal>
+    ensures same { result ≡ did }
+    ensures counted { counts.new ≡ add_counted counts.old did added.now.evicted }
+{
+    match did {
+        Ok(()) => {
+            counts.add(added.evicted);
+            Ok(())
+        }
+        Err(why) => {
+            counts.refuse();
+            Err(why)
+        }
+    }
 }
 
 /// Adds a span with its value, and writes what that did.
+pub fn add_in(
+    alloc: Global,
+    held: &mut CountedCache,
+    args: &AddArgs<'_>,
+    out: &mut TscAdded,
+) -> Result<(), Refusal>
+    ensures answers { CountsAdd (AnswersAdd (asked_add args.now) (added_of out.new)) out.new.evicted
+        held.old held.new result }
+    ensures kept { OnErr result (out.new ≡ out.old) }
+{
+    let did = add_to(alloc, &mut held.cache, args, out);
+    count(&mut held.counts, did, out)
+}
+
+/// Adds a span with its value, uncounted.
 ///
 /// Most Adds are of a single key, which is lent to the cache where it lies: a known key is never
 /// copied. The other forms have a function of their own, so that what is written for them is not
 /// written for this one too.
-pub fn add_in(
+fn add_to(
     alloc: Global,
     cache: &mut Cache,
     args: &AddArgs<'_>,
@@ -136,7 +199,7 @@ pub fn add_in(
     }
 }
 
-/// Adds a span of any form with its value, and writes what that did, as [`add_in`] does.
+/// Adds a span of any form with its value, as [`add_to`] does.
 #[inline(never)]
 fn add_formed(
     alloc: Global,
@@ -160,6 +223,21 @@ fn add_formed(
 
 /// Adds several marks, all of them or none, and writes what that did.
 pub fn add_all_in(
+    alloc: Global,
+    held: &mut CountedCache,
+    args: &BatchArgs<'_>,
+    out: &mut TscAdded,
+) -> Result<(), Refusal>
+    ensures answers { CountsAdd (AnswersAddAll (asked_batch args.now) (added_of out.new))
+        out.new.evicted held.old held.new result }
+    ensures kept { OnErr result (out.new ≡ out.old) }
+{
+    let did = add_all_to(alloc, &mut held.cache, args, out);
+    count(&mut held.counts, did, out)
+}
+
+/// Adds several marks, all of them or none, uncounted.
+fn add_all_to(
     alloc: Global,
     cache: &mut Cache,
     args: &BatchArgs<'_>,

@@ -51,7 +51,7 @@ pub struct TscAdded {
     pub rotated: bool,
 }
 
-/// What can be counted of a cache.
+/// What can be counted of a cache, and of what was asked of it by a handle.
 #[repr(C)]
 #[derive(Clone, Copy)]
 pub struct TscFigures {
@@ -59,6 +59,11 @@ pub struct TscFigures {
     pub rotations: u64,
     pub nodes: u64,
     pub bytes: u64,
+    pub memory: u64,
+    pub adds: u64,
+    pub refusals: u64,
+    pub lookups: u64,
+    pub evicted: u64,
 }
 
 /// A span as a call names it: two keys where they lie, and a number for its ends.

@@ -4,9 +4,11 @@ ghost use Rattle.std.specs.Prelude.{◌≡◌, IfOk, IfErr, Ok as Made, Some};
 ghost use Rattle.tsc_span.specs.Span.{range};
 ghost use Rattle.tsc_ffi_store.specs.Decode.{time_of, value_of, added_of, figures_told, form_of, asked_span, add_span, lookup_span, asked_config, settings_asked, RefusesTime, RefusesEnds, RefusesKey, RefusesRange, RefusesAddSpan, RefusesSettings, RefusesConfig};
 
+use crate::counts::Counts;
 use crate::ctypes::{ConfigArgs, SpanArgs, TscAdded, TscFigures, TscTime, TscValue};
 use crate::refusal::Refusal;
 use std::alloc::Global;
+use std::cmp::Ordering;
 use tsc_cache::{Added, Config, ConfigFault, Figures};
 use tsc_span::{Ends, Key, Span, SpanFault, SpanRef};
 use tsc_time::{Timestamp, Value};
@@ -77,15 +79,20 @@ pub fn words_of(value: Value) -> TscValue
     }
 }
 
-/// The words of figures, which leave the floor out.
-pub fn words_of_figures(figures: Figures) -> TscFigures
-    ensures { result ≡ figures_told figures }
+/// The words of figures, which leave the floor out, of how much memory they take, and of counts.
+pub fn words_of_figures(figures: Figures, memory: u64, counts: Counts) -> TscFigures
+    ensures { result ≡ figures_told figures memory counts }
 {
     TscFigures {
         pages: figures.pages,
         rotations: figures.rotations,
         nodes: figures.nodes,
         bytes: figures.bytes,
+        memory,
+        adds: counts.adds,
+        refusals: counts.refusals,
+        lookups: counts.lookups,
+        evicted: counts.evicted,
     }
 }
 
@@ -195,6 +202,32 @@ pub fn looked_up_span<'a>(args: &SpanArgs<'a>) -> Result<SpanRef<'a>, Refusal>
         Form::Point => Ok(SpanRef::point(args.from)),
         Form::Range(ends) => Ok(SpanRef::for_lookup(args.from, args.to, ends)),
         Form::Onward(excluded) => Ok(SpanRef::onward(args.from, excluded)),
+    }
+}
+
+/// The span to be written that a call names. It is over the keys where they lie, which may be of
+/// any length. An inverted one is refused.
+pub fn written_span<'a>(args: &SpanArgs<'a>) -> Result<SpanRef<'a>, Refusal>
+    ensures value { IfOk result (λ span. add_span (asked_span args.now) ≡ Some span) }
+    ensures refused { IfErr result (λ why. RefusesWrittenSpan why (asked_span args.now)) }
+{
+    match form_meant_by(args.ends)? {
+        Form::Point => Ok(SpanRef::point(args.from)),
+        Form::Range(ends) => written_range(args.from, args.to, ends),
+        Form::Onward(excluded) => Ok(SpanRef::onward(args.from, excluded)),
+    }
+}
+
+/// The range between two keys that is to be written, over the keys where they lie.
+fn written_range<'a>(from: &'a [u8], to: &'a [u8], ends: Ends) -> Result<SpanRef<'a>, Refusal>
+    ensures value { IfOk result (λ span. range from.now to.now ends.exclude_from ends.exclude_to ≡
+        Some span) }
+    ensures refused { IfErr result (λ why. (why ≡ Inverted) ×
+        (is_inverted from.now to.now ≡ true)) }
+{
+    match from.cmp(to) {
+        Ordering::Greater => Err(Refusal::Inverted),
+        Ordering::Less | Ordering::Equal => Ok(SpanRef::for_lookup(from, to, ends)),
     }
 }
 

@@ -7,6 +7,7 @@
 
 mod buffer;
 mod cache_calls;
+mod counts;
 mod ctypes;
 mod decode;
 pub mod laws;
@@ -20,6 +21,7 @@ mod writes;
 
 pub use buffer::{REFUSED, put};
 pub use cache_calls::{add_all_in, add_in, figures_in, floor_in, look_in};
+pub use counts::{CountedCache, CountedSeat, Counts};
 pub use ctypes::{
     AddArgs, ApplyArgs, BatchArgs, ConfigArgs, SpanArgs, SummaryArgs, TscAdded, TscFigures,
     TscMark, TscSpan, TscTime, TscValue, WriteArgs,
@@ -28,5 +30,5 @@ pub use decode::{Form, config};
 pub use refusal::{OK, Refusal, code};
 pub use seat_calls::{add_all_at, add_at, figures_at, floor_at, look_at, may_seat};
 pub use store::{Slot, Store};
-pub use summaries::{apply_in, put_in};
+pub use summaries::{apply_in, put_at, put_in};
 pub use writes::{may_at, may_in, write_at, write_in};

@@ -15,11 +15,11 @@ pub enum Refusal {
     Ends = 3,
     /// A key has more than 4096 bytes.
     KeyTooLong = 4,
-    /// The first key of a span to be added is greater than the second.
+    /// The first key of a span to be added, written or summarized is greater than the second.
     Inverted = 5,
     /// A span to be added costs more than the largest page may have.
     TooLarge = 6,
-    /// A key of a mark does not lie among the bytes that came with it.
+    /// A key of a mark or a span does not lie among the bytes that came with it.
     Outside = 7,
     /// There may be no pages of these sizes.
     PageSize = 8,
@@ -35,7 +35,8 @@ pub enum Refusal {
     StillOut = 13,
     /// Others were in the way at each try.
     Busy = 14,
-    /// The history of the shared cache has as many Adds as it may have.
+    /// The history of the shared cache has as many Adds as it may have, or a store has given as many
+    /// handles as there are.
     Full = 15,
     /// A read of somebody else stands at the last time, so a write is clear at none.
     NoTime = 18,
@@ -47,6 +48,8 @@ pub enum Refusal {
     SummaryChecksum = 21,
     /// The digest is right, and what it is of is no summary.
     SummaryForm = 22,
+    /// An Add at a seat may try 0 times, so it is never made.
+    Tries = 23,
 }
 
 impl Refusal {

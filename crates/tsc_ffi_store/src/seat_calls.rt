@@ -9,6 +9,8 @@ ghost use Rattle.tsc_ffi_store.specs.Store.{seat_of, seat_at, shared_of, LetsGo,
 ghost use Rattle.tsc_ffi_store.specs.SeatCalls.{OpensShared, RefusesSeats, RefusesRoom, AnswersSeatLookup, CountsAt, AnswersSeatAdd, AnswersSeatAddAll, AnswersMove, IsCodeOf, EndsShared, AnswersCloseShared};
 ghost use Rattle.tsc_ffi_store.specs.declared.store.Slot.TheVariants as kinds;
 
+use crate::cache_calls::count;
+use crate::counts::CountedSeat;
 use crate::ctypes::{AddArgs, BatchArgs, SpanArgs, TscAdded, TscFigures, TscTime, TscValue};
 use crate::decode::{
     added_span, looked_up_span, time, value, words_of, words_of_added, words_of_figures,
@@ -17,11 +19,11 @@ use crate::decode::{
 use crate::marks::marks;
 use crate::refusal::Refusal;
 use crate::seats::{Owner, SeatHandle};
-use crate::store::{Slot, Store};
+use crate::store::{Slot, Store, give_next, place_of};
 use std::alloc::Global;
 use std::mem::replace;
 use tsc_cache::Config;
-use tsc_shared::{AddFault, TryAddFault};
+use tsc_shared::{AddFault, SeatFigures, TryAddFault};
 
 /// Whether a shared cache may have `seats` seats.
 pub fn may_seat(seats: u32) -> bool
@@ -37,8 +39,8 @@ impl Slot {
         ensures unchanged { OnErr result (self.new ≡ self.old) }
     {
         match replace(self, Slot::Closed) {
-            Slot::Seat(seat) => {
-                seat.close();
+            Slot::Seat(held) => {
+                held.seat.close();
                 Ok(())
             }
             slot @ (Slot::Closed | Slot::Own(_) | Slot::Shared(_)) => {
@@ -83,21 +85,25 @@ impl Store {
         limit: u64,
     ) -> Result<u64, Refusal>
         ensures opened { IfOk result
-            (λ handle. OpensShared self.old.slots.items self.new.slots.items handle config seats
-            limit) }
-        ensures refused { IfErr result (λ why. RefusesSeats why seats ⊎ RefusesRoom why seats) }
-        ensures unchanged { OnErr result (self.new.slots.items ≡ self.old.slots.items) }
+            (λ handle. OpensShared self.old self.new handle config seats limit) }
+        ensures refused { IfErr result (λ why. RefusesSeats why seats ⊎
+            RefusesHandles why self.old (seats + 1) ⊎ RefusesRoom why seats) }
+        ensures unchanged { OnErr result (self.new ≡ self.old) }
     {
         if !may_seat(seats) {
             return Err(Refusal::Seats);
         }
-        let handle = self.slots.len() as u64;
-        if self.slots.reserve(seats as usize + 1).is_err() {
+        if u64::MAX - self.next <= seats as u64 {
+            return Err(Refusal::Full);
+        }
+        let many = seats as usize + 1;
+        if self.handles.reserve(many).is_err() || self.slots.reserve(many).is_err() {
             return Err(Refusal::NoMemory);
         }
         match Owner::open(alloc, config, seats, limit) {
-            Ok((owner, handles)) => {
-                put(&mut self.slots, owner, handles);
+            Ok((owner, seats)) => {
+                let handle = self.next;
+                put(&mut self.handles, &mut self.slots, &mut self.next, owner, seats);
                 Ok(handle)
             }
             Err(_) => Err(Refusal::NoMemory),
@@ -106,11 +112,21 @@ impl Store {
 
     /// Hands in a seat.
     pub fn close_seat(&mut self, handle: u64) -> Result<(), Refusal>
-        ensures answers { AnswersClose seat_at handle self.old.slots.items self.new.slots.items
-            result }
-        ensures kept { OnErr result (self.new.slots.items ≡ self.old.slots.items) }
+        ensures answers { AnswersClose seat_at handle self.old self.new result }
+        ensures kept { OnErr result (self.new ≡ self.old) }
     {
-        match self.slots.get_mut(handle as usize) {
+        let did = self.close_seat_there(handle);
+        self.forget(handle);
+        did
+    }
+
+    /// Hands in a seat, and keeps the place of its handle.
+    fn close_seat_there(&mut self, handle: u64) -> Result<(), Refusal>
+        ensures answers { AnswersClose seat_at handle self.old self.new result }
+        ensures kept { OnErr result (self.new ≡ self.old) }
+    {
+        let place = place_of(&self.handles, handle);
+        match self.slots.get_mut(place) {
             Some(slot) => slot.close_seat(),
             None => Err(Refusal::Closed),
         }
@@ -118,12 +134,21 @@ impl Store {
 
     /// Closes a shared cache, and writes how many Adds its history has.
     pub fn close_shared(&mut self, handle: u64, length: &mut u64) -> Result<(), Refusal>
-        ensures answers { AnswersCloseShared length.new handle self.old.slots.items
-            self.new.slots.items result }
-        ensures kept { OnErr result ((self.new.slots.items ≡ self.old.slots.items) ×
-            (length.new ≡ length.old)) }
+        ensures answers { AnswersCloseShared length.new handle self.old self.new result }
+        ensures kept { OnErr result ((self.new ≡ self.old) × (length.new ≡ length.old)) }
     {
-        match self.slots.get_mut(handle as usize) {
+        let did = self.close_shared_there(handle, length);
+        self.forget(handle);
+        did
+    }
+
+    /// Closes a shared cache, and keeps the place of its handle.
+    fn close_shared_there(&mut self, handle: u64, length: &mut u64) -> Result<(), Refusal>
+        ensures answers { AnswersCloseShared length.new handle self.old self.new result }
+        ensures kept { OnErr result ((self.new ≡ self.old) × (length.new ≡ length.old)) }
+    {
+        let place = place_of(&self.handles, handle);
+        match self.slots.get_mut(place) {
             Some(slot) => slot.close_shared(length),
             None => Err(Refusal::Closed),
         }
@@ -131,9 +156,11 @@ impl Store {
 
     /// Hands in all seats, and lets all else go.
     pub fn hand_in(&mut self) {
-        while let Some(slot) = self.slots.pop() {
-            if let Slot::Seat(seat) = slot {
-                seat.close();
+        self.handles.clear();
+        let alloc = *self.slots.allocator();
+        for slot in replace(&mut self.slots, Vec::new(alloc)) {
+            if let Slot::Seat(held) = slot {
+                held.seat.close();
             }
         }
     }
@@ -145,80 +172,124 @@ impl Store {
         other: &mut Store,
         other_handle: &mut u64,
     ) -> Result<(), Refusal>
-        ensures answers { AnswersMove handle other_handle.new self.old.slots.items
-            other.old.slots.items self.new.slots.items other.new.slots.items result }
-        ensures kept { OnErr result ((self.new.slots.items ≡ self.old.slots.items) ×
-            (other.new.slots.items ≡ other.old.slots.items) ×
+        ensures answers { AnswersMove handle other_handle.new self.old other.old self.new other.new
+            result }
+        ensures kept { OnErr result ((self.new ≡ self.old) × (other.new ≡ other.old) ×
             (other_handle.new ≡ other_handle.old)) }
     {
-        if other.slots.reserve(1).is_err() {
+        if other.next == u64::MAX {
+            return Err(Refusal::Full);
+        }
+        if other.handles.reserve(1).is_err() || other.slots.reserve(1).is_err() {
             return Err(Refusal::NoMemory);
         }
         let Some(slot) = self.take(handle) else {
             return Err(Refusal::Closed);
         };
-        *other_handle = other.slots.len() as u64;
-        let Ok(()) = other.slots.push(slot) else {
-            unreachable!()
-        };
+        *other_handle = other.next;
+        lay(&mut other.handles, &mut other.slots, &mut other.next, slot);
+        self.forget(handle);
         Ok(())
     }
 }
 
-/// Lays a shared cache and its seats behind what there is, for which there is room.
-fn put(slots: &mut Vec<Slot>, owner: Owner, handles: Vec<SeatHandle>)
-    requires room { vec_len slots.old + 1 + length handles.items ≤ vec_capacity slots.old }
-    ensures { slots.new.items ≡ slots.old.items ++ kinds.Shared owner ∷
-        map (λ s. kinds.Seat s) handles.items }
+/// Lays a shared cache and its seats behind what there is, for which there is room, at the next
+/// handles.
+fn put(
+    handles: &mut Vec<u64>,
+    slots: &mut Vec<Slot>,
+    next: &mut u64,
+    owner: Owner,
+    seats: Vec<SeatHandle>,
+)
 {
-    let Ok(()) = slots.push(Slot::Shared(owner)) else {
+    lay(handles, slots, next, Slot::Shared(owner));
+    for seat in seats {
+        lay(handles, slots, next, Slot::Seat(CountedSeat::new(seat)));
+    }
+}
+
+/// Lays what the next handle names behind what there is, for which there is room.
+fn lay(handles: &mut Vec<u64>, slots: &mut Vec<Slot>, next: &mut u64, slot: Slot) {
+    let Ok(()) = slots.push(slot) else {
         unreachable!()
     };
-    for seat in handles {
-        let Ok(()) = slots.push(Slot::Seat(seat)) else {
-            unreachable!()
-        };
-    }
+    give_next(handles, next);
 }
 
 /// Writes the latest time on a span, and how many Adds the seat has seen then.
 pub fn look_at(
-    seat: &mut SeatHandle,
+    held: &mut CountedSeat,
     span: &SpanArgs<'_>,
     seen: &mut u64,
     out: &mut TscValue,
 ) -> Result<(), Refusal>
-    ensures answers { AnswersSeatLookup (asked_span span.now) seen.new (value_of out.new) seat.old
-        seat.new result }
+    ensures answers { CountsSeatLookup (AnswersSeatLookup (asked_span span.now) seen.new
+        (value_of out.new)) held.old held.new result }
     ensures kept { OnErr result ((seen.new ≡ seen.old) × (out.new ≡ out.old)) }
 {
     let span = looked_up_span(span)?;
-    let answer = seat.get_max_ref(&span);
+    let answer = held.seat.get_max_ref(&span);
     *seen = answer.front;
     *out = words_of(answer.value);
+    held.counts.answer();
     Ok(())
 }
 
 /// Writes where the floor of the cache of a seat stands, and how many Adds the seat has seen then.
-pub fn floor_at(seat: &mut SeatHandle, seen: &mut u64, out: &mut TscTime)
-    ensures { ReadsFloor seat.old seat.new (record { time = time_of out.new; front = seen.new }) }
+pub fn floor_at(held: &mut CountedSeat, seen: &mut u64, out: &mut TscTime)
+    ensures floor { ReadsFloor held.old.seat held.new.seat
+        (record { time = time_of out.new; front = seen.new }) }
+    ensures counts { held.new.counts ≡ held.old.counts }
 {
-    let answer = seat.low_water();
+    let answer = held.seat.low_water();
     *seen = answer.front;
     *out = words_of_time(answer.time);
 }
 
 /// Writes what can be counted of the cache of a seat, and how many Adds the seat has seen then.
-pub fn figures_at(seat: &mut SeatHandle, seen: &mut u64, out: &mut TscFigures)
-    ensures { CountsAt seat.old seat.new seen.new out.new }
+pub fn figures_at(held: &mut CountedSeat, seen: &mut u64, out: &mut TscFigures)
+    ensures { TellsFiguresAt held.old held.new seen.new out.new }
 {
-    let answer = seat.figures();
+    let (answer, memory) = figures_and_memory(&mut held.seat);
     *seen = answer.front;
-    *out = words_of_figures(answer.figures);
+    *out = words_of_figures(answer.figures, memory, held.counts);
+}
+
+/// The figures of the cache of a seat, and how much memory the copy takes that the seat reads. That
+/// is 0 where there are so many handles of the copy that the seat gets none.
+fn figures_and_memory(seat: &mut SeatHandle) -> (SeatFigures, u64)
+    ensures { ReadsFigures seat.old seat.new result.0 }
+{
+    match seat.snapshot() {
+        Ok(snapshot) => {
+            let figures = snapshot.cache.figures();
+            let front = snapshot.front;
+            (SeatFigures { figures, front }, snapshot.cache.memory())
+        }
+        Err(_) => (seat.figures(), 0),
+    }
 }
 
 /// Adds a span at a seat, and writes the place of that among all Adds, and what it did.
 pub fn add_at(
+    alloc: Global,
+    held: &mut CountedSeat,
+    args: &AddArgs<'_>,
+    tries: u32,
+    place: &mut u64,
+    out: &mut TscAdded,
+) -> Result<(), Refusal>
+    ensures answers { CountsSeatAdd (AnswersSeatAdd (asked_add args.now) tries place.new
+        (added_of out.new)) out.new.evicted held.old held.new result }
+    ensures kept { OnErr result ((place.new ≡ place.old) × (out.new ≡ out.old)) }
+{
+    let did = add_to_seat(alloc, &mut held.seat, args, tries, place, out);
+    count(&mut held.counts, did, out)
+}
+
+/// Adds a span at a seat, uncounted.
+fn add_to_seat(
     alloc: Global,
     seat: &mut SeatHandle,
     args: &AddArgs<'_>,
@@ -228,6 +299,25 @@ pub fn add_at(
 ) -> Result<(), Refusal>
     ensures answers { AnswersSeatAdd (asked_add args.now) tries place.new (added_of out.new)
         seat.old seat.new result }
+    ensures kept { OnErr result ((place.new ≡ place.old) × (out.new ≡ out.old)) }
+{
+    if tries == 0 {
+        return Err(Refusal::Tries);
+    }
+    try_add_to_seat(alloc, seat, args, tries, place, out)
+}
+
+/// Adds a span at a seat within so many tries, uncounted.
+fn try_add_to_seat(
+    alloc: Global,
+    seat: &mut SeatHandle,
+    args: &AddArgs<'_>,
+    tries: u32,
+    place: &mut u64,
+    out: &mut TscAdded,
+) -> Result<(), Refusal>
+    ensures answers { AnswersTriedAdd (asked_add args.now) place.new (added_of out.new) seat.old
+        seat.new result }
     ensures kept { OnErr result ((place.new ≡ place.old) × (out.new ≡ out.old)) }
 {
     let span = added_span(alloc, &args.span)?;
@@ -241,6 +331,23 @@ pub fn add_at(
 /// and what it did.
 pub fn add_all_at(
     alloc: Global,
+    held: &mut CountedSeat,
+    args: &BatchArgs<'_>,
+    tries: u32,
+    place: &mut u64,
+    out: &mut TscAdded,
+) -> Result<(), Refusal>
+    ensures answers { CountsSeatAdd (AnswersSeatAddAll (asked_batch args.now) tries place.new
+        (added_of out.new)) out.new.evicted held.old held.new result }
+    ensures kept { OnErr result ((place.new ≡ place.old) × (out.new ≡ out.old)) }
+{
+    let did = add_all_to_seat(alloc, &mut held.seat, args, tries, place, out);
+    count(&mut held.counts, did, out)
+}
+
+/// Adds several marks at a seat, uncounted.
+fn add_all_to_seat(
+    alloc: Global,
     seat: &mut SeatHandle,
     args: &BatchArgs<'_>,
     tries: u32,
@@ -248,6 +355,25 @@ pub fn add_all_at(
     out: &mut TscAdded,
 ) -> Result<(), Refusal>
     ensures answers { AnswersSeatAddAll (asked_batch args.now) tries place.new (added_of out.new)
+        seat.old seat.new result }
+    ensures kept { OnErr result ((place.new ≡ place.old) × (out.new ≡ out.old)) }
+{
+    if tries == 0 {
+        return Err(Refusal::Tries);
+    }
+    try_add_all_to_seat(alloc, seat, args, tries, place, out)
+}
+
+/// Adds several marks at a seat within so many tries, uncounted.
+fn try_add_all_to_seat(
+    alloc: Global,
+    seat: &mut SeatHandle,
+    args: &BatchArgs<'_>,
+    tries: u32,
+    place: &mut u64,
+    out: &mut TscAdded,
+) -> Result<(), Refusal>
+    ensures answers { AnswersTriedAddAll (asked_batch args.now) place.new (added_of out.new)
         seat.old seat.new result }
     ensures kept { OnErr result ((place.new ≡ place.old) × (out.new ≡ out.old)) }
 {

@@ -1,25 +1,26 @@
 //! A store: caches, shared caches and seats by their handles.
 
 ghost use Rattle.std.specs.Borrow.{sem};
-ghost use Rattle.std.specs.Prelude.{◌≡◌, ◌≢◌, IfSome, IfNone, None, [], option_map, slice_get, slice_set, Some};
+ghost use Rattle.std.specs.Prelude.{◌≡◌, ◌≢◌, ◌⊎◌, IfSome, IfNone, None, [], option_map, slice_get, slice_set, Some};
 ghost use Rattle.tsc_ffi_store.specs.declared.store.Slot.TheVariants as kinds;
 
-use crate::seats::{Owner, SeatHandle};
+use crate::counts::{CountedCache, CountedSeat};
+use crate::seats::Owner;
 use std::alloc::Global;
+use std::marker::Model;
 use std::mem::replace;
-use tsc_cache::Cache;
 
 /// What a handle that was given names.
 #[derive(Drop)]
 pub enum Slot {
-    /// What is left of a closed cache or seat.
+    /// Nothing any more: a cache or a seat was closed, or moved.
     Closed,
     /// A cache for calls of one thread at a time.
-    Own(Cache),
+    Own(CountedCache),
     /// A cache that threads share, for who opened it.
     Shared(Owner),
     /// A seat of one.
-    Seat(SeatHandle),
+    Seat(CountedSeat),
 }
 
 impl Slot {
@@ -27,7 +28,7 @@ impl Slot {
     ghost use Rattle.tsc_ffi_store.specs.Store.{cache_of, seat_of};
 
     /// The cache that is held.
-    pub(crate) fn cache(&self) -> Option<&Cache>
+    pub(crate) fn cache(&self) -> Option<&CountedCache>
         ensures { option_map (λ c. c.now) result ≡ cache_of self.now }
     {
         match self {
@@ -37,7 +38,7 @@ impl Slot {
     }
 
     /// The cache that is held, to be changed.
-    pub(crate) fn cache_mut(&mut self) -> Option<&mut Cache>
+    pub(crate) fn cache_mut(&mut self) -> Option<&mut CountedCache>
         ensures* writes_back { sem 𝓛 (LendsCache self.entry result) }
         ensures value { option_map (λ c. c.now) result ≡ cache_of self.old }
     {
@@ -48,7 +49,7 @@ impl Slot {
     }
 
     /// The seat that is held.
-    pub(crate) fn seat_mut(&mut self) -> Option<&mut SeatHandle>
+    pub(crate) fn seat_mut(&mut self) -> Option<&mut CountedSeat>
         ensures* writes_back { sem 𝓛 (LendsSeat self.entry result) }
         ensures value { option_map (λ s. s.now) result ≡ seat_of self.old }
     {
@@ -71,22 +72,42 @@ impl Slot {
     }
 }
 
-/// Slots by their handles, which count on from 0. No handle is given twice.
+/// What handles name. They count on from 0, and none is given twice.
+///
+/// The store keeps what is open alone: each handle that names something, and what it names at the
+/// same place of the other list. So its memory is that of as many as were open at once.
 #[derive(Drop)]
 pub struct Store {
-    pub slots: Vec<Slot>,
+    pub(crate) handles: Vec<u64>,
+    pub(crate) slots: Vec<Slot>,
+    pub(crate) next: u64,
+}
+
+impl Model for Store {
+    ghost use Rattle.std.specs.Prelude.{List};
+    ghost use Rattle.tsc_ffi_store.specs.declared.store.Slot.{Slot as Named};
+    ghost use Rattle.tsc_ffi_store.specs.OpenHandles.{named_by, AreOpen};
+
+    ghost Value = { List Named };
+
+    ghost view = { λ s. named_by s.handles.items s.slots.items s.next };
+
+    ghost invariant = { λ s. AreOpen s.handles.items s.slots.items s.next };
 }
 
 impl Store {
     ghost use Rattle.tsc_ffi_store.specs.Lending.{LendsCacheAt, LendsSeatAt};
+    ghost use Rattle.tsc_ffi_store.specs.OpenHandles.{Rises, IsPlaceOf};
     ghost use Rattle.tsc_ffi_store.specs.Store.{cache_at, shared_at, seat_at};
 
     /// A store that has given no handle.
     pub fn new(alloc: Global) -> Store
-        ensures { result.slots.items ≡ [] }
+        ensures { result ≡ [] }
     {
         Store {
+            handles: Vec::new(alloc),
             slots: Vec::new(alloc),
+            next: 0,
         }
     }
 
@@ -96,32 +117,34 @@ impl Store {
     }
 
     /// The cache that a handle names.
-    pub fn cache(&self, handle: u64) -> Option<&Cache>
-        ensures { option_map (λ c. c.now) result ≡ cache_at self.now.slots.items handle }
+    pub fn cache(&self, handle: u64) -> Option<&CountedCache>
+        ensures { option_map (λ c. c.now) result ≡ cache_at self.now handle }
     {
-        match self.slots.get(handle as usize) {
+        match self.slots.get(place_of(&self.handles, handle)) {
             Some(slot) => slot.cache(),
             None => None,
         }
     }
 
     /// The cache that a handle names, to be changed.
-    pub fn cache_mut(&mut self, handle: u64) -> Option<&mut Cache>
+    pub fn cache_mut(&mut self, handle: u64) -> Option<&mut CountedCache>
         ensures* writes_back { sem 𝓛 (LendsCacheAt self.entry handle result) }
-        ensures value { option_map (λ c. c.now) result ≡ cache_at self.old.slots.items handle }
+        ensures value { option_map (λ c. c.now) result ≡ cache_at self.old handle }
     {
-        match self.slots.get_mut(handle as usize) {
+        let place = place_of(&self.handles, handle);
+        match self.slots.get_mut(place) {
             Some(slot) => slot.cache_mut(),
             None => None,
         }
     }
 
     /// The seat that a handle names.
-    pub fn seat_mut(&mut self, handle: u64) -> Option<&mut SeatHandle>
+    pub fn seat_mut(&mut self, handle: u64) -> Option<&mut CountedSeat>
         ensures* writes_back { sem 𝓛 (LendsSeatAt self.entry handle result) }
-        ensures value { option_map (λ s. s.now) result ≡ seat_at self.old.slots.items handle }
+        ensures value { option_map (λ s. s.now) result ≡ seat_at self.old handle }
     {
-        match self.slots.get_mut(handle as usize) {
+        let place = place_of(&self.handles, handle);
+        match self.slots.get_mut(place) {
             Some(slot) => slot.seat_mut(),
             None => None,
         }
@@ -130,16 +153,66 @@ impl Store {
     /// What a handle names, which names nothing from then on.
     pub(crate) fn take(&mut self, handle: u64) -> Option<Slot>
         ensures taken { IfSome result
-            (λ s. (slice_get self.old.slots.items handle ≡ Some s) × (s ≢ kinds.Closed) ×
-            (self.new.slots.items ≡ slice_set self.old.slots.items handle kinds.Closed)) }
-        ensures no_cache { IfNone result (cache_at self.old.slots.items handle ≡ None) }
-        ensures no_shared { IfNone result (shared_at self.old.slots.items handle ≡ None) }
-        ensures no_seat { IfNone result (seat_at self.old.slots.items handle ≡ None) }
-        ensures unchanged { IfNone result (self.new.slots.items ≡ self.old.slots.items) }
+            (λ s. (slice_get self.old handle ≡ Some s) × (s ≢ kinds.Closed) ×
+            (self.new ≡ slice_set self.old handle kinds.Closed)) }
+        ensures no_cache { IfNone result (cache_at self.old handle ≡ None) }
+        ensures no_shared { IfNone result (shared_at self.old handle ≡ None) }
+        ensures no_seat { IfNone result (seat_at self.old handle ≡ None) }
+        ensures unchanged { IfNone result (self.new ≡ self.old) }
     {
-        match self.slots.get_mut(handle as usize) {
+        let place = place_of(&self.handles, handle);
+        match self.slots.get_mut(place) {
             Some(slot) => slot.take(),
             None => None,
         }
     }
+
+    /// Keeps no place for a handle that names nothing any more.
+    pub(crate) fn forget(&mut self, handle: u64)
+        ensures { self.new ≡ self.old }
+    {
+        let place = place_of(&self.handles, handle);
+        if let Some(Slot::Closed) = self.slots.get(place) {
+            self.handles.remove(place);
+            self.slots.remove(place);
+        }
+    }
+}
+
+/// The place of a handle among those that are open, in their order, or how many there are.
+pub(crate) fn place_of(handles: &[u64], handle: u64) -> usize
+    requires rises { Rises handles.now }
+    ensures { IsPlaceOf handles.now handle result }
+{
+    match handles.get(handle as usize) {
+        Some(at_its_number) if *at_its_number == handle => handle as usize,
+        _ => place_among(handles, handle),
+    }
+}
+
+/// The place of a handle as [`place_of`] tells it, where some below it were closed.
+fn place_among(handles: &[u64], handle: u64) -> usize
+    requires rises { Rises handles.now }
+    ensures { IsPlaceOf handles.now handle result }
+{
+    match handles.binary_search(&handle) {
+        Ok(place) => place,
+        Err(_) => handles.len(),
+    }
+}
+
+/// Gives the next handle, for which there is room.
+pub(crate) fn give_next(handles: &mut Vec<u64>, next: &mut u64) -> u64
+    requires room { vec_len handles.old < vec_capacity handles.old }
+    requires left { next.old < 2 ^ 64 - 1 }
+    ensures given { result ≡ next.old }
+    ensures laid { handles.new.items ≡ handles.old.items ++ next.old ∷ [] }
+    ensures next { next.new ≡ next.old + 1 }
+{
+    let handle = *next;
+    let Ok(()) = handles.push(handle) else {
+        unreachable!()
+    };
+    *next += 1;
+    handle
 }

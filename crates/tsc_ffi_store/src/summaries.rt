@@ -7,10 +7,12 @@ ghost use Rattle.timestamp_cache.specs.SummaryReading.{summary_of};
 ghost use Rattle.tsc_ffi_store.specs.Summaries.{asked_summary, asked_apply, TellsSummary, RefusesSummary, AnswersSummary, PutsOr, RefusesBytes, AnswersApply, IsFaultOf};
 
 use crate::buffer::put;
-use crate::cache_calls::of_cache_fault;
+use crate::cache_calls::{count, of_cache_fault};
+use crate::counts::{CountedCache, CountedSeat};
 use crate::ctypes::{ApplyArgs, SummaryArgs, TscAdded};
 use crate::decode::{added_span, time, words_of_added};
 use crate::refusal::{OK, Refusal};
+use crate::seats::SeatHandle;
 use std::alloc::Global;
 use timestamp_cache::{ReadSummary, SummaryFault, apply, summary};
 use tsc_cache::Cache;
@@ -18,18 +20,63 @@ use tsc_cache::Cache;
 /// Puts the bytes of a summary of a cache into a buffer that has room for them, and tells how many
 /// there are.
 pub fn put_in(
-    cache: &Cache,
+    held: &CountedCache,
     alloc: Global,
     args: &SummaryArgs<'_>,
     out: &mut [u8],
     len: &mut usize,
 ) -> u32
-    ensures { PutsOr (AnswersSummary (asked_summary args.now) cache.now)
+    ensures { PutsOr (AnswersSummary (asked_summary args.now) held.now.cache)
         result out.old out.new len.old len.new }
 {
-    match bytes_in(cache, alloc, args) {
+    match bytes_in(&held.cache, alloc, args) {
         Ok(bytes) => put(OK, bytes.as_slice(), out, len),
         Err(why) => why.code(),
+    }
+}
+
+/// Puts the bytes of a summary at a seat into a buffer that has room for them, and tells how many
+/// there are, and how many Adds the seat has seen then.
+pub fn put_at(
+    held: &mut CountedSeat,
+    alloc: Global,
+    args: &SummaryArgs<'_>,
+    seen: &mut u64,
+    out: &mut [u8],
+    len: &mut usize,
+) -> u32 {
+    match bytes_at(&mut held.seat, alloc, args) {
+        Ok(told) => {
+            *seen = told.front;
+            put(OK, told.bytes.as_slice(), out, len)
+        }
+        Err(why) => why.code(),
+    }
+}
+
+/// The bytes of a summary at a seat, and how many Adds the seat has seen then.
+#[derive(Drop)]
+struct SeatBytes {
+    bytes: Vec<u8>,
+    front: u64,
+}
+
+/// The bytes of a summary at a seat.
+fn bytes_at(
+    seat: &mut SeatHandle,
+    alloc: Global,
+    args: &SummaryArgs<'_>,
+) -> Result<SeatBytes, Refusal> {
+    let span = added_span(alloc, &args.span)?;
+    let Ok(told) = seat.summary(alloc, &span, args.most) else {
+        return Err(Refusal::NoMemory);
+    };
+    match told.summary.to_bytes() {
+        Ok(bytes) => Ok(SeatBytes {
+            bytes,
+            front: told.front,
+        }),
+        Err(_) => Err(Refusal::NoMemory),
     }
 }
 
@@ -51,6 +98,21 @@ fn bytes_in(cache: &Cache, alloc: Global, args: &SummaryArgs<'_>) -> Result<Vec<
 
 /// Adds what the bytes of a summary tell to a cache, and writes what that did.
 pub fn apply_in(
+    alloc: Global,
+    held: &mut CountedCache,
+    args: &ApplyArgs<'_>,
+    out: &mut TscAdded,
+) -> Result<(), Refusal>
+    ensures answers { CountsAdd (AnswersApply (asked_apply args.now) (added_of out.new))
+        out.new.evicted held.old held.new result }
+    ensures kept { OnErr result (out.new ≡ out.old) }
+{
+    let did = apply_to(alloc, &mut held.cache, args, out);
+    count(&mut held.counts, did, out)
+}
+
+/// Adds what the bytes of a summary tell, uncounted.
+fn apply_to(
     alloc: Global,
     cache: &mut Cache,
     args: &ApplyArgs<'_>,

@@ -5,8 +5,9 @@ ghost use Rattle.tsc_ffi_store.specs.Decode.{time_of};
 ghost use Rattle.tsc_ffi_store.specs.Writes.{asked_write, IsSpan, RefusesSpan, RefusesWrite, TellsWrite, AsksWrite, AnswersWrite, AnswersSeatWrite, AnswersMayWrite, AnswersSeatMayWrite};
 ghost use Rattle.tsc_ffi_store.specs.WriteSteps.{TellsLater, AsksLater};
 
+use crate::counts::{CountedCache, CountedSeat};
 use crate::ctypes::{SpanArgs, TscSpan, TscTime, WriteArgs};
-use crate::decode::{looked_up_span, value_time, words_of_time};
+use crate::decode::{value_time, words_of_time, written_span};
 use crate::marks::part;
 use crate::refusal::Refusal;
 use crate::seats::SeatHandle;
@@ -18,64 +19,78 @@ use uuid::Uuid;
 
 /// Writes the earliest time, from that of a write on, at which the write is clear of what a cache
 /// answers to each of its spans.
-pub fn write_in(cache: &Cache, args: &WriteArgs<'_>, out: &mut TscTime) -> Result<(), Refusal>
-    ensures answers { AnswersWrite (asked_write args.now) (time_of out.new) cache.now result }
+pub fn write_in(
+    held: &mut CountedCache,
+    args: &WriteArgs<'_>,
+    out: &mut TscTime,
+) -> Result<(), Refusal>
+    ensures answers { CountsLookup (AnswersWrite (asked_write args.now) (time_of out.new)) held.old
+        held.new result }
     ensures kept { OnErr result (out.new ≡ out.old) }
 {
-    let Some(time) = earliest_in(cache, args)? else {
+    let Some(time) = earliest_in(&held.cache, args)? else {
         return Err(Refusal::NoTime);
     };
     *out = words_of_time(time);
+    held.counts.answer();
     Ok(())
 }
 
 /// Writes the earliest time, from that of a write on, at which the write is clear of what a seat
 /// answers to each of its spans. `seen` gets how many Adds the seat has seen then.
 pub fn write_at(
-    seat: &mut SeatHandle,
+    held: &mut CountedSeat,
     args: &WriteArgs<'_>,
     seen: &mut u64,
     out: &mut TscTime,
 ) -> Result<(), Refusal>
-    ensures answers { AnswersSeatWrite (asked_write args.now) seen.new (time_of out.new) seat.old
-        seat.new result }
+    ensures answers { CountsSeatLookup (AnswersSeatWrite (asked_write args.now) seen.new
+        (time_of out.new)) held.old held.new result }
     ensures kept { OnErr result ((seen.new ≡ seen.old) × (out.new ≡ out.old)) }
 {
-    let Some(time) = earliest_at(seat, args)? else {
+    let Some(time) = earliest_at(&mut held.seat, args)? else {
         return Err(Refusal::NoTime);
     };
-    *seen = seat.seen();
+    *seen = held.seat.seen();
     *out = words_of_time(time);
+    held.counts.answer();
     Ok(())
 }
 
 /// Writes whether a write is clear, at its time, of what a cache answers to each of its spans.
-pub fn may_in(cache: &Cache, args: &WriteArgs<'_>, out: &mut bool) -> Result<(), Refusal>
-    ensures answers { AnswersMayWrite (asked_write args.now) out.new cache.now result }
+pub fn may_in(
+    held: &mut CountedCache,
+    args: &WriteArgs<'_>,
+    out: &mut bool,
+) -> Result<(), Refusal>
+    ensures answers { CountsLookup (AnswersMayWrite (asked_write args.now) out.new) held.old
+        held.new result }
     ensures kept { OnErr result (out.new ≡ out.old) }
 {
     let at = value_time(args.write)?;
-    let earliest = earliest_in(cache, args)?;
+    let earliest = earliest_in(&held.cache, args)?;
     *out = is_at(earliest, at);
+    held.counts.answer();
     Ok(())
 }
 
 /// Writes whether a write is clear, at its time, of what a seat answers to each of its spans.
 /// `seen` gets how many Adds the seat has seen then.
 pub fn may_at(
-    seat: &mut SeatHandle,
+    held: &mut CountedSeat,
     args: &WriteArgs<'_>,
     seen: &mut u64,
     out: &mut bool,
 ) -> Result<(), Refusal>
-    ensures answers { AnswersSeatMayWrite (asked_write args.now) seen.new out.new seat.old seat.new
-        result }
+    ensures answers { CountsSeatLookup (AnswersSeatMayWrite (asked_write args.now) seen.new out.new)
+        held.old held.new result }
     ensures kept { OnErr result ((seen.new ≡ seen.old) × (out.new ≡ out.old)) }
 {
     let at = value_time(args.write)?;
-    let earliest = earliest_at(seat, args)?;
-    *seen = seat.seen();
+    let earliest = earliest_at(&mut held.seat, args)?;
+    *seen = held.seat.seen();
     *out = is_at(earliest, at);
+    held.counts.answer();
     Ok(())
 }
 
@@ -104,19 +119,34 @@ fn earliest_in(cache: &Cache, args: &WriteArgs<'_>) -> Result<Option<Timestamp>,
 }
 
 /// The earliest time at which a write is clear of what a seat answers to some spans, one after
-/// another.
+/// another. All of them are read before the first lookup, so that a refused write has seen nothing.
 fn earliest_at(seat: &mut SeatHandle, args: &WriteArgs<'_>) -> Result<Option<Timestamp>, Refusal>
     ensures told { IfOk result (λ told. AsksWrite seat.old seat.new (asked_write args.now) told) }
     ensures refused { IfErr result (λ why. RefusesWrite why (asked_write args.now)) }
+    ensures unchanged { OnErr result (seat.new ≡ seat.old) }
 {
     let _seen = seat.seen();
     let mut time = Some(value_time(args.write)?);
+    check_spans(args.keys, args.spans)?;
     let by = Uuid::from_bytes(args.write.owner);
     for words in args.spans {
-        let span = span(args.keys, words)?;
+        let Ok(span) = span(args.keys, words) else {
+            unreachable!()
+        };
         time = later_at(seat, &span, time, by);
     }
     Ok(time)
+}
+
+/// Whether each of some words is a span that may be written.
+fn check_spans(keys: &[u8], spans: &[TscSpan]) -> Result<(), Refusal>
+    ensures told { IfOk result (λ _. AllSpans keys.now spans.now) }
+    ensures refused { IfErr result (λ why. RefusesSpans why keys.now spans.now) }
+{
+    for words in spans {
+        span(keys, words)?;
+    }
+    Ok(())
 }
 
 /// The earliest time from one on that is clear of what a cache answers to a span, if there is one.
@@ -157,5 +187,5 @@ fn span<'a>(keys: &'a [u8], words: &TscSpan) -> Result<SpanRef<'a>, Refusal>
     let from = part(keys, words.from_at, words.from_len)?;
     let to = part(keys, words.to_at, words.to_len)?;
     let ends = words.ends;
-    looked_up_span(&SpanArgs { from, to, ends })
+    written_span(&SpanArgs { from, to, ends })
 }

@@ -31,7 +31,8 @@
 //!
 //! - [`new_replicas`] makes the table, and [`split_off`] gives each seat its [`Participant`].
 //!   [`merge`] brings these together again, and [`close`] gives what lies there in the end.
-//! - [`read_max`], [`read_floor`] and [`read_figures`] read the active copy.
+//! - [`read_max`], [`read_floor`] and [`read_figures`] read the active copy, and [`read_handle`]
+//!   keeps a handle on it.
 //! - [`acquire`] tries to acquire the writer lock. [`clear`] looks whether the next reader has left
 //!   the standby copy.
 //! - The writer then changes the standby copy. [`install_handles`] lays handles on it, and
@@ -63,7 +64,7 @@ pub use closing::{close, merge};
 pub use fronts::{catch_up, new_front, see_newest};
 pub use opening::{new_replicas, split_off};
 pub use places::answer_bit;
-pub use reading::{read_figures, read_floor, read_max};
+pub use reading::{read_figures, read_floor, read_handle, read_max};
 pub use requesting::{Heard, fetch, hear, leave, post, rest, withdraw};
 pub use serving::{Found, collect, send_all_back, send_back};
 pub use table::{

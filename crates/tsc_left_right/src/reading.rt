@@ -1,6 +1,7 @@
 //! What a reader does: it is pinned, takes its slot of the active side, reads, and is unpinned. It
 //! waits for nobody.
-ghost use Rattle.std.specs.Prelude.{◌≡◌, ◌<◌, ◌∷◌, [], ℕ};
+ghost use Rattle.std.specs.Prelude.{◌≡◌, ◌<◌, ◌∷◌, [], ℕ, IfOk};
+ghost use Rattle.std.specs.Arc.{arc_value};
 ghost use Rattle.tsc_cache.specs.State.{look};
 ghost use Rattle.tsc_cache.specs.CacheView.{CacheView};
 ghost use Rattle.tsc_cache.specs.Counts.{figures_of};
@@ -13,9 +14,10 @@ ghost use Rattle.tsc_left_right.specs.Participating.{HasHandle, IsHandle, InEach
 use crate::places::{HEAD, epoch_word, side_slot};
 use crate::steps::{Pin, ReadHead, Unpin};
 use crate::table::{Participant, SharedReplicas, Slot};
-use tsc_cache::{Figures, TimestampCache};
+use std::sync::Arc;
+use tsc_cache::{Cache, Figures, TimestampCache};
 use tsc_span::SpanRef;
-use tsc_time::{Timestamp, Value};
+use tsc_time::{NoMemory, Timestamp, Value};
 
 /// The seat is pinned, and has its slot of the active side in hand. The result is that side.
 pub(crate) fn pin(shared: &SharedReplicas, who: &mut Participant, number: u32) -> u64
@@ -79,6 +81,26 @@ fn figures_by(slot: &Slot) -> (Figures, u64)
     }
 }
 
+/// A handle of one's own on the copy that a slot has a handle on, and how many Adds there were.
+/// There is none where the count of handles is at its end.
+fn handle_by(slot: &Slot) -> (Result<Arc<Cache>, NoMemory>, u64)
+    requires { IsHandle slot.now }
+    ensures { HasHandle slot.now (λ cache length. (result.1 ≡ length)
+        × IfOk result.0 (λ own. arc_value own ≡ cache)) }
+{
+    match slot {
+        Slot::Handle(handle) => (own_handle(&handle.cache), handle.length),
+        _ => unreachable!(),
+    }
+}
+
+/// One handle more on a cache.
+fn own_handle(cache: &Arc<Cache>) -> Result<Arc<Cache>, NoMemory>
+    ensures { IfOk result (λ own. arc_value own ≡ arc_value cache.now) }
+{
+    Ok(Arc::try_clone(cache)?)
+}
+
 /// How many Adds there were, by what a slot has.
 pub(crate) fn length_by(slot: &Slot) -> u64
     requires { IsHandle slot.now }
@@ -139,6 +161,28 @@ pub fn read_figures(shared: &SharedReplicas, who: &mut Participant, number: u32)
     let side = pin(shared, who, number);
     let slot = who.slot_mut(shared, side_slot(number, side));
     let found = figures_by(slot);
+    unpin(shared, who, number);
+    found
+}
+
+/// A handle on the copy that lookups read, and after how long a history that copy is. It stays as
+/// it is, whoever adds meanwhile: while the handle lives, a writer that comes to this copy makes a
+/// new one in its place.
+pub fn read_handle(
+    shared: &SharedReplicas,
+    who: &mut Participant,
+    number: u32,
+) -> (Result<Arc<Cache>, NoMemory>, u64)
+    requires of { IsOf who.old shared.now.table_id }
+    requires rest { IsAtRest who.old.me }
+    requires number { IsNumber who.old.me.0 number }
+    ensures table { who.new.table_id ≡ who.old.table_id }
+    ensures looked { (cache : CacheView) × HasLooked who.old.me.0 who.new.me result.1 cache
+        × IfOk result.0 (λ own. arc_value own ≡ cache) }
+{
+    let side = pin(shared, who, number);
+    let slot = who.slot_mut(shared, side_slot(number, side));
+    let found = handle_by(slot);
     unpin(shared, who, number);
     found
 }

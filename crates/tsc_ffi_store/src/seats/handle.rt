@@ -4,7 +4,8 @@ ghost use Rattle.std.specs.Arc.{arc_value};
 ghost use Rattle.tsc_cache.specs.Settings.{fits};
 ghost use Rattle.tsc_cache.specs.Batch.{all_fit};
 ghost use Rattle.tsc_shared.specs.Seats.{SeatView, IsSeat, new_seats};
-ghost use Rattle.tsc_shared.specs.Answers.{AnswersTriedAdd, one_mark, AnswersLookup, IsAbove, TellsNoPart, ReadsFloor, ReadsFigures};
+ghost use Rattle.tsc_shared.specs.Answers.{AnswersTriedAdd, one_mark, AnswersLookup, IsAbove, TellsNoPart, ReadsFloor, ReadsFigures, HasLookedOn, TakesSnapshot};
+ghost use Rattle.timestamp_cache.specs.SeatSummaries.{SummarizesAt};
 ghost use Rattle.tsc_ffi_store.specs.Seating.{Sits, Deals, IsKeeper};
 
 use crate::seats::owner::SharedHandle;
@@ -12,8 +13,9 @@ use crate::seats::return_slots::{SlotToken, next_token, return_seat};
 use std::alloc::Global;
 use std::marker::Model;
 use std::sync::Arc;
+use timestamp_cache::{SeatSummary, summary_at};
 use tsc_cache::Mark;
-use tsc_shared::{Answer, LowWater, Receipt, Seat, SeatFigures, TryAddFault};
+use tsc_shared::{Answer, LowWater, Receipt, Seat, SeatFigures, Snapshot, TryAddFault};
 use tsc_span::{Span, SpanRef};
 use tsc_time::{NoMemory, Timestamp, Value};
 
@@ -76,6 +78,28 @@ impl SeatHandle {
             Ok(answer) => answer,
             Err(_) => unreachable!(),
         }
+    }
+
+    /// The cache as the seat sees it then, as
+    /// [`SharedCache::snapshot`](tsc_shared::SharedCache::snapshot) takes it.
+    pub fn snapshot(&mut self) -> Result<Snapshot, NoMemory>
+        ensures taken { IfOk result (λ snapshot. TakesSnapshot self.old self.new snapshot) }
+        ensures looked { HasLookedOn self.old self.new }
+    {
+        self.shared.cache.snapshot(&mut self.seat)
+    }
+
+    /// What was read of a span, as [`summary_at`] tells it.
+    pub fn summary(
+        &mut self,
+        alloc: Global,
+        span: &Span,
+        most: usize,
+    ) -> Result<SeatSummary, NoMemory>
+        ensures told { IfOk result (λ told. SummarizesAt self.old self.new span.now most told) }
+        ensures looked { HasLookedOn self.old self.new }
+    {
+        summary_at(alloc, &self.shared.cache, &mut self.seat, span, most)
     }
 
     /// Adds a span with its value, as [`SharedCache::try_add`](tsc_shared::SharedCache::try_add)
