@@ -20,6 +20,7 @@ typedef struct {
     unsigned char store[sizeof(tsc_store)];
     uint64_t handle;
     uint64_t told;
+    size_t length;
     tsc_value value;
     tsc_time time;
     tsc_added added;
@@ -178,11 +179,16 @@ static inline uint32_t tsc_go_summary(tsc_go_block *b, const uint8_t *from, size
                                       const uint8_t *to, size_t to_len, uint32_t ends, size_t most,
                                       uint8_t *out, size_t room)
 {
-    size_t len = 0;
-    uint32_t code = tsc_summary(tsc_go_store(b), b->handle, from, from_len, to, to_len, ends, most,
-                                out, room, &len);
-    b->told = len;
-    return code;
+    return tsc_summary(tsc_go_store(b), b->handle, from, from_len, to, to_len, ends, most, out,
+                       room, &b->length);
+}
+
+static inline uint32_t tsc_go_seat_summary(tsc_go_block *b, const uint8_t *from, size_t from_len,
+                                           const uint8_t *to, size_t to_len, uint32_t ends,
+                                           size_t most, uint8_t *out, size_t room)
+{
+    return tsc_seat_summary(tsc_go_store(b), b->handle, from, from_len, to, to_len, ends, most,
+                            &b->told, out, room, &b->length);
 }
 
 static inline uint32_t tsc_go_apply(tsc_go_block *b, const uint8_t *summary, size_t summary_len)

@@ -14,8 +14,7 @@ import "runtime"
 // mark its time raises a floor of the summary: later writes are pushed further by it, and never
 // less far. With none it is such a floor alone.
 //
-// It is refused as an Add of the span is, and with ErrClosed. A Shared cache has no summary: its
-// lease goes on by a floor.
+// It is refused as an Add of the span is, but for its cost, and with ErrClosed.
 func (c *Cache) Summary(span Span, most uint) ([]byte, error) {
 	in, err := c.take()
 	if err != nil {
@@ -26,11 +25,33 @@ func (c *Cache) Summary(span Span, most uint) ([]byte, error) {
 			in.block, bytes(span.from), C.size_t(len(span.from)), bytes(span.to),
 			C.size_t(len(span.to)), span.ends-1, C.size_t(most), bytes(out), C.size_t(len(out)),
 		)
-		return uint32(code), int(in.block.told)
+		return uint32(code), int(in.block.length)
 	})
 	_ = in.leave(C.TSC_OK)
 	runtime.KeepAlive(in)
 	return out, err
+}
+
+// Summary is what was read of a span of the shared cache, as that of a Cache, and how many Adds the
+// seat has seen then. The cache stays open. The caller stops answering reads of the span, and asks
+// until more Adds were seen than the place of each goroutine's last one; in practice it asks once.
+func (s *Seat) Summary(span Span, most uint) ([]byte, uint64, error) {
+	in, err := s.take()
+	if err != nil {
+		return nil, 0, err
+	}
+	var seen uint64
+	out, err := told(func(out []byte) (uint32, int) {
+		code := C.tsc_go_seat_summary(
+			in.block, bytes(span.from), C.size_t(len(span.from)), bytes(span.to),
+			C.size_t(len(span.to)), span.ends-1, C.size_t(most), bytes(out), C.size_t(len(out)),
+		)
+		seen = in.seen(code)
+		return uint32(code), int(in.block.length)
+	})
+	_ = in.leave(C.TSC_OK)
+	runtime.KeepAlive(in)
+	return out, seen, err
 }
 
 // Apply adds what the bytes of a summary tell, at the moment now: all of it or nothing. The new

@@ -94,11 +94,24 @@ type Added struct {
 	Evicted       uint64
 }
 
-// Figures is how many pages there are, how often they rotated, how many end keys they hold, each
-// counted once for each page that holds it, and what these cost: for each as many bytes as it has,
-// and 32 more. Each count stays at 2^64 - 1 once it is there.
+// Figures is what can be counted. Each count stays at 2^64 - 1 once it is there. The last four are
+// of one Cache, or of one Seat alone: a program adds up those of its seats.
 type Figures struct {
-	Pages, Rotations, Nodes, Bytes uint64
+	// Pages is how many there are, and Rotations how often they rotated.
+	Pages, Rotations uint64
+	// Nodes is how many end keys the pages hold, each counted once for each page that holds it.
+	// Bytes is what these cost: for each as many bytes as it has, and 32 more.
+	Nodes, Bytes uint64
+	// Memory is how many bytes C was asked for to hold these pages. At a seat it is of the copy
+	// that the seat reads.
+	Memory uint64
+	// Adds is how many were accepted, and Refusals how many were not. Several marks at once are
+	// one Add, and so is a summary that is applied.
+	Adds, Refusals uint64
+	// Lookups is how many lookups and questions for writes were answered: one for each call.
+	Lookups uint64
+	// Evicted is how many pages these Adds dropped.
+	Evicted uint64
 }
 
 // Cache is a timestamp cache. Its calls come one at a time, from one goroutine or under a lock;
@@ -167,7 +180,7 @@ func (c *Cache) AddAll(marks []Mark, now Time) (Added, error) {
 // GetMax is the latest time on a span, with its owner where all reads of that time are one
 // transaction's, or the floor. A range whose first key is greater than the second is empty, and
 // the floor answers. Keys may be of any length, and no memory is taken: it is refused with
-// ErrClosed and ErrEnds alone.
+// ErrClosed and ErrEnds alone, and the time is MaxTime then.
 func (c *Cache) GetMax(span Span) (Value, error) {
 	in, err := c.take()
 	if err != nil {
@@ -186,7 +199,7 @@ func (c *Cache) GetMax(span Span) (Value, error) {
 // EarliestWrite is the earliest time, not before at, at which a transaction may write all of these
 // spans. It is clear of each read on one of them that was added so far, also of one that was
 // dropped since. It costs a lookup for each span. It is refused with ErrNoTime where there is
-// none, with ErrTime, and as GetMax is.
+// none, with ErrTime, with ErrInverted, and as GetMax is; the time is MaxTime then.
 func (c *Cache) EarliestWrite(spans []Span, at Time, by [16]byte) (Time, error) {
 	in, err := c.take()
 	if err != nil {
@@ -325,7 +338,8 @@ func (s *Seat) Close() { s.close() }
 
 // Add adds a span that was read, and returns the Add's place among all of the cache, counted from
 // 0. It waits for nobody: if others are in the way at each of its tries, it returns ErrBusy. Take
-// 64 tries; if it is refused, call runtime.Gosched and try again.
+// 64 tries; if it is refused, call runtime.Gosched and try again. With no tries it returns ErrTries.
+// Beside an error the place is math.MaxUint64, which no lookup has seen.
 func (s *Seat) Add(span Span, value Value, now Time, tries uint32) (uint64, Added, error) {
 	in, err := s.take()
 	if err != nil {
@@ -523,5 +537,9 @@ func figuresOf(told C.tsc_go_counted) Figures {
 		return Figures{}
 	}
 	f := told.figures
-	return Figures{uint64(f.pages), uint64(f.rotations), uint64(f.nodes), uint64(f.bytes)}
+	return Figures{
+		Pages: uint64(f.pages), Rotations: uint64(f.rotations), Nodes: uint64(f.nodes),
+		Bytes: uint64(f.bytes), Memory: uint64(f.memory), Adds: uint64(f.adds),
+		Refusals: uint64(f.refusals), Lookups: uint64(f.lookups), Evicted: uint64(f.evicted),
+	}
 }

@@ -64,6 +64,7 @@ func TestKeysBesidePointers(t *testing.T) {
 			"Seat.MayWrite":       func() error { _, err := s.MayWrite(span, now, one); return err },
 			"Seat.MayWriteAll":    func() error { _, err := s.MayWriteAll(spans, now, one); return err },
 			"Seat.EarliestWrite":  func() error { _, err := s.EarliestWrite(spans, now, one); return err },
+			"Seat.Summary":        func() error { _, _, err := s.Summary(span, 9); return err },
 			"Replay":              func() error { _, err := Replay(trace.text[:length]); return err },
 			"Check":               func() error { _, err := Check(trace.text[:length], trace.text[:0]); return err },
 		}
@@ -116,6 +117,7 @@ func callsOf(c *Cache, shared *Shared, s *Seat, summary []byte) map[string]func(
 		"Seat.MayWrite":       func() error { _, err := s.MayWrite(key, now, one); return err },
 		"Seat.MayWriteAll":    func() error { _, err := s.MayWriteAll(nil, now, one); return err },
 		"Seat.EarliestWrite":  func() error { _, err := s.EarliestWrite([]Span{key}, now, one); return err },
+		"Seat.Summary":        func() error { _, _, err := s.Summary(key, 9); return err },
 		"Shared.Close":        func() error { _, err := shared.Close(); return err },
 	}
 }
@@ -194,7 +196,7 @@ func TestErrors(t *testing.T) {
 	all := []error{
 		ErrClosed, ErrTime, ErrEnds, ErrKeyTooLong, ErrInverted, ErrTooLarge, ErrPageSize, ErrMinPages,
 		ErrRetention, ErrNoMemory, ErrSeats, ErrStillOut, ErrBusy, ErrFull, ErrNoTime, ErrSummaryVersion,
-		ErrSummaryLength, ErrSummaryChecksum, ErrSummaryForm,
+		ErrSummaryLength, ErrSummaryChecksum, ErrSummaryForm, ErrTries,
 	}
 	told := map[string]bool{}
 	for i, err := range all {

@@ -41,7 +41,7 @@ func (t Time) Next() (Time, bool) {
 
 // MayWrite says whether a transaction may write a span at some time: whether that is clear of what
 // a lookup of the span answers, and so of each read that was added there, also of one that was
-// dropped since. It is refused with ErrTime, and as GetMax is.
+// dropped since. It is refused with ErrTime, with ErrInverted, and as GetMax is.
 func (c *Cache) MayWrite(span Span, at Time, by [16]byte) (bool, error) {
 	return c.MayWriteAll([]Span{span}, at, by)
 }
