@@ -2,6 +2,12 @@
 #ifndef TSCACHE_GO_BLOCK_H
 #define TSCACHE_GO_BLOCK_H
 
+#if defined(__has_include)
+#if !__has_include("tscache.h")
+#error "tscache.h is not found: set CGO_CFLAGS to -I and its folder, as README.md of bindings/go says"
+#endif
+#endif
+
 #include <stdlib.h>
 #include <string.h>
 #include "tscache.h"
@@ -14,12 +20,18 @@ typedef struct {
     unsigned char store[sizeof(tsc_store)];
     uint64_t handle;
     uint64_t told;
+    size_t length;
     tsc_value value;
     tsc_time time;
     tsc_added added;
-    tsc_figures figures;
     bool may;
 } tsc_go_block;
+
+// What a call for figures tells. It has no room in the block.
+typedef struct {
+    uint32_t code;
+    tsc_figures figures;
+} tsc_go_counted;
 
 enum { TSC_GO_APART = 128 };
 
@@ -107,9 +119,11 @@ static inline uint32_t tsc_go_low_water(tsc_go_block *b)
     return tsc_low_water(tsc_go_store(b), b->handle, &b->time);
 }
 
-static inline uint32_t tsc_go_figures(tsc_go_block *b)
+static inline tsc_go_counted tsc_go_figures(tsc_go_block *b)
 {
-    return tsc_figures_of(tsc_go_store(b), b->handle, &b->figures);
+    tsc_go_counted told = {0};
+    told.code = tsc_figures_of(tsc_go_store(b), b->handle, &told.figures);
+    return told;
 }
 
 static inline uint32_t tsc_go_seat_add(tsc_go_block *b, const uint8_t *from, size_t from_len,
@@ -154,25 +168,47 @@ static inline uint32_t tsc_go_seat_low_water(tsc_go_block *b)
     return tsc_seat_low_water(tsc_go_store(b), b->handle, &b->told, &b->time);
 }
 
-static inline uint32_t tsc_go_seat_figures(tsc_go_block *b)
+static inline tsc_go_counted tsc_go_seat_figures(tsc_go_block *b)
 {
-    return tsc_seat_figures_of(tsc_go_store(b), b->handle, &b->told, &b->figures);
+    tsc_go_counted told = {0};
+    told.code = tsc_seat_figures_of(tsc_go_store(b), b->handle, &b->told, &told.figures);
+    return told;
 }
 
 static inline uint32_t tsc_go_summary(tsc_go_block *b, const uint8_t *from, size_t from_len,
                                       const uint8_t *to, size_t to_len, uint32_t ends, size_t most,
                                       uint8_t *out, size_t room)
 {
-    size_t len = 0;
-    uint32_t code = tsc_summary(tsc_go_store(b), b->handle, from, from_len, to, to_len, ends, most,
-                                out, room, &len);
-    b->told = len;
-    return code;
+    return tsc_summary(tsc_go_store(b), b->handle, from, from_len, to, to_len, ends, most, out,
+                       room, &b->length);
+}
+
+static inline uint32_t tsc_go_seat_summary(tsc_go_block *b, const uint8_t *from, size_t from_len,
+                                           const uint8_t *to, size_t to_len, uint32_t ends,
+                                           size_t most, uint8_t *out, size_t room)
+{
+    return tsc_seat_summary(tsc_go_store(b), b->handle, from, from_len, to, to_len, ends, most,
+                            &b->told, out, room, &b->length);
 }
 
 static inline uint32_t tsc_go_apply(tsc_go_block *b, const uint8_t *summary, size_t summary_len)
 {
     return tsc_apply(tsc_go_store(b), b->handle, summary, summary_len, &b->time, &b->added);
+}
+
+// The calls for texts. The bytes go as bytes, so that cgo looks for pointers among them alone, and
+// not in what they lie in.
+
+static inline uint32_t tsc_go_replay(const uint8_t *trace, size_t trace_len, uint8_t *out,
+                                     size_t room, size_t *len)
+{
+    return tsc_replay(trace, trace_len, out, room, len);
+}
+
+static inline uint32_t tsc_go_check(const uint8_t *trace, size_t trace_len, const uint8_t *log,
+                                    size_t log_len, uint8_t *out, size_t room, size_t *len)
+{
+    return tsc_check(trace, trace_len, log, log_len, out, room, len);
 }
 
 #endif

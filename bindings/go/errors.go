@@ -1,7 +1,7 @@
 package tscache
 
 /*
-#include "tscache.h"
+#include "block.h"
 */
 import "C"
 
@@ -21,7 +21,8 @@ const (
 	ErrEnds Refused = C.TSC_ENDS
 	// ErrKeyTooLong is of a key of a span to be added, of more than 4096 bytes.
 	ErrKeyTooLong Refused = C.TSC_KEY_TOO_LONG
-	// ErrInverted is of a span to be added whose first key is greater than the second.
+	// ErrInverted is of a span to be added, written or summarized whose first key is greater than
+	// the second.
 	ErrInverted Refused = C.TSC_INVERTED
 	// ErrTooLarge is of a span to be added that costs more than PageMax: 32 and its bytes for each
 	// key.
@@ -55,6 +56,8 @@ const (
 	// ErrSummaryForm is of bytes whose digest is right, and which are no summary: their sender made
 	// them wrong.
 	ErrSummaryForm Refused = C.TSC_SUMMARY_FORM
+	// ErrTries is of an Add of a seat with no tries, by which none is ever made.
+	ErrTries Refused = C.TSC_TRIES
 )
 
 var reasons = map[Refused]string{
@@ -73,6 +76,7 @@ var reasons = map[Refused]string{
 	ErrBusy:       "others were in the way at each try",
 	ErrFull:       "the cache has had as many Adds as it may have",
 	ErrNoTime:     "a read of somebody else is at the last time",
+	ErrTries:      "an Add of a seat takes one try or more",
 
 	ErrSummaryVersion:  "the summary is of another version",
 	ErrSummaryLength:   "the summary has another length",

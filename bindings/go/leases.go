@@ -14,23 +14,44 @@ import "runtime"
 // mark its time raises a floor of the summary: later writes are pushed further by it, and never
 // less far. With none it is such a floor alone.
 //
-// It is refused as an Add of the span is, and with ErrClosed. A Shared cache has no summary: its
-// lease goes on by a floor.
+// It is refused as an Add of the span is, but for its cost, and with ErrClosed.
 func (c *Cache) Summary(span Span, most uint) ([]byte, error) {
-	c.take()
-	if c.block == nil {
-		return nil, c.leave(C.TSC_CLOSED)
+	in, err := c.take()
+	if err != nil {
+		return nil, err
 	}
 	out, err := told(func(out []byte) (uint32, int) {
 		code := C.tsc_go_summary(
-			c.block, bytes(span.from), C.size_t(len(span.from)), bytes(span.to),
+			in.block, bytes(span.from), C.size_t(len(span.from)), bytes(span.to),
 			C.size_t(len(span.to)), span.ends-1, C.size_t(most), bytes(out), C.size_t(len(out)),
 		)
-		return uint32(code), int(c.block.told)
+		return uint32(code), int(in.block.length)
 	})
-	_ = c.leave(C.TSC_OK)
-	runtime.KeepAlive(c)
+	_ = in.leave(C.TSC_OK)
+	runtime.KeepAlive(in)
 	return out, err
+}
+
+// Summary is what was read of a span of the shared cache, as that of a Cache, and how many Adds the
+// seat has seen then. The cache stays open. The caller stops answering reads of the span, and asks
+// until more Adds were seen than the place of each goroutine's last one; in practice it asks once.
+func (s *Seat) Summary(span Span, most uint) ([]byte, uint64, error) {
+	in, err := s.take()
+	if err != nil {
+		return nil, 0, err
+	}
+	var seen uint64
+	out, err := told(func(out []byte) (uint32, int) {
+		code := C.tsc_go_seat_summary(
+			in.block, bytes(span.from), C.size_t(len(span.from)), bytes(span.to),
+			C.size_t(len(span.to)), span.ends-1, C.size_t(most), bytes(out), C.size_t(len(out)),
+		)
+		seen = in.seen(code)
+		return uint32(code), int(in.block.length)
+	})
+	_ = in.leave(C.TSC_OK)
+	runtime.KeepAlive(in)
+	return out, seen, err
 }
 
 // Apply adds what the bytes of a summary tell, at the moment now: all of it or nothing. The new
@@ -44,14 +65,14 @@ func (c *Cache) Summary(span Span, most uint) ([]byte, error) {
 // ErrSummaryForm, and as AddAll is. Where it is refused the holder asks for the bytes again, or
 // opens a cache with LowWater at or above each time at which a read was answered.
 func (c *Cache) Apply(summary []byte, now Time) (Added, error) {
-	c.take()
-	if c.block == nil {
-		return Added{}, c.leave(C.TSC_CLOSED)
+	in, err := c.take()
+	if err != nil {
+		return Added{}, err
 	}
-	putTime(&c.block.time, now)
-	code := C.tsc_go_apply(c.block, bytes(summary), C.size_t(len(summary)))
-	out := added(code, &c.block.added)
-	err := c.leave(code)
-	runtime.KeepAlive(c)
+	putTime(&in.block.time, now)
+	code := C.tsc_go_apply(in.block, bytes(summary), C.size_t(len(summary)))
+	out := added(code, &in.block.added)
+	err = in.leave(code)
+	runtime.KeepAlive(in)
 	return out, err
 }

@@ -20,7 +20,7 @@ var wantedErrors = map[string]error{
 	"page_size": ErrPageSize, "min_pages": ErrMinPages, "retention": ErrRetention, "seats": ErrSeats,
 	"busy": ErrBusy, "full": ErrFull, "summary_version": ErrSummaryVersion,
 	"summary_length": ErrSummaryLength, "summary_checksum": ErrSummaryChecksum,
-	"summary_form": ErrSummaryForm,
+	"summary_form": ErrSummaryForm, "tries": ErrTries,
 }
 
 func number(text string, bits int) uint64 {
@@ -230,6 +230,9 @@ func ofWrites(of ask, op string, rest []string) (string, error) {
 	at, by, spans := timeAt(rest[0]), ownerOf(rest[1]), spansOf(rest[2:])
 	earliest, err := of.EarliestWrite(spans, at, by)
 	if err != nil && err != ErrNoTime {
+		if yes, why := may(of, spans, at, by); yes || why != err || earliest != MaxTime {
+			return "", fmt.Errorf("%v, and %v, %v at %v", err, yes, why, earliest)
+		}
 		return "", err
 	}
 	isThere := err == nil

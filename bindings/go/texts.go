@@ -1,21 +1,7 @@
 package tscache
 
 /*
-#include "tscache.h"
-
-// The bytes go as bytes, so that cgo looks for pointers among them alone, and not in what they lie in.
-
-static uint32_t tsc_go_replay(const uint8_t *trace, size_t trace_len, uint8_t *out, size_t room,
-                              size_t *len)
-{
-    return tsc_replay(trace, trace_len, out, room, len);
-}
-
-static uint32_t tsc_go_check(const uint8_t *trace, size_t trace_len, const uint8_t *log,
-                             size_t log_len, uint8_t *out, size_t room, size_t *len)
-{
-    return tsc_check(trace, trace_len, log, log_len, out, room, len);
-}
+#include "block.h"
 */
 import "C"
 

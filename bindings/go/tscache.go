@@ -1,13 +1,3 @@
-// Package tscache is the timestamp cache: for each span of keys the latest time at which it was
-// read, and by which transaction.
-//
-// A store asks it before a write, by EarliestWrite, so that no write changes what a read saw. A
-// Cache serves one goroutine at a time, and a Shared cache as many as it has seats, or by a Pool
-// any number.
-//
-// All that is here calls libtscache.a, whose functions are proved to do what they say; see
-// tscache.h. Nothing of this package is proved itself. README.md says how a program finds the
-// library.
 package tscache
 
 /*
@@ -16,6 +6,7 @@ package tscache
 import "C"
 
 import (
+	"math"
 	"runtime"
 	"sync/atomic"
 	"time"
@@ -103,390 +94,365 @@ type Added struct {
 	Evicted       uint64
 }
 
-// Figures is how many pages there are, how often they rotated, how many end keys they hold, each
-// counted once for each page that holds it, and what these cost: for each as many bytes as it has,
-// and 32 more. Each count stays at 2^64 - 1 once it is there.
+// Figures is what can be counted. Each count stays at 2^64 - 1 once it is there. The last four are
+// of one Cache, or of one Seat alone: a program adds up those of its seats.
 type Figures struct {
-	Pages, Rotations, Nodes, Bytes uint64
-}
-
-// apart is how many bytes a Cache and a Seat have for themselves, here and in C, so that no two of
-// them lie in one line of the processor's caches: each call writes to both parts.
-const apart = C.TSC_GO_APART
-
-// owned is what a Cache, a Shared and a Seat have in common: a block, and whether a call is under
-// way.
-type owned struct {
-	block *C.tsc_go_block
-	taken uint32
-	// The keys and the spans of the last question for several spans. They stay, so that the next
-	// question takes no memory.
-	keys  []byte
-	spans []C.tsc_span
-	_     [apart - unsafe.Sizeof(uintptr(0)) - 8 - 2*unsafe.Sizeof([]byte(nil))]byte
-}
-
-const atOnce = "tscache: two goroutines use one Cache, Shared or Seat at once; " +
-	"give each a Seat of a Pool, or hold a lock round each call"
-
-// take begins a call. Two at once would have the library write the same memory twice at once.
-func (o *owned) take() {
-	if !atomic.CompareAndSwapUint32(&o.taken, 0, 1) {
-		panic(atOnce)
-	}
-}
-
-// leave ends a call, and says what came of it.
-func (o *owned) leave(code C.uint32_t) error {
-	atomic.StoreUint32(&o.taken, 0)
-	if code == C.TSC_OK {
-		return nil
-	}
-	return Refused(code)
-}
-
-// open takes memory of C's for a block of zeros.
-func (o *owned) open() error {
-	if o.block = C.tsc_go_new(); o.block == nil {
-		return ErrNoMemory
-	}
-	return nil
-}
-
-// free frees the block, with what its store owns. A second call does nothing.
-func (o *owned) free() {
-	o.take()
-	if o.block != nil {
-		C.tsc_go_free(o.block)
-		o.block = nil
-	}
-	_ = o.leave(C.TSC_OK)
-	runtime.KeepAlive(o)
+	// Pages is how many there are, and Rotations how often they rotated.
+	Pages, Rotations uint64
+	// Nodes is how many end keys the pages hold, each counted once for each page that holds it.
+	// Bytes is what these cost: for each as many bytes as it has, and 32 more.
+	Nodes, Bytes uint64
+	// Memory is how many bytes C was asked for to hold these pages. At a seat it is of the copy
+	// that the seat reads.
+	Memory uint64
+	// Adds is how many were accepted, and Refusals how many were not. Several marks at once are
+	// one Add, and so is a summary that is applied.
+	Adds, Refusals uint64
+	// Lookups is how many lookups and questions for writes were answered: one for each call.
+	Lookups uint64
+	// Evicted is how many pages these Adds dropped.
+	Evicted uint64
 }
 
 // Cache is a timestamp cache. Its calls come one at a time, from one goroutine or under a lock;
-// where two come at once the second one panics.
-type Cache struct{ owned }
+// where two come at once the second one panics. It must not be copied.
+type Cache struct{ handle }
 
 // Open makes a cache to which nothing was added. Close frees it, and else the collector does.
 func Open(config Config) (*Cache, error) {
 	c := &Cache{}
-	if err := c.open(); err != nil {
+	in, err := c.open()
+	if err != nil {
 		return nil, err
 	}
-	runtime.SetFinalizer(c, (*Cache).Close)
-	c.take()
-	putTime(&c.block.time, config.LowWater)
-	err := c.leave(C.tsc_go_open(
-		c.block, C.uint32_t(config.PageFirst), C.uint32_t(config.PageMax),
+	putTime(&in.block.time, config.LowWater)
+	err = in.leave(C.tsc_go_open(
+		in.block, C.uint32_t(config.PageFirst), C.uint32_t(config.PageMax),
 		C.uint32_t(config.MinPages), C.uint64_t(config.Retention)),
 	)
+	runtime.KeepAlive(in)
 	if err != nil {
 		c.Close()
 		return nil, err
 	}
-	runtime.KeepAlive(c)
 	return c, nil
 }
 
 // Close frees the cache. Other calls are then refused with ErrClosed, and a second Close does
 // nothing.
-func (c *Cache) Close() {
-	runtime.SetFinalizer(c, nil)
-	c.free()
-}
+func (c *Cache) Close() { c.close() }
 
 // Add adds a span that was read, with the time and the owner of the read, at the moment now.
 func (c *Cache) Add(span Span, value Value, now Time) (Added, error) {
-	c.take()
-	if c.block == nil {
-		return Added{}, c.leave(C.TSC_CLOSED)
+	in, err := c.take()
+	if err != nil {
+		return Added{}, err
 	}
-	putValue(&c.block.value, value)
-	putTime(&c.block.time, now)
+	putValue(&in.block.value, value)
+	putTime(&in.block.time, now)
 	code := C.tsc_go_add(
-		c.block, bytes(span.from), C.size_t(len(span.from)), bytes(span.to),
+		in.block, bytes(span.from), C.size_t(len(span.from)), bytes(span.to),
 		C.size_t(len(span.to)), span.ends-1,
 	)
-	out := added(code, &c.block.added)
-	err := c.leave(code)
-	runtime.KeepAlive(c)
+	out := added(code, &in.block.added)
+	err = in.leave(code)
+	runtime.KeepAlive(in)
 	return out, err
 }
 
 // AddAll adds several marks, one after another at one moment, all of them or none.
 func (c *Cache) AddAll(marks []Mark, now Time) (Added, error) {
 	keys, asked := flat(marks)
-	c.take()
-	if c.block == nil {
-		return Added{}, c.leave(C.TSC_CLOSED)
+	in, err := c.take()
+	if err != nil {
+		return Added{}, err
 	}
-	putTime(&c.block.time, now)
+	putTime(&in.block.time, now)
 	code := C.tsc_go_add_all(
-		c.block, bytes(keys), C.size_t(len(keys)), &asked[0], C.size_t(len(marks)),
+		in.block, bytes(keys), C.size_t(len(keys)), &asked[0], C.size_t(len(marks)),
 	)
-	out := added(code, &c.block.added)
-	err := c.leave(code)
-	runtime.KeepAlive(c)
+	out := added(code, &in.block.added)
+	err = in.leave(code)
+	runtime.KeepAlive(in)
 	return out, err
 }
 
 // GetMax is the latest time on a span, with its owner where all reads of that time are one
 // transaction's, or the floor. A range whose first key is greater than the second is empty, and
 // the floor answers. Keys may be of any length, and no memory is taken: it is refused with
-// ErrClosed and ErrEnds alone.
+// ErrClosed and ErrEnds alone, and the time is MaxTime then.
 func (c *Cache) GetMax(span Span) (Value, error) {
-	c.take()
-	if c.block == nil {
-		return Value{}, c.leave(C.TSC_CLOSED)
+	in, err := c.take()
+	if err != nil {
+		return Value{Time: MaxTime}, err
 	}
 	code := C.tsc_go_get_max(
-		c.block, bytes(span.from), C.size_t(len(span.from)), bytes(span.to),
+		in.block, bytes(span.from), C.size_t(len(span.from)), bytes(span.to),
 		C.size_t(len(span.to)), span.ends-1,
 	)
-	out := valueOf(code, &c.block.value)
-	err := c.leave(code)
-	runtime.KeepAlive(c)
+	out := valueOf(code, &in.block.value)
+	err = in.leave(code)
+	runtime.KeepAlive(in)
 	return out, err
 }
 
 // EarliestWrite is the earliest time, not before at, at which a transaction may write all of these
 // spans. It is clear of each read on one of them that was added so far, also of one that was
 // dropped since. It costs a lookup for each span. It is refused with ErrNoTime where there is
-// none, with ErrTime, and as GetMax is.
+// none, with ErrTime, with ErrInverted, and as GetMax is; the time is MaxTime then.
 func (c *Cache) EarliestWrite(spans []Span, at Time, by [16]byte) (Time, error) {
-	c.take()
-	if c.block == nil {
-		return Time{}, c.leave(C.TSC_CLOSED)
+	in, err := c.take()
+	if err != nil {
+		return MaxTime, err
 	}
-	putValue(&c.block.value, Value{at, by})
-	c.ask(spans)
+	putValue(&in.block.value, Value{at, by})
+	in.ask(spans)
 	code := C.tsc_go_earliest_write(
-		c.block, bytes(c.keys), C.size_t(len(c.keys)), &c.spans[0], C.size_t(len(spans)),
+		in.block, bytes(in.keys), C.size_t(len(in.keys)), &in.spans[0], C.size_t(len(spans)),
 	)
-	out := timeOf(code, &c.block.time)
-	err := c.leave(code)
-	runtime.KeepAlive(c)
+	out := timeOf(code, &in.block.time)
+	err = in.leave(code)
+	runtime.KeepAlive(in)
 	return out, err
 }
 
 // LowWater is where the floor stands.
 func (c *Cache) LowWater() (Time, error) {
-	c.take()
-	if c.block == nil {
-		return Time{}, c.leave(C.TSC_CLOSED)
+	in, err := c.take()
+	if err != nil {
+		return MaxTime, err
 	}
-	code := C.tsc_go_low_water(c.block)
-	out := timeOf(code, &c.block.time)
-	err := c.leave(code)
-	runtime.KeepAlive(c)
+	code := C.tsc_go_low_water(in.block)
+	out := timeOf(code, &in.block.time)
+	err = in.leave(code)
+	runtime.KeepAlive(in)
 	return out, err
 }
 
 // Figures is what can be counted.
 func (c *Cache) Figures() (Figures, error) {
-	c.take()
-	if c.block == nil {
-		return Figures{}, c.leave(C.TSC_CLOSED)
+	in, err := c.take()
+	if err != nil {
+		return Figures{}, err
 	}
-	code := C.tsc_go_figures(c.block)
-	out := figuresOf(code, &c.block.figures)
-	err := c.leave(code)
-	runtime.KeepAlive(c)
-	return out, err
+	told := C.tsc_go_figures(in.block)
+	err = in.leave(told.code)
+	runtime.KeepAlive(in)
+	return figuresOf(told), err
 }
 
 // MaxSeats is how many seats a shared cache may have.
 const MaxSeats = 64
 
 // Shared is a timestamp cache that goroutines share, for who opened it. They use it by its seats.
-type Shared struct{ owned }
+// It must not be copied.
+type Shared struct{ handle }
 
 // Seat is a seat of a shared cache. Its calls come one at a time, and where two come at once the
 // second one panics; those of different seats may come at once. Where there are more goroutines
-// than seats a Pool has the seats go round.
+// than seats a Pool has the seats go round. A Seat must not be copied.
 //
 // All Adds of the cache form one history, and a seat has seen a beginning of it. A lookup that
 // returns more Adds than the place of an Add counts that Add, whichever seat made it, and so does
 // each later lookup of its seat.
-type Seat struct{ owned }
+type Seat struct{ handle }
 
 // OpenShared makes a cache to which nothing was added, and its seats, 1 to 64 of them. There may
 // be limit Adds; a limit below math.MaxUint64 is for tests. Close frees each of them, and else the
 // collector does.
 func OpenShared(config Config, seats uint32, limit uint64) (*Shared, []*Seat, error) {
 	s := &Shared{}
-	if err := s.open(); err != nil {
+	in, err := s.open()
+	if err != nil {
 		return nil, nil, err
 	}
-	runtime.SetFinalizer(s, (*Shared).free)
-	s.take()
-	putTime(&s.block.time, config.LowWater)
-	err := s.leave(C.tsc_go_open_shared(
-		s.block, C.uint32_t(config.PageFirst), C.uint32_t(config.PageMax),
+	in.cache = atomic.AddUint64(&sharedCaches, 1)
+	putTime(&in.block.time, config.LowWater)
+	err = in.leave(C.tsc_go_open_shared(
+		in.block, C.uint32_t(config.PageFirst), C.uint32_t(config.PageMax),
 		C.uint32_t(config.MinPages), C.uint64_t(config.Retention), C.uint32_t(seats),
 		C.uint64_t(limit)),
 	)
+	runtime.KeepAlive(in)
 	var all []*Seat
 	for i := uint32(1); err == nil && i <= seats; i++ {
-		var seat *Seat
-		seat, err = s.seat(C.uint64_t(i))
-		all = append(all, seat)
+		seat := &Seat{}
+		if err = s.move(C.uint64_t(i), seat); err == nil {
+			all = append(all, seat)
+		}
 	}
 	if err != nil {
-		s.free()
+		for _, seat := range all {
+			seat.Close()
+		}
+		s.close()
 		return nil, nil, err
 	}
-	runtime.KeepAlive(s)
 	return s, all, nil
 }
 
-func (s *Shared) seat(i C.uint64_t) (*Seat, error) {
-	seat := &Seat{}
-	if err := seat.open(); err != nil {
-		return nil, err
+// sharedCaches is how many there were.
+var sharedCaches uint64
+
+// move gives one of the cache's seats a block of its own.
+func (s *Shared) move(i C.uint64_t, seat *Seat) error {
+	to, err := seat.open()
+	if err != nil {
+		return err
 	}
-	runtime.SetFinalizer(seat, (*Seat).Close)
-	s.take()
-	if err := s.leave(C.tsc_go_move(s.block, i, seat.block)); err != nil {
+	in, err := s.take()
+	if err == nil {
+		to.cache = in.cache
+		err = in.leave(C.tsc_go_move(in.block, i, to.block))
+	}
+	_ = to.leave(C.TSC_OK)
+	runtime.KeepAlive(in)
+	runtime.KeepAlive(to)
+	if err != nil {
 		seat.Close()
-		return nil, err
 	}
-	runtime.KeepAlive(s)
-	runtime.KeepAlive(seat)
-	return seat, nil
+	return err
 }
 
 // Close frees the cache, and tells how many Adds there were. It is refused with ErrStillOut where
 // a seat was not closed, and nothing is changed then.
 func (s *Shared) Close() (uint64, error) {
-	s.take()
-	if s.block == nil {
-		return 0, s.leave(C.TSC_CLOSED)
-	}
-	code := C.tsc_go_close_shared(s.block)
-	length := uint64(s.block.told)
-	if err := s.leave(code); err != nil {
-		runtime.KeepAlive(s)
+	in, err := s.take()
+	if err != nil {
 		return 0, err
 	}
-	runtime.SetFinalizer(s, nil)
-	s.free()
+	code := C.tsc_go_close_shared(in.block)
+	length := uint64(in.block.told)
+	err = in.leave(code)
+	runtime.KeepAlive(in)
+	if err != nil {
+		return 0, err
+	}
+	s.close()
 	return length, nil
 }
 
 // Close hands the seat in. Other calls are then refused with ErrClosed, and a second Close does
 // nothing.
-func (s *Seat) Close() {
-	runtime.SetFinalizer(s, nil)
-	s.free()
-}
+func (s *Seat) Close() { s.close() }
 
 // Add adds a span that was read, and returns the Add's place among all of the cache, counted from
 // 0. It waits for nobody: if others are in the way at each of its tries, it returns ErrBusy. Take
-// 64 tries; if it is refused, call runtime.Gosched and try again.
+// 64 tries; if it is refused, call runtime.Gosched and try again. With no tries it returns ErrTries.
+// Beside an error the place is math.MaxUint64, which no lookup has seen.
 func (s *Seat) Add(span Span, value Value, now Time, tries uint32) (uint64, Added, error) {
-	s.take()
-	if s.block == nil {
-		return 0, Added{}, s.leave(C.TSC_CLOSED)
+	in, err := s.take()
+	if err != nil {
+		return noPlace, Added{}, err
 	}
-	putValue(&s.block.value, value)
-	putTime(&s.block.time, now)
+	putValue(&in.block.value, value)
+	putTime(&in.block.time, now)
 	code := C.tsc_go_seat_add(
-		s.block, bytes(span.from), C.size_t(len(span.from)), bytes(span.to),
+		in.block, bytes(span.from), C.size_t(len(span.from)), bytes(span.to),
 		C.size_t(len(span.to)), span.ends-1, C.uint32_t(tries),
 	)
-	place, out := s.told(code), added(code, &s.block.added)
-	err := s.leave(code)
-	runtime.KeepAlive(s)
+	place, out := in.place(code), added(code, &in.block.added)
+	err = in.leave(code)
+	runtime.KeepAlive(in)
 	return place, out, err
 }
 
 // AddAll adds several marks as one Add, all of them or none, as Add does.
 func (s *Seat) AddAll(marks []Mark, now Time, tries uint32) (uint64, Added, error) {
 	keys, asked := flat(marks)
-	s.take()
-	if s.block == nil {
-		return 0, Added{}, s.leave(C.TSC_CLOSED)
+	in, err := s.take()
+	if err != nil {
+		return noPlace, Added{}, err
 	}
-	putTime(&s.block.time, now)
+	putTime(&in.block.time, now)
 	code := C.tsc_go_seat_add_all(
-		s.block, bytes(keys), C.size_t(len(keys)), &asked[0], C.size_t(len(marks)),
+		in.block, bytes(keys), C.size_t(len(keys)), &asked[0], C.size_t(len(marks)),
 		C.uint32_t(tries),
 	)
-	place, out := s.told(code), added(code, &s.block.added)
-	err := s.leave(code)
-	runtime.KeepAlive(s)
+	place, out := in.place(code), added(code, &in.block.added)
+	err = in.leave(code)
+	runtime.KeepAlive(in)
 	return place, out, err
 }
 
 // GetMax is the latest time on a span, as that of a Cache, and how many Adds the seat has seen
 // then. It waits for nobody.
 func (s *Seat) GetMax(span Span) (Value, uint64, error) {
-	s.take()
-	if s.block == nil {
-		return Value{}, 0, s.leave(C.TSC_CLOSED)
+	in, err := s.take()
+	if err != nil {
+		return Value{Time: MaxTime}, 0, err
 	}
 	code := C.tsc_go_seat_get_max(
-		s.block, bytes(span.from), C.size_t(len(span.from)), bytes(span.to),
+		in.block, bytes(span.from), C.size_t(len(span.from)), bytes(span.to),
 		C.size_t(len(span.to)), span.ends-1,
 	)
-	seen, out := s.told(code), valueOf(code, &s.block.value)
-	err := s.leave(code)
-	runtime.KeepAlive(s)
+	seen, out := in.seen(code), valueOf(code, &in.block.value)
+	err = in.leave(code)
+	runtime.KeepAlive(in)
 	return out, seen, err
 }
 
 // EarliestWrite is as that of a Cache, by what lookups of the seat answer, one after another. It
 // waits for nobody.
 func (s *Seat) EarliestWrite(spans []Span, at Time, by [16]byte) (Time, error) {
-	s.take()
-	if s.block == nil {
-		return Time{}, s.leave(C.TSC_CLOSED)
+	in, err := s.take()
+	if err != nil {
+		return MaxTime, err
 	}
-	putValue(&s.block.value, Value{at, by})
-	s.ask(spans)
+	putValue(&in.block.value, Value{at, by})
+	in.ask(spans)
 	code := C.tsc_go_seat_earliest_write(
-		s.block, bytes(s.keys), C.size_t(len(s.keys)), &s.spans[0], C.size_t(len(spans)),
+		in.block, bytes(in.keys), C.size_t(len(in.keys)), &in.spans[0], C.size_t(len(spans)),
 	)
-	out := timeOf(code, &s.block.time)
-	err := s.leave(code)
-	runtime.KeepAlive(s)
+	out := timeOf(code, &in.block.time)
+	err = in.leave(code)
+	runtime.KeepAlive(in)
 	return out, err
 }
 
 // LowWater is where the floor stands, and how many Adds the seat has seen then.
 func (s *Seat) LowWater() (Time, uint64, error) {
-	s.take()
-	if s.block == nil {
-		return Time{}, 0, s.leave(C.TSC_CLOSED)
+	in, err := s.take()
+	if err != nil {
+		return MaxTime, 0, err
 	}
-	code := C.tsc_go_seat_low_water(s.block)
-	seen, out := s.told(code), timeOf(code, &s.block.time)
-	err := s.leave(code)
-	runtime.KeepAlive(s)
+	code := C.tsc_go_seat_low_water(in.block)
+	seen, out := in.seen(code), timeOf(code, &in.block.time)
+	err = in.leave(code)
+	runtime.KeepAlive(in)
 	return out, seen, err
 }
 
 // Figures is what can be counted, and how many Adds the seat has seen then.
 func (s *Seat) Figures() (Figures, uint64, error) {
-	s.take()
-	if s.block == nil {
-		return Figures{}, 0, s.leave(C.TSC_CLOSED)
+	in, err := s.take()
+	if err != nil {
+		return Figures{}, 0, err
 	}
-	code := C.tsc_go_seat_figures(s.block)
-	seen, out := s.told(code), figuresOf(code, &s.block.figures)
-	err := s.leave(code)
-	runtime.KeepAlive(s)
-	return out, seen, err
+	told := C.tsc_go_seat_figures(in.block)
+	seen := in.seen(told.code)
+	err = in.leave(told.code)
+	runtime.KeepAlive(in)
+	return figuresOf(told), seen, err
 }
 
-// told is the place of an Add, or how many Adds the seat has seen.
-func (s *Seat) told(code C.uint32_t) uint64 {
+// noPlace is the place of an Add that was refused, which no lookup has seen.
+const noPlace = math.MaxUint64
+
+// place is where an Add stands in the history.
+func (in *inner) place(code C.uint32_t) uint64 {
+	if code != C.TSC_OK {
+		return noPlace
+	}
+	return uint64(in.block.told)
+}
+
+// seen is how many Adds the seat has seen.
+func (in *inner) seen(code C.uint32_t) uint64 {
 	if code != C.TSC_OK {
 		return 0
 	}
-	return uint64(s.block.told)
+	return uint64(in.block.told)
 }
 
 // flat gives the keys of some marks, one behind the other, and the marks with where theirs lie,
@@ -508,18 +474,18 @@ func flat(marks []Mark) ([]byte, []C.tsc_mark) {
 
 // ask lays some spans side by side, with their keys in one piece, and one more span behind them,
 // which is nobody's.
-func (o *owned) ask(spans []Span) {
-	o.keys, o.spans = o.keys[:0], o.spans[:0]
+func (in *inner) ask(spans []Span) {
+	in.keys, in.spans = in.keys[:0], in.spans[:0]
 	for _, span := range spans {
-		from := len(o.keys)
-		o.keys = append(append(o.keys, span.from...), span.to...)
-		o.spans = append(o.spans, C.tsc_span{
+		from := len(in.keys)
+		in.keys = append(append(in.keys, span.from...), span.to...)
+		in.spans = append(in.spans, C.tsc_span{
 			from_at: C.size_t(from), from_len: C.size_t(len(span.from)),
 			to_at: C.size_t(from + len(span.from)), to_len: C.size_t(len(span.to)),
 			ends: span.ends - 1,
 		})
 	}
-	o.spans = append(o.spans, C.tsc_span{})
+	in.spans = append(in.spans, C.tsc_span{})
 }
 
 // nothing is where a key without bytes lies.
@@ -543,18 +509,18 @@ func putValue(to *C.tsc_value, v Value) {
 	*(*[16]byte)(unsafe.Pointer(&to.owner)) = v.Owner
 }
 
-// What a call that was not refused has written.
+// What a call has written. Where it was refused that is nothing, and a time is then the last one.
 
 func timeOf(code C.uint32_t, t *C.tsc_time) Time {
 	if code != C.TSC_OK {
-		return Time{}
+		return MaxTime
 	}
 	return Time{uint64(t.wall), uint32(t.logical)}
 }
 
 func valueOf(code C.uint32_t, v *C.tsc_value) Value {
 	if code != C.TSC_OK {
-		return Value{}
+		return Value{Time: MaxTime}
 	}
 	return Value{Time{uint64(v.wall), uint32(v.logical)}, *(*[16]byte)(unsafe.Pointer(&v.owner))}
 }
@@ -566,9 +532,14 @@ func added(code C.uint32_t, a *C.tsc_added) Added {
 	return Added{Kept: bool(a.kept), Rotated: bool(a.rotated), Evicted: uint64(a.evicted)}
 }
 
-func figuresOf(code C.uint32_t, f *C.tsc_figures) Figures {
-	if code != C.TSC_OK {
+func figuresOf(told C.tsc_go_counted) Figures {
+	if told.code != C.TSC_OK {
 		return Figures{}
 	}
-	return Figures{uint64(f.pages), uint64(f.rotations), uint64(f.nodes), uint64(f.bytes)}
+	f := told.figures
+	return Figures{
+		Pages: uint64(f.pages), Rotations: uint64(f.rotations), Nodes: uint64(f.nodes),
+		Bytes: uint64(f.bytes), Memory: uint64(f.memory), Adds: uint64(f.adds),
+		Refusals: uint64(f.refusals), Lookups: uint64(f.lookups), Evicted: uint64(f.evicted),
+	}
 }

@@ -59,8 +59,8 @@ func TestPagesRotate(t *testing.T) {
 	if a, err := c.Add(Point([]byte("e")), at(20, one), Time{20, 0}); err != nil || a != (Added{Kept: true, Rotated: true}) {
 		t.Errorf("got %v, %v", a, err)
 	}
-	if f, err := c.Figures(); err != nil || f != (Figures{2, 1, 5, 165}) {
-		t.Errorf("got %v, %v", f, err)
+	if f, err := c.Figures(); err != nil || f.Pages != 2 || f.Rotations != 1 || f.Nodes != 5 || f.Bytes != 165 {
+		t.Errorf("got %+v, %v", f, err)
 	}
 	for _, key := range "fgh" {
 		if a, err := c.Add(Point([]byte(string(key))), at(41, one), Time{40, 0}); err != nil || a != (Added{Kept: true}) {
@@ -167,7 +167,7 @@ func TestSeats(t *testing.T) {
 	if err != nil {
 		t.Fatal(err)
 	}
-	if _, _, err := seats[0].AddAll(nil, Time{20, 0}, 0); err != ErrBusy {
+	if _, _, err := seats[0].AddAll(nil, Time{20, 0}, 0); err != ErrTries {
 		t.Errorf("got %v", err)
 	}
 	if _, err := shared.Close(); err != ErrStillOut {
@@ -194,8 +194,8 @@ func TestSeats(t *testing.T) {
 			if _, seen, err := seat.LowWater(); err != nil || seen < n {
 				t.Errorf("got %v, %v", seen, err)
 			}
-			if f, seen, err := seat.Figures(); err != nil || f != (Figures{1, 0, 1, 33}) || seen < n {
-				t.Errorf("got %v, %v, %v", f, seen, err)
+			if f, seen, err := seat.Figures(); err != nil || f.Pages != 1 || f.Bytes != 33 || f.Adds != n || seen < n {
+				t.Errorf("got %+v, %v, %v", f, seen, err)
 			}
 			seat.Close()
 			accepted <- n

@@ -4,7 +4,6 @@ import (
 	"errors"
 	"fmt"
 	"math"
-	"runtime"
 	"strings"
 	"sync"
 	"sync/atomic"
@@ -65,6 +64,7 @@ func TestKeysBesidePointers(t *testing.T) {
 			"Seat.MayWrite":       func() error { _, err := s.MayWrite(span, now, one); return err },
 			"Seat.MayWriteAll":    func() error { _, err := s.MayWriteAll(spans, now, one); return err },
 			"Seat.EarliestWrite":  func() error { _, err := s.EarliestWrite(spans, now, one); return err },
+			"Seat.Summary":        func() error { _, _, err := s.Summary(span, 9); return err },
 			"Replay":              func() error { _, err := Replay(trace.text[:length]); return err },
 			"Check":               func() error { _, err := Check(trace.text[:length], trace.text[:0]); return err },
 		}
@@ -87,16 +87,18 @@ type opened struct {
 func open(t *testing.T) opened {
 	t.Helper()
 	c := small(t)
-	shared, seats, err := OpenShared(DefaultConfig(), 1, math.MaxUint64)
+	shared, seats := seatsOf(t, 1)
+	summary, err := c.Summary(Point([]byte("a")), 9)
 	if err != nil {
 		t.Fatal(err)
 	}
-	s, key, now := seats[0], Point([]byte("a")), Time{20, 0}
-	summary, err := c.Summary(key, 9)
-	if err != nil {
-		t.Fatal(err)
-	}
-	return opened{c, shared, s, map[string]func() error{
+	return opened{c, shared, seats[0], callsOf(c, shared, seats[0], summary)}
+}
+
+// callsOf are the calls of these by name.
+func callsOf(c *Cache, shared *Shared, s *Seat, summary []byte) map[string]func() error {
+	key, now := Point([]byte("a")), Time{20, 0}
+	return map[string]func() error{
 		"Cache.Add":           func() error { _, err := c.Add(key, at(20, one), now); return err },
 		"Cache.AddAll":        func() error { _, err := c.AddAll(nil, now); return err },
 		"Cache.GetMax":        func() error { _, err := c.GetMax(key); return err },
@@ -115,8 +117,9 @@ func open(t *testing.T) opened {
 		"Seat.MayWrite":       func() error { _, err := s.MayWrite(key, now, one); return err },
 		"Seat.MayWriteAll":    func() error { _, err := s.MayWriteAll(nil, now, one); return err },
 		"Seat.EarliestWrite":  func() error { _, err := s.EarliestWrite([]Span{key}, now, one); return err },
+		"Seat.Summary":        func() error { _, _, err := s.Summary(key, 9); return err },
 		"Shared.Close":        func() error { _, err := shared.Close(); return err },
-	}}
+	}
 }
 
 // panics tells what a call panics with, if it does.
@@ -134,9 +137,12 @@ func TestACallWhileAnotherIsUnderWayPanics(t *testing.T) {
 	o := open(t)
 	o.calls["Cache.Close"] = func() error { o.cache.Close(); return nil }
 	o.calls["Seat.Close"] = func() error { o.seat.Close(); return nil }
-	parts := []*owned{&o.cache.owned, &o.seat.owned, &o.shared.owned}
+	parts := []*inner{o.cache.inner, o.seat.inner, o.shared.inner}
 	for _, part := range parts {
-		part.take()
+		part.ask([]Span{Point([]byte("asked"))})
+		if err := part.take(); err != nil {
+			t.Fatal(err)
+		}
 	}
 	for name, call := range o.calls {
 		if what := panics(func() { _ = call() }); !strings.HasPrefix(what, "tscache: two goroutines use one ") {
@@ -144,6 +150,9 @@ func TestACallWhileAnotherIsUnderWayPanics(t *testing.T) {
 		}
 	}
 	for _, part := range parts {
+		if string(part.keys) != "asked" || len(part.spans) != 2 {
+			t.Errorf("the call under way now has %d spans of the keys %q", len(part.spans), part.keys)
+		}
 		_ = part.leave(0)
 	}
 	for name, call := range o.calls {
@@ -187,7 +196,7 @@ func TestErrors(t *testing.T) {
 	all := []error{
 		ErrClosed, ErrTime, ErrEnds, ErrKeyTooLong, ErrInverted, ErrTooLarge, ErrPageSize, ErrMinPages,
 		ErrRetention, ErrNoMemory, ErrSeats, ErrStillOut, ErrBusy, ErrFull, ErrNoTime, ErrSummaryVersion,
-		ErrSummaryLength, ErrSummaryChecksum, ErrSummaryForm,
+		ErrSummaryLength, ErrSummaryChecksum, ErrSummaryForm, ErrTries,
 	}
 	told := map[string]bool{}
 	for i, err := range all {
@@ -255,12 +264,13 @@ func TestApart(t *testing.T) {
 	if err != nil {
 		t.Fatal(err)
 	}
-	if unsafe.Sizeof(Seat{}) != apart || unsafe.Sizeof(Cache{}) != apart {
-		t.Errorf("a Seat has %d bytes, a Cache %d", unsafe.Sizeof(Seat{}), unsafe.Sizeof(Cache{}))
+	if unsafe.Sizeof(inner{}) != apart {
+		t.Errorf("what a Seat leads to has %d bytes", unsafe.Sizeof(inner{}))
 	}
 	for i, seat := range seats {
-		if uintptr(unsafe.Pointer(seat))%apart != 0 || uintptr(unsafe.Pointer(seat.block))%apart != 0 {
-			t.Errorf("seat %d lies at %p, its block at %p", i, seat, seat.block)
+		in := seat.inner
+		if uintptr(unsafe.Pointer(in))%apart != 0 || uintptr(unsafe.Pointer(in.block))%apart != 0 {
+			t.Errorf("seat %d lies at %p, its block at %p", i, in, in.block)
 		}
 	}
 }
@@ -338,62 +348,6 @@ func TestAnAddTriesAsOftenAsItIsTold(t *testing.T) {
 	all.Wait()
 }
 
-func TestPool(t *testing.T) {
-	const goroutines, each = 1000, 20
-	shared, seats, err := OpenShared(DefaultConfig(), 4, math.MaxUint64)
-	if err != nil {
-		t.Fatal(err)
-	}
-	pool := NewPool(seats)
-	if what := panics(func() { pool.Put(seats[0]) }); !strings.HasPrefix(what, "tscache: a seat was put") {
-		t.Errorf("got %q", what)
-	}
-	if what := panics(func() { pool.Do(func(*Seat) { panic("of the work") }) }); what != "of the work" {
-		t.Errorf("got %q", what)
-	}
-	var most, now, adds int64
-	var all sync.WaitGroup
-	for g := 0; g < goroutines; g++ {
-		all.Add(1)
-		go func(g int) {
-			defer all.Done()
-			for i := 0; i < each; i++ {
-				key, value := Point([]byte{byte(g), byte(g >> 8)}), at(uint64(20+i), one)
-				pool.Do(func(seat *Seat) {
-					if n := atomic.AddInt64(&now, 1); n > atomic.LoadInt64(&most) {
-						atomic.StoreInt64(&most, n)
-					}
-					for {
-						_, _, err := seat.Add(key, value, value.Time, 64)
-						if err == nil {
-							break
-						}
-						if !errors.Is(err, ErrBusy) {
-							t.Error(err)
-						}
-						runtime.Gosched()
-					}
-					atomic.AddInt64(&adds, 1)
-					atomic.AddInt64(&now, -1)
-				})
-				pool.Do(func(seat *Seat) { // most often another seat
-					if got, _, err := seat.GetMax(key); err != nil || got != value {
-						t.Errorf("wanted %v, got %v, %v", value, got, err)
-					}
-				})
-			}
-		}(g)
-	}
-	all.Wait()
-	if most > 4 {
-		t.Errorf("%d goroutines had one of 4 seats at once", most)
-	}
-	pool.Close()
-	if n, err := shared.Close(); err != nil || n != goroutines*each || int64(n) != adds {
-		t.Errorf("got %v, %v", n, err)
-	}
-}
-
 func TestTimes(t *testing.T) {
 	last := Time{math.MaxInt64, math.MaxInt32}
 	for i, r := range []struct{ time, next Time }{
@@ -413,8 +367,8 @@ func TestTimes(t *testing.T) {
 			t.Errorf("row %d: %v comes next", i, next)
 		}
 	}
-	if next, there := last.Next(); there {
-		t.Errorf("got %v", next)
+	if next, there := last.Next(); there || next != last || MaxTime != last {
+		t.Errorf("got %v, and %v is the last time", next, MaxTime)
 	}
 	for i, r := range []struct {
 		one, other Time
@@ -446,7 +400,7 @@ func TestTheEarliestTimeIsClear(t *testing.T) {
 		{Value{Time{20, 0}, one}, Time{15, 3}, one, Time{20, 0}, nil},
 		{Value{Time{20, 0}, none}, Time{20, 0}, one, Time{20, 1}, nil},
 		{Value{Time{20, math.MaxInt32}, none}, Time{15, 0}, one, Time{21, 0}, nil},
-		{Value{last, none}, Time{15, 0}, one, Time{}, ErrNoTime},
+		{Value{last, none}, Time{15, 0}, one, MaxTime, ErrNoTime},
 		{Value{last, one}, Time{15, 0}, one, last, nil},
 		{Value{Time{20, 0}, none}, Time{20, 0}, none, Time{20, 1}, nil},
 	} {
@@ -533,7 +487,7 @@ func TestCallsTakeNoMemory(t *testing.T) {
 	if took != 0 {
 		t.Errorf("they took memory %v times", took)
 	}
-	for _, o := range []*owned{&c.owned, &s.owned} { // a part of a run doesn't count above
+	for _, o := range []*inner{c.inner, s.inner} { // a part of a run doesn't count above
 		if cap(o.keys) > 64 || cap(o.spans) > 8 {
 			t.Errorf("questions left %d bytes and %d spans", cap(o.keys), cap(o.spans))
 		}

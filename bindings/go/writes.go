@@ -23,7 +23,11 @@ func (t Time) Before(other Time) bool {
 	return t.Wall < other.Wall || t.Wall == other.Wall && t.Logical < other.Logical
 }
 
-// Next is the first time after this one. There is none after the last.
+// MaxTime is the last time. Beside an error it stands for the time that there is none of: no write
+// is at a later one.
+var MaxTime = Time{math.MaxInt64, math.MaxInt32}
+
+// Next is the first time after this one. After MaxTime there is none, and MaxTime stands for it.
 func (t Time) Next() (Time, bool) {
 	switch {
 	case t.Logical < math.MaxInt32:
@@ -31,13 +35,13 @@ func (t Time) Next() (Time, bool) {
 	case t.Wall < math.MaxInt64:
 		return Time{t.Wall + 1, 0}, true
 	default:
-		return Time{}, false
+		return MaxTime, false
 	}
 }
 
 // MayWrite says whether a transaction may write a span at some time: whether that is clear of what
 // a lookup of the span answers, and so of each read that was added there, also of one that was
-// dropped since. It is refused with ErrTime, and as GetMax is.
+// dropped since. It is refused with ErrTime, with ErrInverted, and as GetMax is.
 func (c *Cache) MayWrite(span Span, at Time, by [16]byte) (bool, error) {
 	return c.MayWriteAll([]Span{span}, at, by)
 }
@@ -45,18 +49,18 @@ func (c *Cache) MayWrite(span Span, at Time, by [16]byte) (bool, error) {
 // MayWriteAll says whether a transaction may write all of some spans at some time, by the rule of
 // MayWrite. It is so just where EarliestWrite tells that very time.
 func (c *Cache) MayWriteAll(spans []Span, at Time, by [16]byte) (bool, error) {
-	c.take()
-	if c.block == nil {
-		return false, c.leave(C.TSC_CLOSED)
+	in, err := c.take()
+	if err != nil {
+		return false, err
 	}
-	putValue(&c.block.value, Value{at, by})
-	c.ask(spans)
+	putValue(&in.block.value, Value{at, by})
+	in.ask(spans)
 	code := C.tsc_go_may_write(
-		c.block, bytes(c.keys), C.size_t(len(c.keys)), &c.spans[0], C.size_t(len(spans)),
+		in.block, bytes(in.keys), C.size_t(len(in.keys)), &in.spans[0], C.size_t(len(spans)),
 	)
-	out := code == C.TSC_OK && bool(c.block.may)
-	err := c.leave(code)
-	runtime.KeepAlive(c)
+	out := code == C.TSC_OK && bool(in.block.may)
+	err = in.leave(code)
+	runtime.KeepAlive(in)
 	return out, err
 }
 
@@ -68,17 +72,17 @@ func (s *Seat) MayWrite(span Span, at Time, by [16]byte) (bool, error) {
 // MayWriteAll is as that of a Cache, by what lookups of the seat answer, one after another. It
 // waits for nobody.
 func (s *Seat) MayWriteAll(spans []Span, at Time, by [16]byte) (bool, error) {
-	s.take()
-	if s.block == nil {
-		return false, s.leave(C.TSC_CLOSED)
+	in, err := s.take()
+	if err != nil {
+		return false, err
 	}
-	putValue(&s.block.value, Value{at, by})
-	s.ask(spans)
+	putValue(&in.block.value, Value{at, by})
+	in.ask(spans)
 	code := C.tsc_go_seat_may_write(
-		s.block, bytes(s.keys), C.size_t(len(s.keys)), &s.spans[0], C.size_t(len(spans)),
+		in.block, bytes(in.keys), C.size_t(len(in.keys)), &in.spans[0], C.size_t(len(spans)),
 	)
-	out := code == C.TSC_OK && bool(s.block.may)
-	err := s.leave(code)
-	runtime.KeepAlive(s)
+	out := code == C.TSC_OK && bool(in.block.may)
+	err = in.leave(code)
+	runtime.KeepAlive(in)
 	return out, err
 }

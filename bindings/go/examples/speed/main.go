@@ -152,10 +152,10 @@ func onGoroutines(nodes uint64, spans []tscache.Span) {
 	pooled := func(int) {
 		for turn := 0; turn < longTurns; turn++ {
 			for _, span := range spans {
-				pool.Do(func(seat *tscache.Seat) {
+				must(pool.Do(func(seat *tscache.Seat) error {
 					_, _, err := seat.GetMax(span)
-					must(err)
-				})
+					return err
+				}))
 			}
 		}
 	}

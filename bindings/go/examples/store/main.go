@@ -109,12 +109,11 @@ func (s *store) hold(from, to int) func() {
 func (s *store) read(from, to int, at tscache.Time, by [16]byte) ([]answer, error) {
 	defer s.hold(from, to)()
 	span := tscache.Range(name(from), name(to), tscache.ExcludeTo)
-	var err error
-	s.pool.Do(func(seat *tscache.Seat) {
+	err := s.pool.Do(func(seat *tscache.Seat) error {
 		for {
-			_, _, err = seat.Add(span, tscache.Value{Time: at, Owner: by}, at, tries)
+			_, _, err := seat.Add(span, tscache.Value{Time: at, Owner: by}, at, tries)
 			if !errors.Is(err, tscache.ErrBusy) {
-				return
+				return err
 			}
 			runtime.Gosched()
 		}
@@ -133,20 +132,27 @@ func (s *store) read(from, to int, at tscache.Time, by [16]byte) ([]answer, erro
 func (s *store) clear(one, other int, wanted tscache.Time, by [16]byte) (
 	at tscache.Time, err error,
 ) {
+	at = tscache.MaxTime
 	spans := []tscache.Span{tscache.Point(name(one)), tscache.Point(name(other))}
 	switch s.asking {
 	case asks:
-		s.pool.Do(func(seat *tscache.Seat) { at, err = seat.EarliestWrite(spans, wanted, by) })
+		err = s.pool.Do(func(seat *tscache.Seat) (err error) {
+			at, err = seat.EarliestWrite(spans, wanted, by)
+			return err
+		})
 	case trustsItsOwn: // the trap: an earlier read of somebody else may lie behind it
 		at = wanted
-		s.pool.Do(func(seat *tscache.Seat) {
+		err = s.pool.Do(func(seat *tscache.Seat) error {
 			for _, span := range spans {
-				var latest tscache.Value
-				latest, _, err = seat.GetMax(span)
-				if err == nil && latest.Owner != by && !latest.Time.Before(at) {
+				latest, _, err := seat.GetMax(span)
+				if err != nil {
+					return err
+				}
+				if latest.Owner != by && !latest.Time.Before(at) {
 					at, _ = latest.Time.Next()
 				}
 			}
+			return nil
 		})
 	default:
 		at = wanted
