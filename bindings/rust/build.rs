@@ -8,7 +8,7 @@ use std::env::{self, VarError};
 use std::path::{Path, PathBuf};
 use std::process::Command;
 
-/// The folders that a linker looks through, of the systems that there are. It may know more of them.
+/// The folders that a linker looks through, of the systems that there are. It may know more.
 const KNOWN: [&str; 5] =
     ["/usr/local/lib", "/usr/lib", "/usr/lib64", "/lib", "/usr/lib/x86_64-linux-gnu"];
 
