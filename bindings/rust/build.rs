@@ -84,7 +84,7 @@ fn main() {
         }
         None => {
             let (word, name) = forms[0];
-            println!("cargo:warning=libtscache is not found, so no program is linked: {ASK}");
+            println!("cargo:warning=libtscache is not found, so no program can be linked: {ASK}");
             println!("cargo:rustc-link-lib={word}=tscache");
             // (a file that is missing has cargo look again each time)
             println!("cargo:rerun-if-changed={}/{name}", KNOWN[0]);
