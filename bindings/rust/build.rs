@@ -8,7 +8,7 @@ use std::env::{self, VarError};
 use std::path::{Path, PathBuf};
 use std::process::Command;
 
-/// The folders that a linker looks through, of the systems that there are. It may know more of them.
+/// The folders that a linker looks through, of the systems that there are. It may know more.
 const KNOWN: [&str; 5] =
     ["/usr/local/lib", "/usr/lib", "/usr/lib64", "/lib", "/usr/lib/x86_64-linux-gnu"];
 
@@ -84,7 +84,7 @@ fn main() {
         }
         None => {
             let (word, name) = forms[0];
-            println!("cargo:warning=libtscache is not found, so no program is linked: {ASK}");
+            println!("cargo:warning=libtscache is not found, so no program can be linked: {ASK}");
             println!("cargo:rustc-link-lib={word}=tscache");
             // (a file that is missing has cargo look again each time)
             println!("cargo:rerun-if-changed={}/{name}", KNOWN[0]);

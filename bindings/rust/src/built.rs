@@ -20,7 +20,8 @@ pub struct Built {
 ///
 /// ```
 /// let tscache::Built { version, commit, kit, is_proved } = tscache::built();
-/// println!("tscache {version} of {commit} by {kit}, {}", if is_proved { "proved" } else { "not proved" });
+/// let how = if is_proved { "proved" } else { "not proved" };
+/// println!("tscache {version} of {commit} by {kit}, {how}");
 /// assert_eq!(version, env!("CARGO_PKG_VERSION"));
 /// # assert!(!commit.is_empty() && !kit.is_empty());
 /// ```

@@ -95,8 +95,8 @@ impl Cache {
 
 impl Seat {
     /// What was read of a span of the shared cache, as bytes for the next holder of its lease, and
-    /// how many Adds the seat has seen then: what [`Cache::summary`] tells after these. The cache is
-    /// not closed by it.
+    /// how many Adds the seat has seen then: what [`Cache::summary`] tells after these. The cache
+    /// stays open.
     ///
     /// The caller has all threads stop answering reads of the span. Then it asks until the seat has
     /// seen the last Add of each of them; in practice it asks once. The next holder
@@ -210,6 +210,42 @@ mod tests {
             assert_eq!(seats[0].get_max(&all), (later, count + 1));
             drop(seats);
             assert_eq!(shared.close().unwrap(), count + 1);
+        }
+    }
+
+    /// While other seats add, a summary covers each Add before the place that it tells, also where
+    /// it grew from one ask for its bytes to the next.
+    #[test]
+    fn a_seat_tells_all_that_it_has_seen() {
+        const ADDS: u64 = 600;
+        let (_shared, mut seats) = Shared::open(&Config::default(), 3, u64::MAX).unwrap();
+        let mut teller = seats.pop().unwrap();
+        let all = Span::Onward { from: b"", exclude_from: false };
+        let add_all = |thread: usize, mut seat: Seat| {
+            (0..ADDS).map(move |i| {
+                let key = [thread as u8, (i % 200) as u8];
+                let read = Value { time: Time::new(20 + i, 0), owner: Some([1; 16]) };
+                let told = seat.add(&Span::Point(&key), read, NOW, u32::MAX).unwrap();
+                (told.0, key, read.time)
+            })
+        };
+        let (added, summaries) = std::thread::scope(|scope| {
+            let start = |(i, seat)| scope.spawn(move || Vec::from_iter(add_all(i, seat)));
+            let adders: Vec<_> = seats.into_iter().enumerate().map(start).collect();
+            let mut summaries = Vec::new();
+            while summaries.last().map_or(true, |(_, seen)| *seen < 2 * ADDS) {
+                summaries.push(teller.summary(&all, usize::MAX).unwrap());
+            }
+            let added = adders.into_iter().flat_map(|adder| adder.join().unwrap());
+            (Vec::from_iter(added), summaries)
+        });
+        for (summary, seen) in summaries.iter().rev().step_by(1 + summaries.len() / 20) {
+            let mut next = Cache::open(&Config::default()).unwrap();
+            next.apply(summary, NOW).unwrap();
+            for (place, key, time) in &added {
+                let told = next.get_max(&Span::Point(key)).time;
+                assert!(place >= seen || told >= *time, "{place} of {seen}: {told:?} {time:?}");
+            }
         }
     }
 

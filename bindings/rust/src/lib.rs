@@ -92,9 +92,10 @@ pub struct Config {
 }
 
 impl Default for Config {
-    /// Pages of 128 KiB that grow to 32 MiB, at least two of them, and ten seconds. The floor is at
-    /// 0, which only a cache may have before which no read was answered: a lease holder sets
-    /// [`low_water`](Config::low_water).
+    /// Pages of 128 KiB that grow to 32 MiB, at least two of them, and ten seconds.
+    ///
+    /// The floor is at 0. That is right only if no read was answered before the cache is opened: a
+    /// lease holder sets [`low_water`](Config::low_water).
     fn default() -> Config {
         Config {
             page_first: 128 << 10,
@@ -108,8 +109,9 @@ impl Default for Config {
 
 /// The keys that a read touched, or that a lookup asks of.
 ///
-/// A range from a key to itself is that key where one of its ends is included, and else it has no
-/// key. One whose first key is the greater one is inverted.
+/// A range from a key to itself is that key if one of its ends is included, and otherwise it has no
+/// key. A range whose first key is the greater one is inverted. Every call but a lookup refuses it
+/// as [`Error::Inverted`]; to a lookup it has no key.
 ///
 /// ```
 /// use tscache::{Cache, Config, Error, Span, Time, Value};
@@ -210,8 +212,8 @@ pub struct Figures {
     pub nodes: u64,
     /// What these cost: for each as many bytes as it has, and 32 more.
     pub bytes: u64,
-    /// The bytes of all blocks of memory that hold these pages, as `malloc` was asked for them. At a
-    /// seat these are of the copy that it reads.
+    /// The bytes of all blocks of memory that hold these pages, as `malloc` was asked for them. At
+    /// a seat these are of the copy that it reads.
     pub memory: u64,
     /// Adds that were accepted. Several marks at once are one Add, and so is a summary that is
     /// applied.
@@ -231,7 +233,7 @@ pub enum Error {
     Time,
     /// A key of a span to be added has more than 4096 bytes.
     KeyTooLong,
-    /// Of a span that is to be added, written or summarized the first key is greater than the second.
+    /// Of a span that is added, written or summarized the first key is greater than the second.
     Inverted,
     /// A span to be added costs more than the largest page may have.
     TooLarge,
@@ -401,7 +403,8 @@ impl Cache {
     ///
     /// ```
     /// use tscache::{Cache, Config, Error};
-    /// assert_eq!(Cache::open(&Config { page_first: 63, ..Config::default() }).err(), Some(Error::PageSize));
+    /// let too_small = Config { page_first: 63, ..Config::default() };
+    /// assert_eq!(Cache::open(&too_small).err(), Some(Error::PageSize));
     /// ```
     #[must_use = "the cache forgets its reads where it is dropped"]
     pub fn open(config: &Config) -> Result<Cache, Error> {
@@ -459,7 +462,8 @@ impl Cache {
     /// use tscache::{Cache, Config, Error, Mark, Span, Time, Value};
     /// let mut cache = Cache::open(&Config::default())?;
     /// let value = Value { time: Time::new(20, 0), owner: None };
-    /// let marks = [Mark { span: Span::Point(b"a"), value }, Mark { span: Span::until(b"c", b"b"), value }];
+    /// let spans = [Span::Point(b"a"), Span::until(b"c", b"b")];
+    /// let marks = spans.map(|span| Mark { span, value });
     /// assert_eq!(cache.add_all(&marks, Time::new(20, 0)), Err(Error::Inverted));
     /// assert_eq!(cache.get_max(&Span::Point(b"a")).time, Time::new(0, 0));
     /// assert!(cache.add_all(&marks[..1], Time::new(20, 0))?.kept);
@@ -620,8 +624,8 @@ unsafe impl Send for Shared {}
 unsafe impl Send for Seat {}
 
 impl Shared {
-    /// A cache to which nothing was added, and its seats, 1 to 64 of them. There may be `limit` Adds:
-    /// take `u64::MAX`, which is never reached, since a smaller limit is for tests.
+    /// A cache to which nothing was added, and its seats, 1 to 64 of them. There may be `limit`
+    /// Adds: take `u64::MAX`, which is never reached, since a smaller limit is for tests.
     ///
     /// ```
     /// use tscache::{Config, Error, Shared};
@@ -693,8 +697,8 @@ impl Drop for Shared {
 impl Seat {
     /// Adds a span that was read, and returns the Add's place among all of the cache, counted from
     /// 0. It waits for nobody: if others are in the way at each of its tries, it is refused as
-    /// [`Error::Busy`]. Take 64 tries; if it is refused, call `std::thread::yield_now` and try again.
-    /// Without any try it is refused as [`Error::Tries`].
+    /// [`Error::Busy`]. Take 64 tries; if it is refused, call `std::thread::yield_now` and try
+    /// again. Without any try it is refused as [`Error::Tries`].
     ///
     /// ```
     /// use tscache::{Config, Error, Shared, Span, Time, Value};

@@ -73,8 +73,8 @@ impl Cache {
     }
 
     /// Whether a transaction may write all of these spans at some time, by the rule of
-    /// [`may_write`](Cache::may_write). It is so just where [`earliest_write`](Cache::earliest_write)
-    /// tells that very time.
+    /// [`may_write`](Cache::may_write). It is so just where
+    /// [`earliest_write`](Cache::earliest_write) tells that very time.
     ///
     /// ```
     /// # use tscache::{Cache, Config, Error, Span, Time, Value};

@@ -1,5 +1,5 @@
-//! Where memory is refused, a call is refused too: it adds nothing, and the program goes on. It is a
-//! program of its own, with one test, since its allocator refuses what it is told to.
+//! Where memory is refused, a call is refused too: it adds nothing, and the program goes on. It is
+//! a program of its own, with one test, since its allocator refuses what it is told to.
 use std::alloc::{GlobalAlloc, Layout, System};
 use std::fmt::Debug;
 use std::ptr::null_mut;
