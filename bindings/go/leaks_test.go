@@ -68,7 +68,10 @@ func TestNothingIsLeftBehind(t *testing.T) {
 				return err
 			}
 			_, _, err = seats[0].Add(key, at(20, one), now, 64)
-			if closes {
+			if err == nil {
+				_, _, err = seats[1].Summary(Onward(nil, IncludeBoth), math.MaxUint)
+			}
+			if err == nil && closes {
 				seats[0].Close()
 				seats[1].Close()
 				_, err = shared.Close()

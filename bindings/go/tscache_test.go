@@ -1,6 +1,9 @@
 package tscache
 
-import "testing"
+import (
+	"runtime"
+	"testing"
+)
 
 var (
 	one = [16]byte{1}
@@ -180,8 +183,9 @@ func TestSeats(t *testing.T) {
 			var n uint64
 			for wall := uint64(20); wall < 120; wall++ {
 				_, a, err := seat.Add(Point([]byte("a")), at(wall, one), Time{20, 0}, 8)
-				if err == ErrBusy {
-					continue
+				for err == ErrBusy {
+					runtime.Gosched()
+					_, a, err = seat.Add(Point([]byte("a")), at(wall, one), Time{20, 0}, 8)
 				}
 				if err != nil || !a.Kept {
 					t.Errorf("got %v, %v", a, err)
