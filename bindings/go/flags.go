@@ -1,4 +1,4 @@
-//go:build !tscache_pkgconfig
+//go:build !tscache_pkgconfig && !tscache_shared
 
 package tscache
 

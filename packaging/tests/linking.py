@@ -42,6 +42,16 @@ def versions(cases, version, prefix):
         cases.expect(f"{name}.pc", told, (0, f"{version}\n"))
 
 
+def headers(cases, work, prefix):
+    """Each header by itself, by pkg-config's flags, gives no warning."""
+    flags = shlex.split(run("pkg-config", "--cflags", "tscache", env=found_in(prefix))[1])
+    for name in sorted(os.listdir(f"{prefix}/include")):
+        for compiler, source, strict in COMPILERS if name.endswith(".h") else COMPILERS[-1:]:
+            write(f"{work}/{source}", f"#include <{name}>\nint main(void) {{ return 0; }}\n")
+            made = run(compiler, *strict, *flags, f"{work}/{source}", "-o", f"{work}/use")
+            cases.expect(f"{name} by itself, {compiler} {strict[0]}", made, (0, ""))
+
+
 def told_by_use(version):
     """What `use.c` tells."""
     return 0, f"{number_of(version)} {number_of(version)} 20\n"
