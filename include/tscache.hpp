@@ -103,8 +103,7 @@ private:
 };
 
 /// What a call answers, or why it was refused.
-template <class T> class [[nodiscard, gnu::warn_unused]] Result
-{
+template <class T> class [[nodiscard, gnu::warn_unused]] Result {
 public:
     Result(T value) noexcept : value_(std::move(value)) {}
     Result(Error error) noexcept : error_(error) {}
