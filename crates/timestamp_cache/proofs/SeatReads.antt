@@ -1,10 +1,11 @@
 -- What a seat is told of the reads of a span.
-use Rattle.std.proofs.Common.{◌≡◌, ◌∙◌, ℕ}
+use Rattle.std.proofs.Common.{◌≡◌, ◌∙◌, sym, subst, ℕ}
 use Rattle.std.specs.Arc.{arc_value}
 use Rattle.tsc_time.proofs.RatchetOrder.{IsAtMost-transitive}
 use Rattle.tsc_span.specs.Span.{Interval}
 use Rattle.tsc_cache.specs.Settings.{Settings}
 use Rattle.tsc_cache.specs.State.{look}
+use Rattle.tsc_cache.specs.CacheView.{CacheView, RepresentsState}
 use Rattle.tsc_cache.specs.History.{History, state_of}
 use Rattle.tsc_cache.proofs.Histories.{kept_up}
 use Rattle.tsc_shared.specs.declared.answers.Snapshot.{Snapshot}
@@ -24,18 +25,21 @@ tells_reads settings h told tells inner e m within added own over =
     (summaries_tell_no_less.no_less (state_of settings h) told inner tells within)
 
 -- so does one of a snapshot
-pub summarizes_at : (old new : SeatView) (snapshot : Snapshot) (of : Interval) (most : ℕ)
-    (told : SeatSummary) → TakesSnapshot old new snapshot →
-    Summarizes (arc_value snapshot.cache) of most told.summary → told.front ≡ snapshot.front →
-    SummarizesAt old new of most told
-summarizes_at old new snapshot of most told taken summarizes front =
-    let settings : Settings = old.cache.config in record {
+pub summarizes_at : (old new : SeatView) (snapshot : Snapshot) (cache : CacheView) (of : Interval)
+    (most : ℕ) (told : SeatSummary) → TakesSnapshot old new snapshot →
+    cache ≡ arc_value snapshot.cache → Summarizes cache of most told.summary →
+    told.front ≡ snapshot.front → SummarizesAt old new of most told
+summarizes_at old new snapshot cache of most told taken same summarizes front =
+    let settings : Settings = old.cache.config in
+    let stands : RepresentsState cache settings (state_of settings new.seen) =
+    subst (λ (v : CacheView). RepresentsState v settings (state_of settings new.seen)) (sym same)
+    taken.stands in record {
       goes_on = taken.goes_on;
       count = taken.count;
       front = front ∙ taken.front;
-      cache = arc_value snapshot.cache;
-      stands = taken.stands;
+      cache = cache;
+      stands = stands;
       summarizes = summarizes;
       reads = tells_reads settings new.seen told.summary
-          (summarizes.answers settings (state_of settings new.seen) taken.stands);
+          (summarizes.answers settings (state_of settings new.seen) stands);
     }
