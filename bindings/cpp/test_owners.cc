@@ -179,7 +179,8 @@ bool is_closed(Seat &seat)
 
 bool is_closed(Shared &shared)
 {
-    return shared.seat().error() == Error::Closed && shared.close().error() == Error::Closed;
+    return shared.seat().error() == Error::Closed && shared.close().error() == Error::Closed &&
+           shared.seat().error() == Error::Closed;
 }
 
 /// What was moved from answers nothing any more, also where the memory that it had is free.
