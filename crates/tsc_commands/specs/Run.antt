@@ -27,8 +27,8 @@ pub record SucceedsRun (status : ℕ) (reader reader' : KnownReader)
   pub is_status : status ≡ 0
   pub quiet : errors' ≡ errors
 
--- The run ended early, and that was told, with its exit status. That no thread was to be had is told
--- only where the start of one was refused.
+-- The run ended early, and that was told, with its exit status. That no thread was to be had is
+-- told only where the start of one was refused.
 pub record FailsRun (refused : Type 0) (status : ℕ) (reader reader' : KnownReader)
     (writer writer' errors errors' : KnownWriter) : Type 0 where
   pub stop : RunStop
