@@ -9,7 +9,8 @@ import "C"
 type Build struct {
 	// Version is as "0.1.0".
 	Version string
-	// Commit is the full hash of the sources' commit, or "unknown".
+	// Commit is the full hash of the sources' commit, with "-dirty" behind it where files differed
+	// from that, or "unknown".
 	Commit string
 	// Kit names the kit that compiled the library, and the logic that proved it.
 	Kit string

@@ -37,7 +37,9 @@ func TestACopyNeverMeetsFreedMemory(t *testing.T) {
 		calls["Pool.Close"] = func() error { pool.Close(); return nil }
 		calls["NewPool"] = func() error { NewPool([]*Seat{seat}); return nil }
 		for name, call := range calls {
-			if what := panics(func() { _ = call() }); what != copied {
+			what, call := "", call
+			within(t, soon, name, func() { what = panics(func() { _ = call() }) })
+			if what != copied {
 				t.Errorf("%s: got %q", name, what)
 			}
 		}

@@ -10,5 +10,5 @@
 //
 // All that is here calls libtscache by cgo, whose functions are proved to do what they say; see
 // tscache.h. Nothing of this package is proved itself. README.md says how a program finds the
-// library. Without cgo nothing of the package is there.
+// library. It takes CGO_ENABLED=1 and a C compiler: without cgo nothing of the package is there.
 package tscache

@@ -112,7 +112,7 @@ func TestBuilt(t *testing.T) {
 	if b.Version != strings.TrimSpace(string(version)) || b.Kit == "" {
 		t.Errorf("got %+v", b)
 	}
-	if !regexp.MustCompile(`^([0-9a-f]{40}|unknown)$`).MatchString(b.Commit) {
+	if !regexp.MustCompile(`^([0-9a-f]{40}(-dirty)?|unknown)$`).MatchString(b.Commit) {
 		t.Errorf("got %+v", b)
 	}
 }

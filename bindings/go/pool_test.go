@@ -13,7 +13,7 @@ import (
 )
 
 // soon is a deadline for what must not hang.
-const soon = 20 * time.Second
+const soon = 15 * time.Second
 
 // within has the work done, and fails the test where that takes longer than the deadline.
 func within(t *testing.T, deadline time.Duration, what string, work func()) {
@@ -50,6 +50,13 @@ func get(t *testing.T, p *Pool) *Seat {
 		t.Fatal(err)
 	}
 	return seat
+}
+
+// putting tells what a pool panics with where a seat is put there.
+func putting(t *testing.T, p *Pool, seat *Seat) (what string) {
+	t.Helper()
+	within(t, soon, "Put", func() { what = panics(func() { p.Put(seat) }) })
+	return what
 }
 
 func TestPool(t *testing.T) {
@@ -156,12 +163,14 @@ func TestWrongPuts(t *testing.T) {
 		"a seat that is not out":    {back, notOut},
 		"a copy of a seat":          {copyOf(out), copied},
 	} {
-		if got := panics(func() { pool.Put(row.seat) }); got != row.wanted {
+		if got := putting(t, pool, row.seat); got != row.wanted {
 			t.Errorf("%s: got %q", what, got)
 		}
 	}
-	pool.Put(out)
-	if got := panics(func() { pool.Put(out) }); got != notOut {
+	if got := putting(t, pool, out); got != "" {
+		t.Errorf("put back: got %q", got)
+	}
+	if got := putting(t, pool, out); got != notOut {
 		t.Errorf("put twice: got %q", got)
 	}
 	first, second := get(t, pool), get(t, pool)
@@ -181,8 +190,7 @@ func TestSeatsOfTwoRanges(t *testing.T) {
 	_, bs := seatsOf(t, 1)
 	a, b := NewPool(as), NewPool(bs)
 	x, y := get(t, a), get(t, b)
-	crossed := panics(func() { a.Put(y) }) != "" && panics(func() { b.Put(x) }) != ""
-	if !crossed {
+	if putting(t, a, y) == "" || putting(t, b, x) == "" {
 		t.Fatal("a seat went into the pool of another cache")
 	}
 	a.Put(x)
