@@ -75,11 +75,12 @@ def install(cases, work, top):
 
 def staged(cases, work, top, prefix):
     """Installations by DESTDIR and PREFIX."""
+    # (below this folder too, so that nothing else is written to where DESTDIR is passed over)
     stage = {"DESTDIR": f"{work}/stage"}
     for what, words, env, at in (
-        ("DESTDIR and PREFIX", [], {**stage, "PREFIX": "/opt/cache"}, "stage/opt/cache"),
-        ("DESTDIR and a word", ["/usr"], {**stage, "PREFIX": "/opt"}, "stage/usr"),
-        ("PREFIX", [], {"PREFIX": f"{work}/by-prefix"}, "by-prefix"),
+        ("DESTDIR and PREFIX", [], {**stage, "PREFIX": f"{work}/one"}, f"stage{work}/one"),
+        ("DESTDIR and a word", [f"{work}/two"], {**stage, "PREFIX": "/"}, f"stage{work}/two"),
+        ("PREFIX", [], {"PREFIX": f"{work}/three"}, "three"),
     ):
         how = {"cwd": top, "env": {**os.environ, **env}}
         got = run("./install.sh", *words, **how)[0], tree(f"{work}/{at}") == tree(prefix)

@@ -113,9 +113,9 @@ def library_folder(cases, work, other, env):
     for it in (*headers, *files, "tscache.h.part"):
         write(f"{out}/{it}", "another one\n")
     build = ["scripts/build-c-library", "--unproved", out]
-    with open(f"{out}/libtscache.so.0") as mapped:
+    with open(f"{out}/libtscache.so.0", "rb") as mapped:
         status, first = run(*build, cwd=other, env=env)[0], tree(out)
-        cases.expect("what a running program has mapped stays", mapped.read(), "another one\n")
+        cases.expect("what a running program has mapped stays", mapped.read(), b"another one\n")
     cases.expect(
         "what a folder of the library has", (status, sorted(first)), (0, sorted(headers + files))
     )
