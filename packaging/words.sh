@@ -1,8 +1,9 @@
 # The words of the command `tscache`, for the checkout's launcher and for an installed command.
 #
-# Who reads this file in names `version` (as `tscache 0.1.0`), `formats` (the page on traces, logs
-# and faults) and a function `tell_build` that prints what `tscache version` tells. The launcher
-# also names `cost`, which is what a proof takes, and `statuses`, which are its own.
+# A script that takes them in sets `version` (as `tscache 0.1.0`), `formats` (the page on traces,
+# logs and faults), `cost` (what a proof takes, or nothing where there is none to make) and
+# `statuses` (the script's own, or nothing). Its function `tell_build` prints what the command
+# `version` tells.
 
 usage='usage: tscache replay FILE, run FILE or check FILE LOG'
 
@@ -20,7 +21,7 @@ $version: the timestamp cache of CockroachDB, on recorded traces
     replay FILE     makes the calls of a trace on one thread, and writes their log
     run FILE        gives each list of a trace a thread of its own, and writes their log
     check FILE LOG  says whether a log is right for a trace, or which line is not
-${cost+    prove           proves the program and builds it ($cost)
+${cost:+    prove           proves the program and builds it ($cost)
 }    version         tells version, commit and kit, and whether the program is proved
     help [COMMAND]  tells this, or explains a command
 
@@ -74,7 +75,7 @@ Exit statuses:
 
     $ends
     5  out of memory
-${statuses+$statuses
+${statuses:+$statuses
 }
 $formats says what traces, logs and faults are.
 HELP
@@ -122,7 +123,7 @@ answer_words() {
         case ${2-} in
         '') [ $# -eq 2 ] || answer tell_help ;;
         replay | run | check) answer explain "$2" ;;
-        prove) [ -z "${cost-}" ] || answer explain_proof ;;
+        prove) [ -z "$cost" ] || answer explain_proof ;;
         version | help) answer tell_help ;;
         esac
         wrong_words
@@ -132,7 +133,7 @@ answer_words() {
         answer tell_build
         ;;
     replay | run | check) ! asks_for_help "$@" || answer explain "$1" ;;
-    prove) [ -z "${cost-}" ] || ! asks_for_help "$@" || answer explain_proof ;;
+    prove) [ -z "$cost" ] || ! asks_for_help "$@" || answer explain_proof ;;
     esac
 }
 
