@@ -14,8 +14,9 @@ use crate::decode::{
     words_of_time,
 };
 use crate::marks::marks;
+use crate::places::{give_next, place_of};
 use crate::refusal::Refusal;
-use crate::store::{Slot, Store, give_next, place_of};
+use crate::store::{Slot, Store};
 use std::alloc::Global;
 use std::mem::replace;
 use tsc_cache::{Cache, CacheFault, Config, TimestampCache};
