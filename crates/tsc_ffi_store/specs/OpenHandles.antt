@@ -47,3 +47,7 @@ pub record Lays (slot : Slot) (handles : List ℕ) (slots : List Slot) (next : �
   pub handles_are : handles' ≡ handles ++ next ∷ []
   pub slots_are : slots' ≡ slots ++ slot ∷ []
   pub next_is : next' ≡ next + 1
+
+-- A list has room for one element less, at the most.
+abbrev pub IsRoomLess : ℕ → ℕ → ℕ → ℕ → Type 0
+IsRoomLess long room long' room' = room + long' ≤ room' + long + 1

@@ -1,8 +1,8 @@
 //! Where handles stand among those that are open, in their order.
 
-ghost use Rattle.std.specs.Prelude.{◌≡◌, ◌++◌, ◌∷◌, [], ◌<◌, ◌≤◌, ◌-◌, ◌+◌, ◌^◌};
+ghost use Rattle.std.specs.Prelude.{◌≡◌, ◌++◌, ◌∷◌, [], ◌<◌, ◌-◌, ◌+◌, ◌^◌};
 ghost use Rattle.std.specs.Vec.{vec_len, vec_capacity};
-ghost use Rattle.tsc_ffi_store.specs.OpenHandles.{Rises, IsPlaceOf};
+ghost use Rattle.tsc_ffi_store.specs.OpenHandles.{Rises, IsPlaceOf, IsRoomLess};
 
 /// The place of a handle among those that are open, in their order, or how many there are.
 pub(crate) fn place_of(handles: &[u64], handle: u64) -> usize
@@ -33,7 +33,8 @@ pub(crate) fn give_next(handles: &mut Vec<u64>, next: &mut u64) -> u64
     ensures given { result ≡ next.old }
     ensures laid { handles.new.items ≡ handles.old.items ++ next.old ∷ [] }
     ensures next { next.new ≡ next.old + 1 }
-    ensures room { vec_capacity handles.old ≤ vec_capacity handles.new }
+    ensures room { IsRoomLess (vec_len handles.old) (vec_capacity handles.old)
+        (vec_len handles.new) (vec_capacity handles.new) }
 {
     let handle = *next;
     let Ok(()) = handles.push(handle) else {

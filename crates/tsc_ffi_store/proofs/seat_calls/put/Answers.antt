@@ -1,6 +1,7 @@
 -- One seat more is laid, and in the end all are.
-use Rattle.std.proofs.Common.{◌≡◌, ◌∙◌, sym, ap, subst, refl, List, [], ◌∷◌, ◌++◌, map, append_assoc, append-nil, rules}
+use Rattle.std.proofs.Common.{◌≡◌, ◌∙◌, sym, ap, subst, refl, List, [], ◌∷◌, ◌++◌, map, append_assoc, append-nil, length, arith, rules}
 use Rattle.std.specs.Vec.Iter.{into_iter_items}
+use Rattle.std.proofs.lemmas.List.{nil_from_length}
 use Rattle.tsc_ffi_store.specs.declared.counts.CountedSeat.{CountedSeat}
 use Rattle.tsc_ffi_store.specs.declared.store.Slot.{Slot}
 use Rattle.tsc_ffi_store.specs.declared.store.Slot.TheVariants.{Shared, Seat}
@@ -29,9 +30,14 @@ loop-seat-preserved c =
           c.loop-seat.slots.items c.loop-seat.next c.lay-in-loop-seat.new.handles.items
           c.lay-in-loop-seat.new.slots.items c.lay-in-loop-seat.new.next) c.new.ensures
           c.lay-in-loop-seat.ensures.laid),
-      search rules,
-      search rules,
-      search rules,
+      omega (arith, ap length step, c.loop-seat.invariant.3, c.lay-in-loop-seat.ensures.room),
+      omega (arith, ap length step, c.loop-seat.invariant.4, c.lay-in-loop-seat.ensures.slots),
+      omega (
+          arith,
+          ap length step,
+          c.loop-seat.invariant.5,
+          c.lay-in-loop-seat.ensures.laid.next_is,
+      ),
     )
 
 pub returns-clause-named : goal.returns-clause-named
@@ -39,7 +45,9 @@ returns-clause-named c =
     let whole = named_by c.args.handles.now.items c.args.slots.now.items c.args.next.now in
     let now = named_by c.loop-seat.handles.items c.loop-seat.slots.items c.loop-seat.next in
     let its = into_iter_items c.into_iter-seat-iterator.result in
-    let none : into_iter_items c.loop-seat.seat-iterator ≡ [] = search rules in
+    let none : into_iter_items c.loop-seat.seat-iterator ≡ [] =
+    nil_from_length (into_iter_items c.loop-seat.seat-iterator)
+    (grind (arith, c.in-None.ensures.steps.0, c.loop-seat.seat-iterator.rest.ok)) in
     let first : its ≡ c.args.seats.items = search rules in
     sym (append-nil now) ∙ ap (λ l. now ++ map (λ s. Seat (unasked s)) l) (sym none) ∙
     c.loop-seat.invariant.2.named ∙
