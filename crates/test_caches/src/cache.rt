@@ -5,6 +5,7 @@ mod between;
 mod cache;
 mod growths;
 mod hand_over;
+mod memory;
 mod player;
 mod random;
 mod refused;

@@ -10,10 +10,11 @@ use std::alloc::Global;
 use std::marker::{Brand, PhantomData};
 use std::sync::Wait;
 use std::test::Fail;
-use test_support::{end_texts, ends};
+use test_support::{again, end_texts, ends};
+use timestamp_cache::{SeatSummary, summary_at};
 use tsc_cache::{Config, Mark};
 use tsc_shared::TryAddFault::Refused;
-use tsc_shared::{AddFault, Closed, Front, Gate, Receipt, Seat, SharedCache};
+use tsc_shared::{AddFault, Closed, Front, Gate, Receipt, Seat, SharedCache, Snapshot};
 use tsc_span::Span;
 use tsc_time::{NoMemory, Value};
 
@@ -189,6 +190,23 @@ impl<C: Of> TestCache<C> {
     pub fn figures(&self, guest: &mut TestSeat<C>) -> Reply {
         let read = self.cache.figures(&mut guest.seat);
         read.map_or(Reply::Gone, |it| counted(it.figures, it.front))
+    }
+
+    /// The cache as the seat sees it.
+    pub fn snapshot(&self, guest: &mut TestSeat<C>) -> Result<Snapshot, NoMemory> {
+        self.cache.snapshot(&mut guest.seat)
+    }
+
+    /// What the seat tells of a span in so many marks, once more where that is refused memory.
+    pub fn tell(
+        &self,
+        alloc: Global,
+        guest: &mut TestSeat<C>,
+        span: &Span,
+        most: usize,
+    ) -> Result<SeatSummary, Fail> {
+        let (cache, seat) = (&self.cache, &mut guest.seat);
+        Ok(again!(summary_at(alloc, cache, seat, span, most)))
     }
 
     pub fn look(&self, guest: &mut TestSeat<C>, entry: &Entry) -> Looks {

@@ -43,6 +43,8 @@ mod stopped;
 #[cfg(test)]
 mod stress;
 #[cfg(test)]
+mod summaries;
+#[cfg(test)]
 mod texts;
 #[cfg(test)]
 mod threads;

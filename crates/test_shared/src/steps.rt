@@ -19,6 +19,9 @@
 //! | `0 between [a,c) = 20¹ 3` | What a lookup answers by the bytes of the ends. |
 //! | `0 floor = 5 3` | What is answered of the floor. |
 //! | `0 figures = 2 1 5 165 5 3` | Pages, rotations, nodes, bytes, the floor and the front. |
+//! | `0 tell [a,z) 9 = 3` | A seat tells of a span in 9 marks, which a new cache takes over. |
+//! | `next a = 20¹ 3` | What that cache answers, and the length of what was told. |
+//! | `0 keep = 3`, `kept a = 20¹ 3` | A seat keeps a snapshot, and what that answers then. |
 //! | `0 hand_on = 1`, `1 learn = 1` | A front goes on, and the oldest of them is learnt. |
 //! | `0 see = 1`, `0 count = 1`, `0 number = 0` | What a seat has seen, its own Adds, its number. |
 //! | `meet = 2`, `leave` | The first two seats meet; the last one is dropped. |
@@ -42,7 +45,7 @@ use crate::entries::{Entry, owned};
 use crate::harness::{Ended, Of, SentSnapshot, TestCache, TestSeat, open, together};
 use crate::refused::refuse;
 use crate::replies::Reply::{Counted, Number, Place};
-use crate::replies::{By, Reply, counted, reply_of};
+use crate::replies::{By, Reply, counted, reply_of, seen};
 use crate::stress::are_alike;
 use crate::texts::reads_alike;
 use crate::threads::{Meanwhile, Meeting, meet};
@@ -56,8 +59,9 @@ use std::sync::Wait;
 use std::test::Fail;
 use std::thread::Threads;
 use test_support::{Words, again, at, bytes, span, words};
+use timestamp_cache::apply;
 use tsc_cache::{Cache, Config, ConfigFault, TimestampCache};
-use tsc_shared::{Closed, Seat, SharedCache};
+use tsc_shared::{Closed, Seat, SharedCache, Snapshot};
 use tsc_time::NoMemory;
 
 /// The first page, the largest one, and the least number of pages.
@@ -113,6 +117,9 @@ struct Stage<'a, C: Of, R> {
     meanwhile: Meanwhile<'a>,
     /// A cache that isn't shared, to which each Add was made too.
     alone: Option<Cache>,
+    /// The cache that took over what a seat told, and of how long a history that was.
+    next: Option<(Cache, u64)>,
+    kept: Option<Snapshot>,
 }
 
 /// Hands on the front that a seat was told last.
@@ -220,10 +227,48 @@ impl<C: Of + Send + Sync, R: Threads + Wait + Abort + Sync> Stage<'_, C, R> {
         Ok(reply)
     }
 
+    /// A seat tells of a span, and a new cache takes that over.
+    fn tell(&mut self, seat: usize, what: &str, most: usize) -> Result<Reply, Fail> {
+        let alloc = self.table.alloc;
+        let home = self.home.as_ref().ok_or("no cache")?;
+        let guest = self.guests.get_mut(seat).ok_or("no seat")?;
+        let (counts, span) = (guest.counts(), span(alloc, what)?);
+        let told = home.tell(alloc, guest, &span, most)?;
+        let mut next = plain(alloc)?;
+        apply(&mut next, &told.summary, at(50, 0))?;
+        self.next = Some((next, told.front));
+        Ok(guest.left_by(Number(told.front), counts))
+    }
+
+    /// A seat keeps the cache as it sees it.
+    fn keep(&mut self, seat: usize) -> Result<Reply, Fail> {
+        let home = self.home.as_ref().ok_or("no cache")?;
+        let guest = self.guests.get_mut(seat).ok_or("no seat")?;
+        let (counts, snapshot) = (guest.counts(), home.snapshot(guest)?);
+        let reply = guest.left_by(Number(snapshot.front), counts);
+        self.kept = Some(snapshot);
+        Ok(reply)
+    }
+
+    /// What the cache that took over answers.
+    fn ask_next(&self, what: &str) -> Result<Reply, Fail> {
+        let (next, front) = self.next.as_ref().ok_or("nothing was told")?;
+        Ok(seen(next.get_max(&span(self.table.alloc, what)?), *front))
+    }
+
+    /// What the snapshot answers.
+    fn ask_kept(&self, what: &str) -> Result<Reply, Fail> {
+        let kept = self.kept.as_ref().ok_or("no snapshot")?;
+        let answer = kept.cache.get_max(&span(self.table.alloc, what)?);
+        Ok(seen(answer, kept.front))
+    }
+
     /// What a seat does.
     fn play(&mut self, seat: usize, step: &Words) -> Result<Reply, Fail> {
         match *step {
             [_, "often", key, count, "", ..] => self.add_often(seat, key, count.parse()?),
+            [_, "tell", what, most, "", ..] => self.tell(seat, what, most.parse()?),
+            [_, "keep", "", ..] => self.keep(seat),
             [_, verb @ ("add" | "again"), entry, now, by, "", ..] => {
                 let entry = Entry::new(self.table.alloc, entry, now.parse()?)?;
                 if verb == "again" || self.table.way == Way::Twice {
@@ -299,6 +344,8 @@ impl<C: Of + Send + Sync, R: Threads + Wait + Abort + Sync> Stage<'_, C, R> {
         match *words {
             ["gated", "", ..] => Ok(Number(self.gate.told())),
             ["copy", what, "", ..] => self.copy(what),
+            ["next", what, "", ..] => self.ask_next(what),
+            ["kept", what, "", ..] => self.ask_kept(what),
             ["meet", "", ..] => self.meet_two(),
             ["leave", "", ..] => {
                 drop(self.guests.pop());
@@ -392,6 +439,8 @@ fn enter<C: Of + Send + Sync, R: Threads + Wait + Abort + Sync>(
             floor: Reply::Gone,
         },
         alone: None,
+        next: None,
+        kept: None,
     };
     for row in table.rows.iter().skip(1) {
         stage.take(row)?;

@@ -17,3 +17,4 @@ pub mod SummaryMarks
 pub mod SummaryFrame
 pub mod Rising
 pub mod Rows
+pub mod SeatReads

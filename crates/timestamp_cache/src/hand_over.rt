@@ -98,8 +98,9 @@ pub fn summary_at(
     ensures looked { HasLookedOn seat.old seat.new }
 {
     let snapshot = cache.snapshot(seat)?;
+    let told = summary(alloc, &snapshot.cache, span, most)?;
     Ok(SeatSummary {
-        summary: summary(alloc, &snapshot.cache, span, most)?,
+        summary: told,
         front: snapshot.front,
     })
 }

@@ -16,6 +16,7 @@
 //! | `stand 2 1 5` | There are 2 pages, which rotated once, and the floor is at 5.0. |
 //! | `version a 20¹ 3 2 5` | Of the version after 3 Adds, its 2 pages, floor and answers. |
 //! | `keys a|b`, `hold 2 66` | The end keys of all pages; that they are 2, with 66 bytes. |
+//! | `memory 1234` | The blocks of memory that hold the pages have so many bytes. |
 //! | `share a 20¹` | The cache after an Add that is not kept is kept as a version. |
 //! | `swap` | The last version goes on, and the cache is kept in its place. |
 //! | `write a 20¹ 20.1` | The owner may write the spans from 20.0 on, at 20.1 at the earliest. |
@@ -245,6 +246,7 @@ impl Player {
                 let held = (all.nodes, all.bytes) == (nodes.parse()?, bytes.parse()?);
                 Ok(held && stand == stand_of(cache))
             }
+            ["memory", bytes] => Ok(cache.memory() == bytes.parse()?),
             ["keys", list] => {
                 let (all, mut told) = (
                     keys(self.alloc, list)?,
@@ -315,7 +317,7 @@ impl Player {
                     added => Ok(added?.kept),
                 }
             }
-            ["stand" | "hold" | "keys" | "next", ..] => self.shows(words, &[]),
+            ["stand" | "hold" | "memory" | "keys" | "next", ..] => self.shows(words, &[]),
             [verb, list, given, ..] => {
                 push(self.alloc, kept, list, value(given)?)?;
                 if verb == "with" {
