@@ -306,7 +306,8 @@ pub fn add_at(
     ensures kept { OnErr result ((place.new ≡ place.old) × (out.new ≡ out.old)) }
 {
     let did = add_to_seat(alloc, &mut held.seat, args, tries, place, out);
-    count(&mut held.counts, did, out)
+    count(&mut held.counts, &did, out);
+    did
 }
 
 /// Adds a span at a seat, uncounted.
@@ -363,7 +364,8 @@ pub fn add_all_at(
     ensures kept { OnErr result ((place.new ≡ place.old) × (out.new ≡ out.old)) }
 {
     let did = add_all_to_seat(alloc, &mut held.seat, args, tries, place, out);
-    count(&mut held.counts, did, out)
+    count(&mut held.counts, &did, out);
+    did
 }
 
 /// Adds several marks at a seat, uncounted.
