@@ -61,7 +61,7 @@ pub extern "C" fn tsc_seat_summary(
     out: &mut [u8],
     len: &mut usize,
 ) -> u32
-    ensures answers { PutsOrKeeps (DoesToSeat
+    ensures { PutsOrKeeps (DoesToSeat
         (CountsNothing (AnswersSeatSummary (summary_asked (span_asked from.now to.now ends) most)
         seen.new)) (slots_of store.old.owned) (slots_of store.new.owned) handle)
         (seen.new ≡ seen.old) result out.old out.new len.old len.new }
