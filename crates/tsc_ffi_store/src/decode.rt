@@ -228,7 +228,8 @@ fn written_range<'a>(from: &'a [u8], to: &'a [u8], ends: Ends) -> Result<SpanRef
 {
     match from.cmp(to) {
         Ordering::Greater => Err(Refusal::Inverted),
-        Ordering::Less | Ordering::Equal => Ok(SpanRef::for_lookup(from, to, ends)),
+        Ordering::Less => Ok(SpanRef::for_lookup(from, to, ends)),
+        Ordering::Equal => Ok(SpanRef::for_lookup(from, to, ends)),
     }
 }
 
