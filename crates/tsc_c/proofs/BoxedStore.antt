@@ -35,10 +35,14 @@ use Rattle.tsc_c.proofs.Destruct++none.drop.Symbol as stays_there
 abbrev pub heap_layout : Ty
 heap_layout = ty_struct [] (tcons (ty_struct [] (tcons ty_unit tnil)) tnil)
 
+abbrev list_layout : Ty
+list_layout =
+    ty_struct [] (tcons ty_ptr (tcons (ty_int w64) (tcons (ty_int w64) (tcons heap_layout tnil))))
+
+-- the handles that are open, what they name, and the next handle
 abbrev pub store_layout : Ty
-store_layout = ty_struct [] (tcons
-    (ty_struct [] (tcons ty_ptr (tcons (ty_int w64) (tcons (ty_int w64) (tcons heap_layout tnil)))))
-    tnil)
+store_layout =
+    ty_struct [] (tcons list_layout (tcons list_layout (tcons (ty_int w64) tnil)))
 
 abbrev pub Passed : RattleType
 Passed = arg store_layout no Kept

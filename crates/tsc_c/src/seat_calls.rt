@@ -123,8 +123,9 @@ pub extern "C" fn tsc_seat_add_all(
 ) -> u32
     ensures answers { Tells
         (DoesToSeat
-        (CountsSeatAdd (AnswersSeatAddAll (batch_asked keys.now marks.now moment.now) tries place.new
-        (added_of out.new)) out.new.evicted) (slots_of store.old.owned) (slots_of store.new.owned) handle)
+        (CountsSeatAdd (AnswersSeatAddAll (batch_asked keys.now marks.now moment.now) tries
+        place.new (added_of out.new)) out.new.evicted) (slots_of store.old.owned)
+        (slots_of store.new.owned) handle)
         ((place.new ≡ place.old) × (out.new ≡ out.old)) result }
 {
     let args = BatchArgs {
@@ -182,7 +183,8 @@ pub extern "C" fn tsc_seat_low_water(
 ) -> u32
     ensures answers { Tells
         (DoesToSeat (CountsNothing (AnswersSeatLowWater seen.new (time_of out.new)))
-        (slots_of store.old.owned) (slots_of store.new.owned) handle) ((seen.new ≡ seen.old) × (out.new ≡ out.old)) result }
+        (slots_of store.old.owned) (slots_of store.new.owned) handle)
+        ((seen.new ≡ seen.old) × (out.new ≡ out.old)) result }
 {
     match store.store_mut() {
         Some(held) => match held.seat_mut(handle) {

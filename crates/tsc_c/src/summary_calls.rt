@@ -3,10 +3,10 @@
 
 ghost use Rattle.std.specs.Prelude.{◌≡◌};
 ghost use Rattle.tsc_ffi_store.specs.Codes.{Tells};
-ghost use Rattle.tsc_ffi_store.specs.Counts.{CountsAdd};
+ghost use Rattle.tsc_ffi_store.specs.Counts.{CountsAdd, CountsNothing};
 ghost use Rattle.tsc_ffi_store.specs.Decode.{span_asked, added_of};
-ghost use Rattle.tsc_ffi_store.specs.Store.{slots_of, AnswersOfCache, DoesToCache};
-ghost use Rattle.tsc_ffi_store.specs.Summaries.{summary_asked, AnswersSummary, PutsOr};
+ghost use Rattle.tsc_ffi_store.specs.Store.{slots_of, AnswersOfCache, DoesToCache, DoesToSeat};
+ghost use Rattle.tsc_ffi_store.specs.Summaries.{summary_asked, AnswersSummary, AnswersSeatSummary, PutsOr, PutsOrKeeps};
 ghost use Rattle.tsc_ffi_store.specs.Summaries.{apply_asked, AnswersApply};
 
 use crate::store_ptr::StorePtr;
@@ -60,7 +60,12 @@ pub extern "C" fn tsc_seat_summary(
     seen: &mut u64,
     out: &mut [u8],
     len: &mut usize,
-) -> u32 {
+) -> u32
+    ensures { PutsOrKeeps (DoesToSeat
+        (CountsNothing (AnswersSeatSummary (summary_asked (span_asked from.now to.now ends) most)
+        seen.new)) (slots_of store.old.owned) (slots_of store.new.owned) handle)
+        (seen.new ≡ seen.old) result out.old out.new len.old len.new }
+{
     let span = SpanArgs { from, to, ends };
     let args = SummaryArgs { span, most };
     match store.store_mut() {

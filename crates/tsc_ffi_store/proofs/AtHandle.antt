@@ -1,18 +1,13 @@
 -- What a call makes of the slot at a handle is what it makes of the store there, and nothing else
 -- changes.
 use Rattle.std.proofs.Common.{◌≡◌, refl, sym, ap, ◌∙◌, subst, ℕ, zero, suc, ◌<◌, ◌≤◌, List, [], ◌∷◌, length, get_or, set, rules}
-use Rattle.std.proofs.lemmas.List.{length-set, set-get_or, get_or-set_same}
-use Rattle.std.proofs.lemmas.Option.{slice_get-get_or, slice_get_read, slice_get_past}
-use Rattle.std.specs.Prelude.{◌≢◌, Ok, Err, Result, OnErr, OnSome, Option, Some, None, slice_get, slice_set}
-use Rattle.tsc_cache.specs.CacheView.{CacheView}
+use Rattle.std.proofs.lemmas.List.{length-set, get_or-set_same}
+use Rattle.std.proofs.lemmas.Option.{slice_get-get_or, slice_get_within}
+use Rattle.std.specs.Prelude.{◌≢◌, OnSome, Option, Some, None, slice_get, slice_set}
+use Rattle.tsc_ffi_store.specs.declared.counts.CountedCache.{CountedCache}
 use Rattle.tsc_ffi_store.specs.declared.store.Slot.{Slot}
 use Rattle.tsc_ffi_store.specs.declared.store.Slot.TheVariants.{Own}
-use Rattle.tsc_ffi_store.specs.declared.refusal.Refusal.{Refusal}
-use Rattle.tsc_ffi_store.specs.Store.{cache_in, cache_at, seat_in, seat_at, shared_in, shared_at, Keeps}
-
-pub there : (items : List Slot) (n : ℕ) (e : Slot) → n < length items → e ≡ get_or items n e →
-    slice_get items n ≡ Some e
-there items n e lt at = slice_get_read items (length items) n e refl lt at
+use Rattle.tsc_ffi_store.specs.Store.{cache_in, cache_at, Keeps}
 
 comes : (items : List Slot) (n : ℕ) (after : Slot) → n < length items →
     slice_get (slice_set items n after) n ≡ Some after
@@ -31,12 +26,12 @@ stays (x ∷ xs) (suc n) (suc other) after ne = stays xs n other after (λ e. ne
 
 -- what holds of the slot before and after holds of what is at the handle
 pub at_handle : (Q : Option Slot → Option Slot → Type 0) (items : List Slot) (n : ℕ)
-    (e after : Slot) → n < length items → e ≡ get_or items n e
+    (e after : Slot) → slice_get items n ≡ Some e
     → Q (Some e) (Some after) → Q (slice_get items n) (slice_get (slice_set items n after) n)
-at_handle Q items n e after lt at holds =
-    subst (λ (x : Option Slot). Q x (slice_get (slice_set items n after) n))
-    (sym (there items n e lt at))
-    (subst (λ (x : Option Slot). Q (Some e) x) (sym (comes items n after lt)) holds)
+at_handle Q items n e after there holds =
+    subst (λ (x : Option Slot). Q x (slice_get (slice_set items n after) n)) (sym there)
+    (subst (λ (x : Option Slot). Q (Some e) x)
+    (sym (comes items n after (slice_get_within items n e there))) holds)
 
 pub keeps_others : (items : List Slot) (n : ℕ) (after : Slot) →
     Keeps items (slice_set items n after) n
@@ -53,32 +48,17 @@ keeps_all items n = record {
   all_others = λ other ne. refl;
 }
 
-pub set_again : (items : List Slot) (n : ℕ) (e : Slot) → e ≡ get_or items n e →
-    slice_set items n e ≡ items
-set_again items n e at = ap (set items n) at ∙ set-get_or items n e
-
-pub unchanged_there : {A : Type 0} (items : List Slot) (n : ℕ) (e after : Slot)
-    (did : Result A Refusal) → e ≡ get_or items n e
-    → OnErr did (after ≡ e) → OnErr did (slice_set items n after ≡ items)
-unchanged_there items n e after (Ok a) at same = tt
-unchanged_there items n e after (Err why) at same = ap (set items n) same ∙ set_again items n e at
-
-pub on_err_both : {A : Type 0} (P Q : Type 0) (did : Result A Refusal) → OnErr did P →
-    OnErr did Q → OnErr did (P × Q)
-on_err_both P Q (Ok a) p q = tt
-on_err_both P Q (Err why) p q = (p, q)
-
 -- what is laid where a cache was is there then
-lies_there : (items : List Slot) (n : ℕ) (cache : CacheView) (after : Slot) →
+lies_there : (items : List Slot) (n : ℕ) (cache : CountedCache) (after : Slot) →
     cache_at items n ≡ Some cache → slice_get (slice_set items n after) n ≡ Some after
 lies_there [] n cache after held = absurd (no_cache cache held)
   where
-    no_cache : (cache : CacheView) → None ≡ Some cache → ⊥
+    no_cache : (cache : CountedCache) → None ≡ Some cache → ⊥
     no_cache cache e = search rules
 lies_there (x ∷ xs) zero cache after held = refl
 lies_there (x ∷ xs) (suc n) cache after held = lies_there xs n cache after held
 
-pub cache_left : (items items' : List Slot) (n : ℕ) (cache after : CacheView) →
+pub cache_left : (items items' : List Slot) (n : ℕ) (cache after : CountedCache) →
     cache_at items n ≡ Some cache → items' ≡ slice_set items n (Own after) →
     cache_at items' n ≡ Some after
 cache_left items items' n cache after held is = ap (λ (l : List Slot). cache_at l n) is ∙
@@ -90,13 +70,3 @@ if_some (Some x) p = p
 
 pub when_some : {T : Type 0} {P : Type 0} (o : Option T) (x : T) → o ≡ Some x → OnSome o P → P
 when_some {T} {P} o x is p = subst (λ (o' : Option T). OnSome o' P) is p
-
--- where no slot is, nothing is held
-pub no_cache_there : (items : List Slot) (n : ℕ) → length items ≤ n → cache_at items n ≡ None
-no_cache_there items n le = ap cache_in (slice_get_past items n le)
-
-pub no_seat_there : (items : List Slot) (n : ℕ) → length items ≤ n → seat_at items n ≡ None
-no_seat_there items n le = ap seat_in (slice_get_past items n le)
-
-pub no_shared_there : (items : List Slot) (n : ℕ) → length items ≤ n → shared_at items n ≡ None
-no_shared_there items n le = ap shared_in (slice_get_past items n le)

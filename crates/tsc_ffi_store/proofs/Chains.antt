@@ -11,7 +11,8 @@ use Rattle.tsc_cache.proofs.Histories.{state_of-push}
 use Rattle.tsc_ffi_store.specs.declared.store.Slot.{Slot}
 use Rattle.tsc_ffi_store.specs.CacheCalls.{Opens}
 use Rattle.tsc_ffi_store.specs.Store.{cache_at}
-use Rattle.tsc_ffi_store.specs.Chain.{AddsUp, nothing_yet, one_more, several_more, left, HoldsHistory, AnswersAllAdded, next_entry}
+use Rattle.tsc_ffi_store.specs.declared.counts.CountedCache.{CountedCache}
+use Rattle.tsc_ffi_store.specs.Chain.{AddsUp, nothing_yet, one_more, several_more, left, bare, HoldsHistory, AnswersAllAdded, next_entry}
 use Rattle.tsc_ffi_store.proofs.AtHandle.{cache_left}
 
 or_else : {X : Type 0} → X → Option X → X
@@ -23,50 +24,50 @@ unfolding or_else
 the_same {X} {a} {b} e f = ap (or_else a) (sym e ∙ f)
 
 -- what is held once more stands for the state that is a step further
-pushed : (old new : Option CacheView) (cache after : CacheView) (settings : Settings) (h : History)
-    (marks : List Mark) (now : Time)
+pushed : (old new : Option CountedCache) (cache after : CountedCache) (settings : Settings)
+    (h : History) (marks : List Mark) (now : Time)
     → HoldsHistory old settings h → old ≡ Some cache → new ≡ Some after
-    → (RepresentsState cache settings (state_of settings h) →
-    RepresentsState after settings (step_all settings (state_of settings h) marks now).state)
+    → (RepresentsState cache.cache settings (state_of settings h) →
+    RepresentsState after.cache settings (step_all settings (state_of settings h) marks now).state)
     → HoldsHistory new settings (h ++ next_entry h marks now ∷ [])
 pushed old new cache after settings h marks now k was is stands =
     record {
-      cache = after;
-      holds = is;
-      stands = subst (RepresentsState after settings)
+      cache = after.cache;
+      holds = ap bare is;
+      stands = subst (RepresentsState after.cache settings)
           (sym (state_of-push settings h (next_entry h marks now)))
           (stands (subst (λ (c : CacheView). RepresentsState c settings (state_of settings h))
-          (the_same k.holds was) k.stands));
+          (the_same k.holds (ap bare was)) k.stands));
     }
 
 holds : (handle : ℕ) (opened slots : List Slot) (settings : Settings) (h : History) →
-    AddsUp handle opened slots h → (before : Option CacheView) →
+    AddsUp handle opened slots h → (before : Option CountedCache) →
     Opens before (cache_at opened handle) settings
     → HoldsHistory (cache_at slots handle) settings h
 holds handle opened slots settings h (nothing_yet same) before o =
-    record { cache = o.cache; holds = o.holds; stands = o.stands }
+    record { cache = o.cache; holds = ap bare o.holds; stands = o.stands }
 holds handle opened slots settings h (one_more first old new g asked told up w) before o =
     pushed (cache_at old handle) (cache_at new handle) w.cache w.after settings g
-    (record { span = w.works.added.span; value = asked.value } ∷ []) asked.moment
+    (record { span = w.works.works.added.span; value = asked.value } ∷ []) asked.moment
     (holds handle first old settings g up before o) w.holds
     (cache_left old new handle w.cache w.after w.holds w.leaves)
-    (w.works.added.stands settings (state_of settings g))
+    (w.works.works.added.stands settings (state_of settings g))
 holds handle opened slots settings h (several_more first old new g asked told up w) before o =
     pushed (cache_at old handle) (cache_at new handle) w.cache w.after settings g
-    w.works.added.marks asked.moment (holds handle first old settings g up before o) w.holds
+    w.works.works.added.marks asked.moment (holds handle first old settings g up before o) w.holds
     (cache_left old new handle w.cache w.after w.holds w.leaves)
-    (w.works.added.stands settings (state_of settings g))
+    (w.works.works.added.stands settings (state_of settings g))
 holds handle opened slots settings h (left first old new g up e) before o =
-    subst (λ (c : Option CacheView). HoldsHistory c settings g) (sym e)
-    (holds handle first old settings g up before o)
+    (let k = holds handle first old settings g up before o in
+    record { cache = k.cache; holds = e ∙ k.holds; stands = k.stands })
 
 pub answers_all_added : AnswersAllAdded
-answers_all_added handle before opened slots settings h asked v o up l =
+answers_all_added handle before opened slots after settings h asked v o up l =
     let k = holds handle opened slots settings h up (cache_at before handle) o in let looked =
-    l.reads.looked in (
+    l.works.reads.looked in (
       looked.span,
       looked.asked_for,
       looked.stands settings (state_of settings h)
           (subst (λ (c : CacheView). RepresentsState c settings (state_of settings h))
-          (the_same k.holds l.holds) k.stands),
+          (the_same k.holds (ap bare l.holds)) k.stands),
     )

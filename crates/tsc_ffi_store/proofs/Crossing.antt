@@ -1,14 +1,17 @@
--- A seat handle and an owner can go to another thread, and what they share can be used from
--- several.
+-- What a handle names can go to another thread, and what seats share can be used from several.
 use denote.Param.Send.{IsSend, IsSync, sendable}
 use denote.Param.SendFields.{declared_send, declared_sync, as_row_send, as_row_sync}
 use Rattle.std.proofs.Crossing.{crosses}
 use Rattle.atomic_table.proofs.Sent.{seat_keyless}
+use Rattle.tsc_cache.proofs.Crossing.{cache_sends}
 use Rattle.tsc_left_right.proofs.Crossing.{table_sends, table_syncs}
 use Rattle.tsc_shared.proofs.Crossing.{seat_sends, shared_cache_sends, shared_cache_syncs}
 use Rattle.tsc_ffi_store.specs.contracts.seats.owner.SharedHandle.{the_row as shared}
 use Rattle.tsc_ffi_store.specs.contracts.seats.owner.Owner.{the_row as owner}
 use Rattle.tsc_ffi_store.specs.contracts.seats.handle.SeatHandle.{the_row as handle}
+use Rattle.tsc_ffi_store.specs.contracts.counts.Counts.{the_row as counts}
+use Rattle.tsc_ffi_store.specs.contracts.counts.CountedCache.{the_row as counted_cache}
+use Rattle.tsc_ffi_store.specs.contracts.counts.CountedSeat.{the_row as counted_seat}
 
 shared_sends : IsSend shared
 shared_sends = search (
@@ -47,3 +50,26 @@ owner_sends = search (
 pub handle_sends : IsSend handle
 handle_sends = search (sendable, shared_sends, shared_syncs, seat_keyless, seat_sends, crosses)
     depth 20
+
+counts_send : IsSend counts
+counts_send = search (sendable, declared_send, as_row_send, crosses) depth 20
+
+pub counted_cache_sends : IsSend counted_cache
+counted_cache_sends = search (
+  sendable,
+  declared_send,
+  as_row_send,
+  cache_sends,
+  counts_send,
+  crosses,
+) depth 20
+
+pub counted_seat_sends : IsSend counted_seat
+counted_seat_sends = search (
+  sendable,
+  declared_send,
+  as_row_send,
+  handle_sends,
+  counts_send,
+  crosses,
+) depth 20

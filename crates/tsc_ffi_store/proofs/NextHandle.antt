@@ -7,6 +7,7 @@ use Rattle.tsc_cache.specs.State.{opening}
 use Rattle.tsc_ffi_store.specs.declared.store.Slot.{Slot}
 use Rattle.tsc_ffi_store.specs.declared.store.Slot.TheVariants.{Own}
 use Rattle.tsc_ffi_store.specs.CacheCalls.{Opens}
+use Rattle.tsc_ffi_store.specs.Counts.{no_counts}
 use Rattle.tsc_ffi_store.specs.Store.{cache_in, cache_at, GivesNext}
 
 none_yet : (items : List Slot) → slice_get items (length items) ≡ None
@@ -25,13 +26,13 @@ as_before (x ∷ items) e zero ne = refl
 as_before (x ∷ items) e (suc other) ne = as_before items e other (λ same. ne (ap suc same))
 
 pub opens_next : (items more : List Slot) (n : ℕ) (cache : CacheView) (settings : Settings) →
-    n ≡ length items → more ≡ items ++ Own cache ∷ [] →
+    n ≡ length items → more ≡ items ++ Own (record { cache = cache; counts = no_counts }) ∷ [] →
     RepresentsState cache settings (opening settings)
     → Opens (cache_at items n) (cache_at more n) settings
 opens_next items more n cache settings handle laid stands = rw (handle, laid) record {
   cache = cache;
   none = ap cache_in (none_yet items);
-  holds = ap cache_in (there_then items (Own cache));
+  holds = ap cache_in (there_then items (Own (record { cache = cache; counts = no_counts })));
   stands = stands;
 }
 

@@ -39,7 +39,7 @@ value_of words = record {
 abbrev pub added_of : TscAdded → Added
 added_of words = record { kept = words.kept; rotated = words.rotated; evicted = words.evicted }
 
--- the words that tell figures, all but the floor, with how much memory they take, and what was asked
+-- the words that tell figures, all but the floor, with the memory that they take and what was asked
 abbrev pub figures_told : Figures → ℕ → Counts → TscFigures
 figures_told figures memory counts = record {
   pages = figures.pages;

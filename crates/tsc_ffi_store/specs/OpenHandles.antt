@@ -1,6 +1,6 @@
 -- What each handle names that was given so far, by the handles that are open, in their order, and
 -- by what these name. (For the model of a store, and private contracts.)
-use Rattle.std.specs.Prelude.{◌≡◌, ◌≢◌, ◌<◌, ◌≤◌, ◌⊎◌, ◌==◌, ◌++◌, ◌∷◌, ℕ, zero, suc, List, [], length, slice_index_or, if◌then◌else◌}
+use Rattle.std.specs.Prelude.{◌≡◌, ◌≢◌, ◌+◌, ◌<◌, ◌≤◌, ◌⊎◌, ◌==◌, ◌++◌, ◌∷◌, ℕ, zero, suc, List, [], length, slice_index_or, if◌then◌else◌}
 use Rattle.std.specs.List.{All, AllPairs}
 use Rattle.tsc_ffi_store.specs.declared.store.Slot.{Slot}
 use Rattle.tsc_ffi_store.specs.declared.store.Slot.TheVariants.{Closed}
@@ -40,3 +40,14 @@ pub record IsNotOpen (handles : List ℕ) (handle place : ℕ) : Type 0 where
 -- where a handle stands, if it does
 abbrev pub IsPlaceOf : List ℕ → ℕ → ℕ → Type 0
 IsPlaceOf handles handle place = StandsThere handles handle place ⊎ IsNotOpen handles handle place
+
+-- A slot is laid behind all that there are, at the next handle.
+pub record Lays (slot : Slot) (handles : List ℕ) (slots : List Slot) (next : ℕ)
+    (handles' : List ℕ) (slots' : List Slot) (next' : ℕ) : Type 0 where
+  pub handles_are : handles' ≡ handles ++ next ∷ []
+  pub slots_are : slots' ≡ slots ++ slot ∷ []
+  pub next_is : next' ≡ next + 1
+
+-- A list has room for one element less, at the most.
+abbrev pub IsRoomLess : ℕ → ℕ → ℕ → ℕ → Type 0
+IsRoomLess long room long' room' = room + long' ≤ room' + long + 1

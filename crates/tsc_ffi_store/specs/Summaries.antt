@@ -100,6 +100,14 @@ pub record PutsOr (Answers : Result (List ℕ) Refusal → Type 0) (code : ℕ) 
   pub answers : Answers did
   pub put : PutsBytes did code old new len len'
 
+-- The same of a call that tells something else besides, which is kept where no bytes are answered.
+pub record PutsOrKeeps (Answers : Result (List ℕ) Refusal → Type 0) (Kept : Type 0) (code : ℕ)
+    (old new : List ℕ) (len len' : ℕ) : Type 0 where
+  pub did : Result (List ℕ) Refusal
+  pub answers : Answers did
+  pub put : PutsBytes did code old new len len'
+  pub kept : OnErr did Kept
+
 -- Bytes are read as a summary, and what it tells is added to a cache: all of it, as one Add.
 pub record AppliesIn (cache after : CacheView) (asked : AskedApply) (added : Added) : Type 0 where
   pub told : Summary

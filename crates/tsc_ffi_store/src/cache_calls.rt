@@ -14,8 +14,9 @@ use crate::decode::{
     words_of_time,
 };
 use crate::marks::marks;
+use crate::places::{give_next, place_of};
 use crate::refusal::Refusal;
-use crate::store::{Slot, Store, give_next, place_of};
+use crate::store::{Slot, Store};
 use std::alloc::Global;
 use std::mem::replace;
 use tsc_cache::{Cache, CacheFault, Config, TimestampCache};
@@ -134,23 +135,12 @@ pub fn figures_in(held: &CountedCache, out: &mut TscFigures)
 }
 
 /// Counts an Add that was accepted, with the pages that it dropped, or that was refused.
-pub(crate) fn count(
-    counts: &mut Counts,
-    did: Result<(), Refusal>,
-    added: &TscAdded,
-) -> Result<(), Refusal>
-    ensures same { result ≡ did }
-    ensures counted { counts.new ≡ add_counted counts.old did added.now.evicted }
+pub(crate) fn count(counts: &mut Counts, did: &Result<(), Refusal>, added: &TscAdded)
+    ensures { counts.new ≡ add_counted counts.old did.now added.now.evicted }
 {
     match did {
-        Ok(()) => {
-            counts.add(added.evicted);
-            Ok(())
-        }
-        Err(why) => {
-            counts.refuse();
-            Err(why)
-        }
+        Ok(()) => counts.add(added.evicted),
+        Err(_) => counts.refuse(),
     }
 }
 
@@ -166,7 +156,8 @@ pub fn add_in(
     ensures kept { OnErr result (out.new ≡ out.old) }
 {
     let did = add_to(alloc, &mut held.cache, args, out);
-    count(&mut held.counts, did, out)
+    count(&mut held.counts, &did, out);
+    did
 }
 
 /// Adds a span with its value, uncounted.
@@ -233,7 +224,8 @@ pub fn add_all_in(
     ensures kept { OnErr result (out.new ≡ out.old) }
 {
     let did = add_all_to(alloc, &mut held.cache, args, out);
-    count(&mut held.counts, did, out)
+    count(&mut held.counts, &did, out);
+    did
 }
 
 /// Adds several marks, all of them or none, uncounted.

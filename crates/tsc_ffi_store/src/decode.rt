@@ -1,8 +1,9 @@
 //! What the arguments of a call ask for: its times, its owner, its span and its configuration.
 
-ghost use Rattle.std.specs.Prelude.{◌≡◌, IfOk, IfErr, Ok as Made, Some};
-ghost use Rattle.tsc_span.specs.Span.{range};
-ghost use Rattle.tsc_ffi_store.specs.Decode.{time_of, value_of, added_of, figures_told, form_of, asked_span, add_span, lookup_span, asked_config, settings_asked, RefusesTime, RefusesEnds, RefusesKey, RefusesRange, RefusesAddSpan, RefusesSettings, RefusesConfig};
+ghost use Rattle.std.specs.Prelude.{◌≡◌, IfOk, IfErr, Ok as Made, Some, true};
+ghost use Rattle.tsc_span.specs.Span.{range, is_inverted};
+ghost use Rattle.tsc_ffi_store.specs.Decode.{time_of, value_of, added_of, figures_told, form_of, asked_span, add_span, lookup_span, asked_config, settings_asked, RefusesTime, RefusesEnds, RefusesKey, RefusesRange, RefusesAddSpan, RefusesSettings, RefusesConfig, RefusesWrittenSpan};
+ghost use Rattle.tsc_ffi_store.specs.declared.refusal.Refusal.TheVariants.{Inverted};
 
 use crate::counts::Counts;
 use crate::ctypes::{ConfigArgs, SpanArgs, TscAdded, TscFigures, TscTime, TscValue};
@@ -227,7 +228,8 @@ fn written_range<'a>(from: &'a [u8], to: &'a [u8], ends: Ends) -> Result<SpanRef
 {
     match from.cmp(to) {
         Ordering::Greater => Err(Refusal::Inverted),
-        Ordering::Less | Ordering::Equal => Ok(SpanRef::for_lookup(from, to, ends)),
+        Ordering::Less => Ok(SpanRef::for_lookup(from, to, ends)),
+        Ordering::Equal => Ok(SpanRef::for_lookup(from, to, ends)),
     }
 }
 

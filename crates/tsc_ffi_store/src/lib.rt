@@ -12,6 +12,7 @@ mod ctypes;
 mod decode;
 pub mod laws;
 mod marks;
+mod places;
 mod refusal;
 mod seat_calls;
 mod seats;

@@ -35,8 +35,8 @@ pub enum Refusal {
     StillOut = 13,
     /// Others were in the way at each try.
     Busy = 14,
-    /// The history of the shared cache has as many Adds as it may have, or a store has given as many
-    /// handles as there are.
+    /// The history of the shared cache has as many Adds as it may have, or a store has given as
+    /// many handles as there are.
     Full = 15,
     /// A read of somebody else stands at the last time, so a write is clear at none.
     NoTime = 18,

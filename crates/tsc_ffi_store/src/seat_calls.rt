@@ -1,12 +1,14 @@
 //! The requests for caches that threads share, and for their seats.
 
-ghost use Rattle.std.specs.Prelude.{◌≡◌, ◌⊎◌, ◌++◌, ◌∷◌, ◌+◌, ◌<◌, ◌≤◌, IfOk, IfErr, OnErr, None, map, length};
+ghost use Rattle.std.specs.Prelude.{◌≡◌, ◌⊎◌, ◌++◌, ◌∷◌, ◌+◌, ◌-◌, ◌^◌, ◌<◌, ◌≤◌, IfOk, IfErr, OnErr, None, map, length};
 ghost use Rattle.std.specs.Vec.{vec_len, vec_capacity};
 ghost use Rattle.tsc_shared.specs.Seats.{is_seat_count};
-ghost use Rattle.tsc_shared.specs.Answers.{ReadsFloor};
+ghost use Rattle.tsc_shared.specs.Answers.{ReadsFloor, ReadsFigures};
 ghost use Rattle.tsc_ffi_store.specs.Decode.{time_of, value_of, added_of, asked_span, asked_add, asked_batch};
-ghost use Rattle.tsc_ffi_store.specs.Store.{seat_of, seat_at, shared_of, LetsGo, AnswersClose};
-ghost use Rattle.tsc_ffi_store.specs.SeatCalls.{OpensShared, RefusesSeats, RefusesRoom, AnswersSeatLookup, CountsAt, AnswersSeatAdd, AnswersSeatAddAll, AnswersMove, IsCodeOf, EndsShared, AnswersCloseShared};
+ghost use Rattle.tsc_ffi_store.specs.Store.{seat_of, seat_at, shared_of, LetsGo, AnswersClose, RefusesHandles};
+ghost use Rattle.tsc_ffi_store.specs.SeatCalls.{unasked, OpensShared, RefusesSeats, RefusesRoom, AnswersSeatLookup, TellsFiguresAt, AnswersSeatAdd, AnswersSeatAddAll, AnswersTriedAdd, AnswersTriedAddAll, AnswersMove, IsCodeOf, EndsShared, AnswersCloseShared};
+ghost use Rattle.tsc_ffi_store.specs.Counts.{CountsSeatLookup, CountsSeatAdd};
+ghost use Rattle.tsc_ffi_store.specs.OpenHandles.{AreOpen, Lays, named_by, IsRoomLess};
 ghost use Rattle.tsc_ffi_store.specs.declared.store.Slot.TheVariants as kinds;
 
 use crate::cache_calls::count;
@@ -17,9 +19,10 @@ use crate::decode::{
     words_of_time,
 };
 use crate::marks::marks;
+use crate::places::{give_next, place_of};
 use crate::refusal::Refusal;
 use crate::seats::{Owner, SeatHandle};
-use crate::store::{Slot, Store, give_next, place_of};
+use crate::store::{Slot, Store};
 use std::alloc::Global;
 use std::mem::replace;
 use tsc_cache::Config;
@@ -202,6 +205,14 @@ fn put(
     owner: Owner,
     seats: Vec<SeatHandle>,
 )
+    requires laid { AreOpen handles.old.items slots.old.items next.old }
+    requires room { vec_len handles.old + 1 + length seats.items ≤ vec_capacity handles.old }
+    requires slots { vec_len slots.old + 1 + length seats.items ≤ vec_capacity slots.old }
+    requires left { next.old + 1 + length seats.items ≤ 2 ^ 64 - 1 }
+    ensures laid { AreOpen handles.new.items slots.new.items next.new }
+    ensures named { named_by handles.new.items slots.new.items next.new ≡
+        named_by handles.old.items slots.old.items next.old ++ kinds.Shared owner ∷
+        map (λ s. kinds.Seat (unasked s)) seats.items }
 {
     lay(handles, slots, next, Slot::Shared(owner));
     for seat in seats {
@@ -210,7 +221,17 @@ fn put(
 }
 
 /// Lays what the next handle names behind what there is, for which there is room.
-fn lay(handles: &mut Vec<u64>, slots: &mut Vec<Slot>, next: &mut u64, slot: Slot) {
+fn lay(handles: &mut Vec<u64>, slots: &mut Vec<Slot>, next: &mut u64, slot: Slot)
+    requires room { vec_len handles.old < vec_capacity handles.old }
+    requires slots { vec_len slots.old < vec_capacity slots.old }
+    requires left { next.old < 2 ^ 64 - 1 }
+    ensures laid { Lays slot handles.old.items slots.old.items next.old handles.new.items
+        slots.new.items next.new }
+    ensures room { IsRoomLess (vec_len handles.old) (vec_capacity handles.old)
+        (vec_len handles.new) (vec_capacity handles.new) }
+    ensures slots { IsRoomLess (vec_len slots.old) (vec_capacity slots.old) (vec_len slots.new)
+        (vec_capacity slots.new) }
+{
     let Ok(()) = slots.push(slot) else {
         unreachable!()
     };
@@ -285,7 +306,8 @@ pub fn add_at(
     ensures kept { OnErr result ((place.new ≡ place.old) × (out.new ≡ out.old)) }
 {
     let did = add_to_seat(alloc, &mut held.seat, args, tries, place, out);
-    count(&mut held.counts, did, out)
+    count(&mut held.counts, &did, out);
+    did
 }
 
 /// Adds a span at a seat, uncounted.
@@ -342,7 +364,8 @@ pub fn add_all_at(
     ensures kept { OnErr result ((place.new ≡ place.old) × (out.new ≡ out.old)) }
 {
     let did = add_all_to_seat(alloc, &mut held.seat, args, tries, place, out);
-    count(&mut held.counts, did, out)
+    count(&mut held.counts, &did, out);
+    did
 }
 
 /// Adds several marks at a seat, uncounted.

@@ -5,6 +5,7 @@ ghost use Rattle.std.specs.Prelude.{◌≡◌, ◌≢◌, ◌⊎◌, IfSome, IfN
 ghost use Rattle.tsc_ffi_store.specs.declared.store.Slot.TheVariants as kinds;
 
 use crate::counts::{CountedCache, CountedSeat};
+use crate::places::place_of;
 use crate::seats::Owner;
 use std::alloc::Global;
 use std::marker::Model;
@@ -97,7 +98,6 @@ impl Model for Store {
 
 impl Store {
     ghost use Rattle.tsc_ffi_store.specs.Lending.{LendsCacheAt, LendsSeatAt};
-    ghost use Rattle.tsc_ffi_store.specs.OpenHandles.{Rises, IsPlaceOf};
     ghost use Rattle.tsc_ffi_store.specs.Store.{cache_at, shared_at, seat_at};
 
     /// A store that has given no handle.
@@ -120,7 +120,8 @@ impl Store {
     pub fn cache(&self, handle: u64) -> Option<&CountedCache>
         ensures { option_map (λ c. c.now) result ≡ cache_at self.now handle }
     {
-        match self.slots.get(place_of(&self.handles, handle)) {
+        let place = place_of(&self.handles, handle);
+        match self.slots.get(place) {
             Some(slot) => slot.cache(),
             None => None,
         }
@@ -177,42 +178,4 @@ impl Store {
             self.slots.remove(place);
         }
     }
-}
-
-/// The place of a handle among those that are open, in their order, or how many there are.
-pub(crate) fn place_of(handles: &[u64], handle: u64) -> usize
-    requires rises { Rises handles.now }
-    ensures { IsPlaceOf handles.now handle result }
-{
-    match handles.get(handle as usize) {
-        Some(at_its_number) if *at_its_number == handle => handle as usize,
-        _ => place_among(handles, handle),
-    }
-}
-
-/// The place of a handle as [`place_of`] tells it, where some below it were closed.
-fn place_among(handles: &[u64], handle: u64) -> usize
-    requires rises { Rises handles.now }
-    ensures { IsPlaceOf handles.now handle result }
-{
-    match handles.binary_search(&handle) {
-        Ok(place) => place,
-        Err(_) => handles.len(),
-    }
-}
-
-/// Gives the next handle, for which there is room.
-pub(crate) fn give_next(handles: &mut Vec<u64>, next: &mut u64) -> u64
-    requires room { vec_len handles.old < vec_capacity handles.old }
-    requires left { next.old < 2 ^ 64 - 1 }
-    ensures given { result ≡ next.old }
-    ensures laid { handles.new.items ≡ handles.old.items ++ next.old ∷ [] }
-    ensures next { next.new ≡ next.old + 1 }
-{
-    let handle = *next;
-    let Ok(()) = handles.push(handle) else {
-        unreachable!()
-    };
-    *next += 1;
-    handle
 }

@@ -1,10 +1,12 @@
 //! The requests for a lease that goes on: what was read of a span, as bytes, and its way into the
 //! cache of the next holder.
 
-ghost use Rattle.std.specs.Prelude.{◌≡◌, IfOk, IfErr, OnErr, Ok};
+ghost use Rattle.std.specs.Prelude.{◌≡◌, ◌⊎◌, IfOk, IfErr, OnErr, Ok};
 ghost use Rattle.tsc_ffi_store.specs.Decode.{added_of};
 ghost use Rattle.timestamp_cache.specs.SummaryReading.{summary_of};
-ghost use Rattle.tsc_ffi_store.specs.Summaries.{asked_summary, asked_apply, TellsSummary, RefusesSummary, AnswersSummary, PutsOr, RefusesBytes, AnswersApply, IsFaultOf};
+ghost use Rattle.tsc_ffi_store.specs.Summaries.{asked_summary, asked_apply, TellsSummary, RefusesSummary, AnswersSummary, PutsOr, PutsOrKeeps, TellsSeatSummary, AnswersSeatSummary, RefusesBytes, AnswersApply, IsFaultOf};
+ghost use Rattle.tsc_ffi_store.specs.Counts.{CountsAdd, CountsNothing};
+ghost use Rattle.tsc_shared.specs.Answers.{HasLookedOn};
 
 use crate::buffer::put;
 use crate::cache_calls::{count, of_cache_fault};
@@ -44,7 +46,10 @@ pub fn put_at(
     seen: &mut u64,
     out: &mut [u8],
     len: &mut usize,
-) -> u32 {
+) -> u32
+    ensures { PutsOrKeeps (CountsNothing (AnswersSeatSummary (asked_summary args.now) seen.new)
+        held.old held.new) (seen.new ≡ seen.old) result out.old out.new len.old len.new }
+{
     match bytes_at(&mut held.seat, alloc, args) {
         Ok(told) => {
             *seen = told.front;
@@ -66,7 +71,12 @@ fn bytes_at(
     seat: &mut SeatHandle,
     alloc: Global,
     args: &SummaryArgs<'_>,
-) -> Result<SeatBytes, Refusal> {
+) -> Result<SeatBytes, Refusal>
+    ensures told { IfOk result (λ told. TellsSeatSummary seat.old seat.new (asked_summary args.now)
+        told.front told.bytes.items) }
+    ensures refused { IfErr result (λ why. RefusesSummary why (asked_summary args.now)) }
+    ensures looked { (seat.new ≡ seat.old) ⊎ HasLookedOn seat.old seat.new }
+{
     let span = added_span(alloc, &args.span)?;
     let Ok(told) = seat.summary(alloc, &span, args.most) else {
         return Err(Refusal::NoMemory);
@@ -108,7 +118,8 @@ pub fn apply_in(
     ensures kept { OnErr result (out.new ≡ out.old) }
 {
     let did = apply_to(alloc, &mut held.cache, args, out);
-    count(&mut held.counts, did, out)
+    count(&mut held.counts, &did, out);
+    did
 }
 
 /// Adds what the bytes of a summary tell, uncounted.

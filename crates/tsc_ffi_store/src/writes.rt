@@ -2,7 +2,8 @@
 
 ghost use Rattle.std.specs.Prelude.{◌≡◌, ◌↔◌, IfOk, IfErr, OnErr, IsTrue, Some};
 ghost use Rattle.tsc_ffi_store.specs.Decode.{time_of};
-ghost use Rattle.tsc_ffi_store.specs.Writes.{asked_write, IsSpan, RefusesSpan, RefusesWrite, TellsWrite, AsksWrite, AnswersWrite, AnswersSeatWrite, AnswersMayWrite, AnswersSeatMayWrite};
+ghost use Rattle.tsc_ffi_store.specs.Counts.{CountsLookup, CountsSeatLookup};
+ghost use Rattle.tsc_ffi_store.specs.Writes.{asked_write, IsSpan, AllSpans, RefusesSpan, RefusesSpans, RefusesWrite, TellsWrite, AsksWrite, AnswersWrite, AnswersSeatWrite, AnswersMayWrite, AnswersSeatMayWrite};
 ghost use Rattle.tsc_ffi_store.specs.WriteSteps.{TellsLater, AsksLater};
 
 use crate::counts::{CountedCache, CountedSeat};
@@ -144,7 +145,7 @@ fn check_spans(keys: &[u8], spans: &[TscSpan]) -> Result<(), Refusal>
     ensures refused { IfErr result (λ why. RefusesSpans why keys.now spans.now) }
 {
     for words in spans {
-        span(keys, words)?;
+        let _span = span(keys, words)?;
     }
     Ok(())
 }

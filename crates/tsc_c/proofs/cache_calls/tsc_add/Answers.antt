@@ -4,6 +4,7 @@ use Rattle.std.specs.Prelude.{Err, Some}
 use Rattle.tsc_ffi_store.specs.declared.refusal.Refusal.TheVariants as refusal
 use Rattle.tsc_ffi_store.specs.CacheCalls.{AnswersAdd}
 use Rattle.tsc_ffi_store.specs.Decode.{add_asked, span_asked, added_of}
+use Rattle.tsc_ffi_store.specs.Counts.{CountsAdd}
 use Rattle.tsc_ffi_store.proofs.AtHandle.{when_some}
 use Rattle.tsc_c.proofs.Held.{no_cache, works_there, works_on_none}
 use Rattle.tsc_c.proofs.cache_calls.tsc_add.Goals as goal
@@ -13,13 +14,13 @@ returns-in-Some-cache_mut c = record {
   answers = record {
     did = c.add_in.result;
     code_is = c.code.ensures;
-    answers = works_there (AnswersAdd (add_asked (span_asked c.args.from.now c.args.to.now
-        c.args.ends) c.args.value.now c.args.moment.now) (added_of c.add_in.new.out))
-        c.args.store.now.owned (Some (c.cache_mut.follows.lender c.add_in.new.cache))
-        c.in-Some.held.now (c.cache_mut.follows.lender c.add_in.new.cache) c.args.handle
-        c.in-Some-cache_mut.cache.now c.add_in.new.cache (c.add_in.result) (search rules) (search
+    answers = works_there (CountsAdd (AnswersAdd (add_asked (span_asked c.args.from.now c.args.to.now
+        c.args.ends) c.args.value.now c.args.moment.now) (added_of c.add_in.new.out)) c.add_in.new.out.evicted)
+        c.args.store.now.owned (Some (c.cache_mut.follows.lender c.add_in.new.held))
+        c.in-Some.held.now (c.cache_mut.follows.lender c.add_in.new.held) c.args.handle
+        c.in-Some-cache_mut.cache.now c.add_in.new.held (c.add_in.result) (search rules) (search
         rules) (search rules) (when_some c.cache_mut.result c.in-Some-cache_mut.cache
-        c.in-Some-cache_mut.is (c.cache_mut.follows.holds c.add_in.new.cache))
+        c.in-Some-cache_mut.is (c.cache_mut.follows.holds c.add_in.new.held))
         (c.add_in.ensures.answers);
     kept = c.add_in.ensures.kept;
   };
@@ -30,8 +31,8 @@ returns-in-None-cache_mut c = record {
   answers = record {
     did = Err refusal.Closed;
     code_is = search rules;
-    answers = works_on_none (AnswersAdd (add_asked (span_asked c.args.from.now c.args.to.now
-        c.args.ends) c.args.value.now c.args.moment.now) (added_of c.args.out.now))
+    answers = works_on_none (CountsAdd (AnswersAdd (add_asked (span_asked c.args.from.now c.args.to.now
+        c.args.ends) c.args.value.now c.args.moment.now) (added_of c.args.out.now)) c.args.out.now.evicted)
         c.args.store.now.owned (Some c.cache_mut.follows.lender-at-none) c.in-Some.held.now
         c.cache_mut.follows.lender-at-none c.args.handle (search rules) (search rules) (search
         rules) (c.cache_mut.follows.holds-at-none);
@@ -44,8 +45,8 @@ returns-in-None c = record {
   answers = record {
     did = Err refusal.Closed;
     code_is = search rules;
-    answers = no_cache (AnswersAdd (add_asked (span_asked c.args.from.now c.args.to.now
-        c.args.ends) c.args.value.now c.args.moment.now) (added_of c.args.out.now))
+    answers = no_cache (CountsAdd (AnswersAdd (add_asked (span_asked c.args.from.now c.args.to.now
+        c.args.ends) c.args.value.now c.args.moment.now) (added_of c.args.out.now)) c.args.out.now.evicted)
         c.args.store.now.owned c.args.store.now.owned c.args.handle (search rules) (search rules);
     kept = search rules;
   };

@@ -11,7 +11,7 @@ pub returns-in-Some-cache-clause-answers : goal.returns-in-Some-cache-clause-ans
 returns-in-Some-cache-clause-answers c = record {
   did = Ok tt;
   code_is = search rules;
-  answers = reads_there (AnswersAlways (λ cache. StandsAt cache (time_of c.floor_in.new.out)))
+  answers = reads_there (AnswersAlways (λ held. StandsAt held.cache (time_of c.floor_in.new.out)))
       c.args.store.now.owned c.in-Some.held.now c.args.handle c.in-Some-cache.cache.now (Ok tt)
       (search rules) (search rules) (record { told = c.floor_in.ensures; done = refl });
   kept = tt;
@@ -21,7 +21,7 @@ pub returns-in-None-cache-clause-answers : goal.returns-in-None-cache-clause-ans
 returns-in-None-cache-clause-answers c = record {
   did = Err refusal.Closed;
   code_is = search rules;
-  answers = reads_none_there (AnswersAlways (λ cache. StandsAt cache (time_of c.args.out.now)))
+  answers = reads_none_there (AnswersAlways (λ held. StandsAt held.cache (time_of c.args.out.now)))
       c.args.store.now.owned c.in-Some.held.now c.args.handle (search rules) (search rules);
   kept = search rules;
 }
@@ -30,7 +30,7 @@ pub returns-in-None-clause-answers : goal.returns-in-None-clause-answers
 returns-in-None-clause-answers c = record {
   did = Err refusal.Closed;
   code_is = search rules;
-  answers = none_read (AnswersAlways (λ cache. StandsAt cache (time_of c.args.out.now)))
+  answers = none_read (AnswersAlways (λ held. StandsAt held.cache (time_of c.args.out.now)))
       c.args.store.now.owned c.args.handle (search rules);
   kept = search rules;
 }

@@ -13,12 +13,12 @@ returns-in-Some-seat_mut c = record {
     did = Ok tt;
     code_is = search rules;
     answers = works_at (AnswersSeatFigures c.figures_at.new.seen c.figures_at.new.out)
-        c.args.store.now.owned (Some (c.seat_mut.follows.lender c.figures_at.new.seat))
-        c.in-Some.held.now (c.seat_mut.follows.lender c.figures_at.new.seat) c.args.handle
-        c.in-Some-seat_mut.seat.now c.figures_at.new.seat (Ok tt) (search rules) (search rules)
+        c.args.store.now.owned (Some (c.seat_mut.follows.lender c.figures_at.new.held))
+        c.in-Some.held.now (c.seat_mut.follows.lender c.figures_at.new.held) c.args.handle
+        c.in-Some-seat_mut.seat.now c.figures_at.new.held (Ok tt) (search rules) (search rules)
         (search rules) (when_some c.seat_mut.result c.in-Some-seat_mut.seat c.in-Some-seat_mut.is
-        (c.seat_mut.follows.holds c.figures_at.new.seat)) (record {
-          counts = c.figures_at.ensures;
+        (c.seat_mut.follows.holds c.figures_at.new.held)) (record {
+          tells = c.figures_at.ensures;
           done = refl;
         });
     kept = tt;

@@ -4,6 +4,7 @@ use Rattle.std.specs.Prelude.{Err, Some}
 use Rattle.tsc_ffi_store.specs.declared.refusal.Refusal.TheVariants as refusal
 use Rattle.tsc_ffi_store.specs.Decode.{added_of}
 use Rattle.tsc_ffi_store.specs.Summaries.{apply_asked, AnswersApply}
+use Rattle.tsc_ffi_store.specs.Counts.{CountsAdd}
 use Rattle.tsc_ffi_store.proofs.AtHandle.{when_some}
 use Rattle.tsc_c.proofs.Held.{no_cache, works_there, works_on_none}
 use Rattle.tsc_c.proofs.summary_calls.tsc_apply.Goals as goal
@@ -13,13 +14,13 @@ returns-in-Some-cache_mut c = record {
   answers = record {
     did = c.apply_in.result;
     code_is = c.code.ensures;
-    answers = works_there (AnswersApply (apply_asked c.args.summary.now c.args.moment.now)
-        (added_of c.apply_in.new.out)) c.args.store.now.owned (Some (c.cache_mut.follows.lender
-        c.apply_in.new.cache)) c.in-Some.held.now (c.cache_mut.follows.lender c.apply_in.new.cache)
-        c.args.handle c.in-Some-cache_mut.cache.now c.apply_in.new.cache (c.apply_in.result)
+    answers = works_there (CountsAdd (AnswersApply (apply_asked c.args.summary.now c.args.moment.now)
+        (added_of c.apply_in.new.out)) c.apply_in.new.out.evicted) c.args.store.now.owned (Some (c.cache_mut.follows.lender
+        c.apply_in.new.held)) c.in-Some.held.now (c.cache_mut.follows.lender c.apply_in.new.held)
+        c.args.handle c.in-Some-cache_mut.cache.now c.apply_in.new.held (c.apply_in.result)
         (search rules) (search rules) (search rules) (when_some c.cache_mut.result
         c.in-Some-cache_mut.cache c.in-Some-cache_mut.is (c.cache_mut.follows.holds
-        c.apply_in.new.cache)) (c.apply_in.ensures.answers);
+        c.apply_in.new.held)) (c.apply_in.ensures.answers);
     kept = c.apply_in.ensures.kept;
   };
 }
@@ -29,8 +30,8 @@ returns-in-None-cache_mut c = record {
   answers = record {
     did = Err refusal.Closed;
     code_is = search rules;
-    answers = works_on_none (AnswersApply (apply_asked c.args.summary.now c.args.moment.now)
-        (added_of c.args.out.now)) c.args.store.now.owned (Some c.cache_mut.follows.lender-at-none)
+    answers = works_on_none (CountsAdd (AnswersApply (apply_asked c.args.summary.now c.args.moment.now)
+        (added_of c.args.out.now)) c.args.out.now.evicted) c.args.store.now.owned (Some c.cache_mut.follows.lender-at-none)
         c.in-Some.held.now c.cache_mut.follows.lender-at-none c.args.handle (search rules) (search
         rules) (search rules) (c.cache_mut.follows.holds-at-none);
     kept = search rules;
@@ -42,8 +43,8 @@ returns-in-None c = record {
   answers = record {
     did = Err refusal.Closed;
     code_is = search rules;
-    answers = no_cache (AnswersApply (apply_asked c.args.summary.now c.args.moment.now) (added_of
-        c.args.out.now)) c.args.store.now.owned c.args.store.now.owned c.args.handle (search rules)
+    answers = no_cache (CountsAdd (AnswersApply (apply_asked c.args.summary.now c.args.moment.now) (added_of
+        c.args.out.now)) c.args.out.now.evicted) c.args.store.now.owned c.args.store.now.owned c.args.handle (search rules)
         (search rules);
     kept = search rules;
   };

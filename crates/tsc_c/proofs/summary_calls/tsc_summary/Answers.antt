@@ -10,8 +10,8 @@ use Rattle.tsc_c.proofs.summary_calls.tsc_summary.Goals as goal
 pub returns-in-Some-cache-clause-answers : goal.returns-in-Some-cache-clause-answers
 returns-in-Some-cache-clause-answers c = record {
   did = c.put_in.ensures.did;
-  answers = reads_there (AnswersSummary (summary_asked (span_asked c.args.from.now c.args.to.now
-      c.args.ends) c.args.most)) c.args.store.now.owned c.in-Some.held.now c.args.handle
+  answers = reads_there (λ held. AnswersSummary (summary_asked (span_asked c.args.from.now c.args.to.now
+      c.args.ends) c.args.most) held.cache) c.args.store.now.owned c.in-Some.held.now c.args.handle
       c.in-Some-cache.cache.now c.put_in.ensures.did (search rules) (search rules)
       c.put_in.ensures.answers;
   put = c.put_in.ensures.put;
@@ -20,8 +20,8 @@ returns-in-Some-cache-clause-answers c = record {
 pub returns-in-None-cache-clause-answers : goal.returns-in-None-cache-clause-answers
 returns-in-None-cache-clause-answers c = record {
   did = Err refusal.Closed;
-  answers = reads_none_there (AnswersSummary (summary_asked (span_asked c.args.from.now
-      c.args.to.now c.args.ends) c.args.most)) c.args.store.now.owned c.in-Some.held.now
+  answers = reads_none_there (λ held. AnswersSummary (summary_asked (span_asked c.args.from.now
+      c.args.to.now c.args.ends) c.args.most) held.cache) c.args.store.now.owned c.in-Some.held.now
       c.args.handle (search rules) (search rules);
   put = search rules;
 }
@@ -29,7 +29,7 @@ returns-in-None-cache-clause-answers c = record {
 pub returns-in-None-clause-answers : goal.returns-in-None-clause-answers
 returns-in-None-clause-answers c = record {
   did = Err refusal.Closed;
-  answers = none_read (AnswersSummary (summary_asked (span_asked c.args.from.now c.args.to.now
-      c.args.ends) c.args.most)) c.args.store.now.owned c.args.handle (search rules);
+  answers = none_read (λ held. AnswersSummary (summary_asked (span_asked c.args.from.now c.args.to.now
+      c.args.ends) c.args.most) held.cache) c.args.store.now.owned c.args.handle (search rules);
   put = search rules;
 }

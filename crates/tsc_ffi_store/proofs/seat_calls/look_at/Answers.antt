@@ -5,11 +5,15 @@ use Rattle.tsc_ffi_store.proofs.seat_calls.look_at.Goals as goal
 
 pub returns-clause-answers : goal.returns-clause-answers
 returns-clause-answers c = record {
-  looked = seat_looks c.args.seat.now c.get_max_ref-answer.new.self (asked_span c.args.span.now)
-      c.in_ok-span.span c.get_max_ref-answer.result (value_of c.words_of.result)
-      c.in_ok-span.ensures.value c.words_of.ensures
-      c.get_max_ref-answer.ensures.looked c.get_max_ref-answer.ensures.above
-      c.get_max_ref-answer.ensures.whole;
-  refused = tt;
-  unchanged = tt;
+  works = record {
+    looked = seat_looks c.args.held.now.seat c.get_max_ref-answer.new.self
+        (asked_span c.args.span.now)
+        c.in_ok-span.span c.get_max_ref-answer.result (value_of c.words_of.result)
+        c.in_ok-span.ensures.value c.words_of.ensures
+        c.get_max_ref-answer.ensures.looked c.get_max_ref-answer.ensures.above
+        c.get_max_ref-answer.ensures.whole;
+    refused = tt;
+    unchanged = tt;
+  };
+  counted = c.answer.ensures;
 }

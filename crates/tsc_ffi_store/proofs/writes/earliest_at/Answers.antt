@@ -3,6 +3,7 @@ use Rattle.std.proofs.Common.{subst}
 use Rattle.tsc_time.specs.OwnedTime.{Owner}
 use Rattle.tsc_ffi_store.specs.Writes.{asked_write}
 use Rattle.tsc_ffi_store.specs.WriteSteps.{AsksLater}
+use Rattle.tsc_ffi_store.proofs.SpansAsked.{none_refused}
 use Rattle.tsc_ffi_store.proofs.WritesTold.{asked_more, asked_all}
 use Rattle.tsc_ffi_store.proofs.writes.earliest_at.Goals as goal
 
@@ -10,10 +11,10 @@ pub loop-words-preserved : goal.loop-words-preserved
 loop-words-preserved c =
     let asked = asked_write c.args.args.now in
     asked_more c.args.seat.now c.loop-words.seat c.later_at-time.new.seat asked.keys asked.spans
-    c.loop-words.words-index _ c.in_ok-span.span asked.by asked.time c.loop-words.time
-    c.later_at-time.result c.loop-words-test.true c.in_ok-span.ensures.value
+    c.loop-words.words-index _ c.in-Ok.span asked.by asked.time c.loop-words.time
+    c.later_at-time.result c.loop-words-test.true c.in-Ok.ensures.value
     (subst (λ (by : Owner). AsksLater c.loop-words.seat c.later_at-time.new.seat
-    c.in_ok-span.span by c.loop-words.time c.later_at-time.result)
+    c.in-Ok.span by c.loop-words.time c.later_at-time.result)
     c.from_bytes-by.ensures c.later_at-time.ensures)
     c.loop-words.invariant
 
@@ -22,3 +23,9 @@ returns-clause-told c =
     asked_all c.args.seat.now c.loop-words.seat (asked_write c.args.args.now)
     c.loop-words.words-index c.loop-words.time c.seen-seen.ensures.seat c.loop-words-test.false
     c.loop-words.invariant
+
+pub unreachable-requires : goal.unreachable-requires
+unreachable-requires c =
+    none_refused c.in_default.field-0 c.args.args.now.keys.now c.args.args.now.spans.now
+    c.loop-words.words-index _ c.in_ok-check_spans.ensures.told c.loop-words-test.true
+    c.in_default.ensures.refused

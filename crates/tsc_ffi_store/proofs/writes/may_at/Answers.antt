@@ -4,11 +4,14 @@ use Rattle.tsc_ffi_store.proofs.writes.may_at.Goals as goal
 
 pub returns-clause-answers : goal.returns-clause-answers
 returns-clause-answers c = record {
-  told = record {
-    told = c.in_ok-earliest.earliest;
-    asks = c.in_ok-earliest.ensures.told;
-    value = search rules;
+  works = record {
+    told = record {
+      told = c.in_ok-earliest.earliest;
+      asks = c.in_ok-earliest.ensures.told;
+      value = search rules;
+    };
+    front = search rules;
+    refused = tt;
   };
-  front = search rules;
-  refused = tt;
+  counted = c.answer.ensures;
 }

@@ -1,12 +1,17 @@
 -- The write may be made just where the earliest time is its own.
-use Rattle.std.proofs.Common.{rules}
+use Rattle.std.proofs.Common.{refl, rules}
 use Rattle.tsc_ffi_store.specs.Writes.{asked_write}
 use Rattle.tsc_ffi_store.proofs.MayWrite.{may_write}
 use Rattle.tsc_ffi_store.proofs.writes.may_in.Goals as goal
 
 pub returns-clause-answers : goal.returns-clause-answers
 returns-clause-answers c = record {
-  told = may_write c.args.cache.now (asked_write c.args.args.now) c.in_ok-earliest.earliest
-      c.is_at.result (search rules) c.in_ok-earliest.ensures.told (search rules);
-  refused = tt;
+  reads = record {
+    told = may_write c.args.held.now.cache (asked_write c.args.args.now)
+        c.in_ok-earliest.earliest c.is_at.result (search rules) c.in_ok-earliest.ensures.told
+        (search rules);
+    refused = tt;
+  };
+  same = refl;
+  counted = c.answer.ensures;
 }

@@ -8,8 +8,7 @@ use denote.Param.Send.{IsSend, part_keyless, owning_send, sendable}
 use base.Fraction.{full_share}
 use denote.Param.SendFields.{declared_send, as_row_send, variants_send}
 use Rattle.std.proofs.Crossing.{crosses, frees}
-use Rattle.tsc_cache.proofs.Crossing.{cache_sends}
-use Rattle.tsc_ffi_store.proofs.Crossing.{owner_sends, handle_sends}
+use Rattle.tsc_ffi_store.proofs.Crossing.{counted_cache_sends, owner_sends, counted_seat_sends}
 use Rattle.tsc_c.specs.Owning.{Kept, heap, ptr_owns}
 use Rattle.tsc_ffi_store.specs.contracts.store.Slot.{the_row as entry}
 use Rattle.tsc_c.specs.contracts.store_ptr.StorePtr.{the_row, the_type}
@@ -20,9 +19,9 @@ slot_sends = search (
   crosses,
   variants_send,
   as_row_send,
-  cache_sends,
+  counted_cache_sends,
   owner_sends,
-  handle_sends,
+  counted_seat_sends,
 ) depth 20
 
 store_sends : IsSend Kept

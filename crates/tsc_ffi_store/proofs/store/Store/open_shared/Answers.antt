@@ -1,13 +1,55 @@
--- There is room for the cache and for each of its seats.
-use Rattle.std.proofs.Common.{◌≡◌, ◌∙◌, ap, length, rules}
+-- There is room for the cache and for each of its seats, and there are handles.
+use Rattle.std.proofs.Common.{◌≡◌, ◌∙◌, ◌++◌, ◌∷◌, ap, sym, inr, inl, refl, List, map, length, arith, rules}
+use Rattle.tsc_ffi_store.specs.declared.store.Slot.{Slot}
+use Rattle.tsc_ffi_store.specs.declared.store.Slot.TheVariants.{Shared, Seat}
+use Rattle.tsc_ffi_store.specs.SeatCalls.{unasked}
+use Rattle.tsc_ffi_store.proofs.Laying.{long_as_next}
 use Rattle.tsc_ffi_store.proofs.NewSeats.{new_seats_long}
 use Rattle.tsc_ffi_store.proofs.store.Store.open_shared.Goals as goal
 
-pub put-requires : goal.put-requires
-put-requires c = record {
-  room =
-      let all = c.in-Ok.ensures.opened in
-      let long : length c.in-Ok.handles.items ≡ c.args.seats = ap length all.in_order ∙
-      new_seats_long c.in-Ok.owner 0 c.args.seats in
-      search rules;
-}
+pub put-requires-clause-laid : goal.put-requires-clause-laid
+put-requires-clause-laid c =
+    rw (c.reserve.ensures.items, c.reserve-else-is_err.ensures.items) c.self.invariant
+
+pub put-requires-clause-room : goal.put-requires-clause-room
+put-requires-clause-room c =
+    let long : length c.in-Ok.seats.items ≡ c.args.seats =
+    ap length c.in-Ok.ensures.opened.in_order ∙ new_seats_long c.in-Ok.owner 0 c.args.seats in
+    search rules
+
+pub put-requires-clause-slots : goal.put-requires-clause-slots
+put-requires-clause-slots c =
+    let long : length c.in-Ok.seats.items ≡ c.args.seats =
+    ap length c.in-Ok.ensures.opened.in_order ∙ new_seats_long c.in-Ok.owner 0 c.args.seats in
+    search rules
+
+pub put-requires-clause-left : goal.put-requires-clause-left
+put-requires-clause-left c =
+    let long : length c.in-Ok.seats.items ≡ c.args.seats =
+    ap length c.in-Ok.ensures.opened.in_order ∙ new_seats_long c.in-Ok.owner 0 c.args.seats in
+    grind (arith, long, c.if-self-seats.false)
+
+pub returns-then-self-seats-clause-refused : goal.returns-then-self-seats-clause-refused
+returns-then-self-seats-clause-refused c =
+    let long : length c.args.self.now ≡ c.self.inside.next = long_as_next
+    c.self.inside.handles.items c.self.inside.slots.items c.self.inside.next c.args.self.now
+    c.self.view_is in
+    inr (inl (refl, grind (arith, long, c.if-self-seats.true)))
+
+pub returns-in-Ok-clause-opened : goal.returns-in-Ok-clause-opened
+returns-in-Ok-clause-opened c =
+    let opened = c.in-Ok.ensures.opened in
+    record {
+      cache = c.in-Ok.owner;
+      next = sym (long_as_next c.self.inside.handles.items c.self.inside.slots.items
+          c.self.inside.next c.args.self.now c.self.view_is);
+      given = c.put.ensures.named ∙
+          ap (λ (l : List Slot). l ++ Shared c.in-Ok.owner ∷
+          map (λ s. Seat (unasked s)) c.in-Ok.seats.items)
+          (rw (c.reserve.ensures.items, c.reserve-else-is_err.ensures.items) c.self.view_is) ∙
+          ap (λ seats. c.args.self.now ++ Shared c.in-Ok.owner ∷ map (λ s. Seat (unasked s)) seats)
+          opened.in_order;
+      settings_kept = search rules;
+      count_kept = search rules;
+      limit_kept = search rules;
+    }

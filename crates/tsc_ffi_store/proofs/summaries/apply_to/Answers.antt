@@ -2,7 +2,7 @@
 use Rattle.tsc_ffi_store.specs.Decode.{added_of}
 use Rattle.tsc_ffi_store.specs.Summaries.{asked_apply}
 use Rattle.tsc_ffi_store.proofs.Applying.{applies_in}
-use Rattle.tsc_ffi_store.proofs.summaries.apply_in.Goals as goal
+use Rattle.tsc_ffi_store.proofs.summaries.apply_to.Goals as goal
 
 pub returns-in-Ok-clause-answers : goal.returns-in-Ok-clause-answers
 returns-in-Ok-clause-answers c = record {

@@ -1,18 +1,12 @@
 -- What the cache said of the Add that was tried.
-use Rattle.std.proofs.Common.{inr, sym, subst, rules}
-use Rattle.tsc_ffi_store.specs.Marks.{AreMarks}
+use Rattle.std.proofs.Common.{inr, rules}
 use Rattle.std.proofs.lemmas.Result.{err_from_is_err_and}
-use Rattle.tsc_ffi_store.proofs.Trying.{accepted_tried, why_refused}
-use Rattle.tsc_ffi_store.proofs.seat_calls.add_all_at.Goals as goal
+use Rattle.tsc_ffi_store.proofs.Trying.{why_refused}
+use Rattle.tsc_ffi_store.proofs.seat_calls.try_add_to_seat.Goals as goal
 
 pub returns-clause-answers : goal.returns-clause-answers
 returns-clause-answers c = record {
   added = search rules;
-  tried = accepted_tried _ _ c.in_ok-receipt.receipt
-      (record {
-        too_large = c.in_ok-receipt.ensures.too_large;
-        no_tries = c.in_ok-receipt.ensures.no_tries;
-      });
   refused = tt;
   spared = tt;
 }
@@ -22,22 +16,17 @@ returns-in_err-receipt-clause-answers c =
     let p = err_from_is_err_and c.from_residual-in_err-receipt.result
     c.from_residual-in_err-receipt.ensures.1 in rw p.1 record {
       added = tt;
-      tried = tt;
       refused = inr (inr
-          (why_refused p.0 c.args.seat.now c.try_add_all.new.self c.args.tries _
+          (inr (why_refused p.0 c.args.seat.now c.try_add.new.self _
           c.in_err-receipt.field-0.0 p.2 c.in_err-receipt.ensures.why
-          (record {
-            too_large = c.in_err-receipt.ensures.too_large;
-            no_tries = c.in_err-receipt.ensures.no_tries;
-          })
+          c.in_err-receipt.ensures.too_large
           (λ large told same. record {
-            marks = c.deref.result.now;
-            asked_for = subst (AreMarks c.args.args.now.keys.now c.args.args.now.marks.now)
-                (sym c.deref.ensures.value) c.in_ok-marks.ensures.value;
+            span = c.in_ok-span.span;
+            asked_for = c.in_ok-span.ensures.value;
             too_large = large;
             told = told;
             same = same;
-          })));
+          }))));
       spared = inr (record {
         goes_on = c.in_err-receipt.ensures.seat;
         refuses = c.in_err-receipt.ensures.refused;

@@ -3,7 +3,7 @@ use Rattle.std.proofs.Common.{sym, subst}
 use Rattle.tsc_ffi_store.specs.Decode.{asked_batch, added_of}
 use Rattle.tsc_ffi_store.specs.Marks.{AreMarks}
 use Rattle.tsc_ffi_store.proofs.Answering.{adds_all_in}
-use Rattle.tsc_ffi_store.proofs.cache_calls.add_all_in.Goals as goal
+use Rattle.tsc_ffi_store.proofs.cache_calls.add_all_to.Goals as goal
 
 pub returns-in-Ok-clause-answers : goal.returns-in-Ok-clause-answers
 returns-in-Ok-clause-answers c = record {

@@ -1,0 +1,8 @@
+-- The figures are those of the snapshot, or those that are read once the seat has looked on.
+use Rattle.tsc_ffi_store.proofs.SeatFigures.{read_later}
+use Rattle.tsc_ffi_store.proofs.seat_calls.figures_and_memory.Goals as goal
+
+pub returns-in-Err : goal.returns-in-Err
+returns-in-Err c =
+    read_later c.args.seat.now c.snapshot.new.self c.figures.new.self c.figures.result
+    c.snapshot.ensures.looked c.figures.ensures

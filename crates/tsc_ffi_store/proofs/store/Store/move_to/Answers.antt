@@ -1,0 +1,40 @@
+-- What is moved stands behind all that there is in the other store.
+use Rattle.std.proofs.Common.{◌≡◌, ◌∙◌, refl, sym, inl, inr, length, arith}
+use Rattle.tsc_ffi_store.proofs.Laying.{long_as_next, laid_open, laid_named, lays_on}
+use Rattle.tsc_ffi_store.proofs.store.Store.move_to.Goals as goal
+
+pub returns-then-other-clause-answers : goal.returns-then-other-clause-answers
+returns-then-other-clause-answers c =
+    let long : length c.args.other.now ≡ c.other.inside.next = long_as_next
+    c.other.inside.handles.items c.other.inside.slots.items c.other.inside.next c.args.other.now
+    c.other.view_is in
+    record { moved = tt; refused = inr (inl (refl, grind (arith, long, c.if-other.true))) }
+
+pub invariant_of-other-2 : goal.invariant_of-other-2
+invariant_of-other-2 c =
+    laid_open c.in-Some.slot c.other.inside.handles.items c.other.inside.slots.items
+    c.other.inside.next c.lay.new.handles.items c.lay.new.slots.items c.lay.new.next
+    c.other.invariant (lays_on c.in-Some.slot c.other.inside.handles.items
+    c.reserve.new.self.items c.other.inside.slots.items c.reserve-else-is_err.new.self.items
+    c.other.inside.next c.lay.new.handles.items c.lay.new.slots.items c.lay.new.next
+    c.reserve.ensures.items c.reserve-else-is_err.ensures.items c.lay.ensures.laid)
+
+pub returns-clause-answers : goal.returns-clause-answers
+returns-clause-answers c = record {
+  moved = record {
+    slot = c.in-Some.slot;
+    held = c.in-Some.ensures.taken.0;
+    open_ = c.in-Some.ensures.taken.1;
+    left = c.forget.ensures ∙ c.in-Some.ensures.taken.2;
+    came = laid_named c.in-Some.slot c.other.inside.handles.items c.other.inside.slots.items
+        c.other.inside.next c.lay.new.handles.items c.lay.new.slots.items c.lay.new.next
+        c.args.other.now c.other.invariant c.other.view_is (lays_on c.in-Some.slot
+        c.other.inside.handles.items c.reserve.new.self.items c.other.inside.slots.items
+        c.reserve-else-is_err.new.self.items c.other.inside.next c.lay.new.handles.items
+        c.lay.new.slots.items c.lay.new.next c.reserve.ensures.items
+        c.reserve-else-is_err.ensures.items c.lay.ensures.laid);
+    next = sym (long_as_next c.other.inside.handles.items c.other.inside.slots.items
+        c.other.inside.next c.args.other.now c.other.view_is);
+  };
+  refused = tt;
+}

@@ -1,0 +1,32 @@
+-- The bytes that are told are those that go into the buffer.
+use Rattle.std.proofs.Common.{ℕ, List, refl, subst, rules}
+use Rattle.std.specs.Prelude.{Ok, Err}
+use Rattle.tsc_ffi_store.specs.Puts.{Puts}
+use Rattle.tsc_ffi_store.proofs.summaries.put_at.Goals as goal
+
+pub returns-in-Ok : goal.returns-in-Ok
+returns-in-Ok c = record {
+  did = Ok c.in-Ok.told.bytes.items;
+  answers = record {
+    works = record { told = c.in-Ok.ensures.told; refused = tt; looked = c.in-Ok.ensures.looked };
+    same = refl;
+  };
+  put = subst (λ (text : List ℕ). Puts 0 text c.put.result c.args.out.now c.put.new.out
+      c.put.new.len) c.as_slice.ensures.value c.put.ensures;
+  kept = tt;
+}
+
+pub returns-in-Err : goal.returns-in-Err
+returns-in-Err c = record {
+  did = Err c.in-Err.why;
+  answers = record {
+    works = record {
+      told = tt;
+      refused = c.in-Err.ensures.refused;
+      looked = c.in-Err.ensures.looked;
+    };
+    same = refl;
+  };
+  put = search rules;
+  kept = refl;
+}
