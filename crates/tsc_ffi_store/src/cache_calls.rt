@@ -1,10 +1,10 @@
 //! The requests for caches of one thread at a time.
 
-ghost use Rattle.std.specs.Prelude.{◌≡◌, IfOk, IfErr, OnErr};
+ghost use Rattle.std.specs.Prelude.{◌≡◌, ◌⊎◌, IfOk, IfErr, OnErr};
 ghost use Rattle.tsc_ffi_store.specs.CacheCalls.{Opens, StandsAt, TellsFigures, AnswersLookup, AnswersAdd, AnswersAddAll};
 ghost use Rattle.tsc_ffi_store.specs.Counts.{CountsLookup, CountsAdd, add_counted};
 ghost use Rattle.tsc_ffi_store.specs.Decode.{time_of, value_of, added_of, asked_span, asked_add, asked_batch};
-ghost use Rattle.tsc_ffi_store.specs.Store.{cache_of, cache_at, LetsGo, AnswersClose, GivesNext};
+ghost use Rattle.tsc_ffi_store.specs.Store.{cache_of, cache_at, LetsGo, AnswersClose, GivesNext, RefusesHandles};
 ghost use Rattle.tsc_ffi_store.specs.declared.refusal.Refusal.TheVariants.{NoMemory, TooLarge};
 
 use crate::counts::{CountedCache, Counts};
