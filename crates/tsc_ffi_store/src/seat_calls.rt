@@ -106,7 +106,13 @@ impl Store {
         match Owner::open(alloc, config, seats, limit) {
             Ok((owner, seats)) => {
                 let handle = self.next;
-                put(&mut self.handles, &mut self.slots, &mut self.next, owner, seats);
+                put(
+                    &mut self.handles,
+                    &mut self.slots,
+                    &mut self.next,
+                    owner,
+                    seats,
+                );
                 Ok(handle)
             }
             Err(_) => Err(Refusal::NoMemory),
