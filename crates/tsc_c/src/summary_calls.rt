@@ -12,8 +12,7 @@ ghost use Rattle.tsc_ffi_store.specs.Summaries.{apply_asked, AnswersApply};
 use crate::store_ptr::StorePtr;
 use std::alloc::Global;
 use tsc_ffi_store::{
-    ApplyArgs, Refusal, SpanArgs, SummaryArgs, TscAdded, TscTime, apply_in, code, put_at,
-    put_in,
+    ApplyArgs, Refusal, SpanArgs, SummaryArgs, TscAdded, TscTime, apply_in, code, put_at, put_in,
 };
 
 /// Puts what was read of a span into a buffer, as bytes, in at most `most` marks.

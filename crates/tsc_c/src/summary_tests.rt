@@ -107,9 +107,7 @@ fn shared(alloc: Global, store: &mut StorePtr) -> bool {
     let opened = tsc_open_shared(alloc, store, 132, 1024, 2, 10, &LOW, 2, 9, &mut handle);
     let mut added = nothing_done();
     let mut at = 9;
-    let read = tsc_seat_add(
-        store, 3, b"b", b"", 8, &READ, &NOW, 1, &mut at, &mut added,
-    );
+    let read = tsc_seat_add(store, 3, b"b", b"", 8, &READ, &NOW, 1, &mut at, &mut added);
     opened == 0 && handle == 2 && read == 0 && at == 0 && added.kept
 }
 

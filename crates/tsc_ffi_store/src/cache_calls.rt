@@ -14,7 +14,7 @@ use crate::decode::{
     words_of_time,
 };
 use crate::marks::marks;
-use crate::places::{give_next, place_of};
+use crate::places::{lay, place_of};
 use crate::refusal::Refusal;
 use crate::store::{Slot, Store};
 use std::alloc::Global;
@@ -53,13 +53,13 @@ impl Store {
         let Ok(cache) = Cache::new(alloc, config) else {
             return Err(Refusal::NoMemory);
         };
-        if self.handles.reserve(1).is_err() {
+        if self.handles.reserve(1).is_err() || self.slots.reserve(1).is_err() {
             return Err(Refusal::NoMemory);
         }
-        match self.slots.push(Slot::Own(CountedCache::new(cache))) {
-            Ok(()) => Ok(give_next(&mut self.handles, &mut self.next)),
-            Err(_) => Err(Refusal::NoMemory),
-        }
+        let handle = self.next;
+        let slot = Slot::Own(CountedCache::new(cache));
+        lay(&mut self.handles, &mut self.slots, &mut self.next, slot);
+        Ok(handle)
     }
 
     /// Frees a cache.

@@ -1,8 +1,10 @@
-//! Where handles stand among those that are open, in their order.
+//! Where handles stand among those that are open, in their order, and how the next one is given.
 
 ghost use Rattle.std.specs.Prelude.{◌≡◌, ◌++◌, ◌∷◌, [], ◌<◌, ◌-◌, ◌+◌, ◌^◌};
 ghost use Rattle.std.specs.Vec.{vec_len, vec_capacity};
-ghost use Rattle.tsc_ffi_store.specs.OpenHandles.{Rises, IsPlaceOf, IsRoomLess};
+ghost use Rattle.tsc_ffi_store.specs.OpenHandles.{Rises, IsPlaceOf, IsRoomLess, Lays};
+
+use crate::store::Slot;
 
 /// The place of a handle among those that are open, in their order, or how many there are.
 pub(crate) fn place_of(handles: &[u64], handle: u64) -> usize
@@ -27,7 +29,7 @@ fn place_among(handles: &[u64], handle: u64) -> usize
 }
 
 /// Gives the next handle, for which there is room.
-pub(crate) fn give_next(handles: &mut Vec<u64>, next: &mut u64) -> u64
+fn give_next(handles: &mut Vec<u64>, next: &mut u64) -> u64
     requires room { vec_len handles.old < vec_capacity handles.old }
     requires left { next.old < 2 ^ 64 - 1 }
     ensures given { result ≡ next.old }
@@ -42,4 +44,22 @@ pub(crate) fn give_next(handles: &mut Vec<u64>, next: &mut u64) -> u64
     };
     *next += 1;
     handle
+}
+
+/// Lays what the next handle names behind what there is, for which there is room.
+pub(crate) fn lay(handles: &mut Vec<u64>, slots: &mut Vec<Slot>, next: &mut u64, slot: Slot)
+    requires room { vec_len handles.old < vec_capacity handles.old }
+    requires slots { vec_len slots.old < vec_capacity slots.old }
+    requires left { next.old < 2 ^ 64 - 1 }
+    ensures laid { Lays slot handles.old.items slots.old.items next.old handles.new.items
+        slots.new.items next.new }
+    ensures room { IsRoomLess (vec_len handles.old) (vec_capacity handles.old)
+        (vec_len handles.new) (vec_capacity handles.new) }
+    ensures slots { IsRoomLess (vec_len slots.old) (vec_capacity slots.old) (vec_len slots.new)
+        (vec_capacity slots.new) }
+{
+    let Ok(()) = slots.push(slot) else {
+        unreachable!()
+    };
+    give_next(handles, next);
 }

@@ -8,7 +8,7 @@ ghost use Rattle.tsc_ffi_store.specs.Decode.{time_of, value_of, added_of, asked_
 ghost use Rattle.tsc_ffi_store.specs.Store.{seat_of, seat_at, shared_of, LetsGo, AnswersClose, RefusesHandles};
 ghost use Rattle.tsc_ffi_store.specs.SeatCalls.{unasked, OpensShared, RefusesSeats, RefusesRoom, AnswersSeatLookup, TellsFiguresAt, AnswersSeatAdd, AnswersSeatAddAll, AnswersTriedAdd, AnswersTriedAddAll, AnswersMove, IsCodeOf, EndsShared, AnswersCloseShared};
 ghost use Rattle.tsc_ffi_store.specs.Counts.{CountsSeatLookup, CountsSeatAdd};
-ghost use Rattle.tsc_ffi_store.specs.OpenHandles.{AreOpen, Lays, named_by, IsRoomLess};
+ghost use Rattle.tsc_ffi_store.specs.OpenHandles.{AreOpen, named_by};
 ghost use Rattle.tsc_ffi_store.specs.declared.store.Slot.TheVariants as kinds;
 
 use crate::cache_calls::count;
@@ -19,7 +19,7 @@ use crate::decode::{
     words_of_time,
 };
 use crate::marks::marks;
-use crate::places::{give_next, place_of};
+use crate::places::{lay, place_of};
 use crate::refusal::Refusal;
 use crate::seats::{Owner, SeatHandle};
 use crate::store::{Slot, Store};
@@ -106,7 +106,13 @@ impl Store {
         match Owner::open(alloc, config, seats, limit) {
             Ok((owner, seats)) => {
                 let handle = self.next;
-                put(&mut self.handles, &mut self.slots, &mut self.next, owner, seats);
+                put(
+                    &mut self.handles,
+                    &mut self.slots,
+                    &mut self.next,
+                    owner,
+                    seats,
+                );
                 Ok(handle)
             }
             Err(_) => Err(Refusal::NoMemory),
@@ -218,24 +224,6 @@ fn put(
     for seat in seats {
         lay(handles, slots, next, Slot::Seat(CountedSeat::new(seat)));
     }
-}
-
-/// Lays what the next handle names behind what there is, for which there is room.
-fn lay(handles: &mut Vec<u64>, slots: &mut Vec<Slot>, next: &mut u64, slot: Slot)
-    requires room { vec_len handles.old < vec_capacity handles.old }
-    requires slots { vec_len slots.old < vec_capacity slots.old }
-    requires left { next.old < 2 ^ 64 - 1 }
-    ensures laid { Lays slot handles.old.items slots.old.items next.old handles.new.items
-        slots.new.items next.new }
-    ensures room { IsRoomLess (vec_len handles.old) (vec_capacity handles.old)
-        (vec_len handles.new) (vec_capacity handles.new) }
-    ensures slots { IsRoomLess (vec_len slots.old) (vec_capacity slots.old) (vec_len slots.new)
-        (vec_capacity slots.new) }
-{
-    let Ok(()) = slots.push(slot) else {
-        unreachable!()
-    };
-    give_next(handles, next);
 }
 
 /// Writes the latest time on a span, and how many Adds the seat has seen then.

@@ -59,11 +59,7 @@ pub fn write_at(
 }
 
 /// Writes whether a write is clear, at its time, of what a cache answers to each of its spans.
-pub fn may_in(
-    held: &mut CountedCache,
-    args: &WriteArgs<'_>,
-    out: &mut bool,
-) -> Result<(), Refusal>
+pub fn may_in(held: &mut CountedCache, args: &WriteArgs<'_>, out: &mut bool) -> Result<(), Refusal>
     ensures answers { CountsLookup (AnswersMayWrite (asked_write args.now) out.new) held.old
         held.new result }
     ensures kept { OnErr result (out.new ≡ out.old) }

@@ -13,7 +13,7 @@ pub returns-in-Some-seat_mut : goal.returns-in-Some-seat_mut
 returns-in-Some-seat_mut c = record {
   did = c.put_at.ensures.did;
   answers = works_at (CountsNothing (AnswersSeatSummary (summary_asked (span_asked c.args.from.now
-        c.args.to.now c.args.ends) c.args.most) c.put_at.new.seen))
+      c.args.to.now c.args.ends) c.args.most) c.put_at.new.seen))
       c.args.store.now.owned (Some (c.seat_mut.follows.lender c.put_at.new.held))
       c.in-Some.held.now (c.seat_mut.follows.lender c.put_at.new.held) c.args.handle
       c.in-Some-seat_mut.seat.now c.put_at.new.held c.put_at.ensures.did (search rules) (search
@@ -28,7 +28,7 @@ pub returns-in-None-seat_mut : goal.returns-in-None-seat_mut
 returns-in-None-seat_mut c = record {
   did = Err refusal.Closed;
   answers = works_at_none (CountsNothing (AnswersSeatSummary (summary_asked (span_asked c.args.from.now
-        c.args.to.now c.args.ends) c.args.most) c.args.seen.now))
+      c.args.to.now c.args.ends) c.args.most) c.args.seen.now))
       c.args.store.now.owned (Some c.seat_mut.follows.lender-at-none) c.in-Some.held.now
       c.seat_mut.follows.lender-at-none c.args.handle (search rules) (search rules) (search
       rules) (c.seat_mut.follows.holds-at-none);
@@ -40,7 +40,7 @@ pub returns-in-None : goal.returns-in-None
 returns-in-None c = record {
   did = Err refusal.Closed;
   answers = no_seat (CountsNothing (AnswersSeatSummary (summary_asked (span_asked c.args.from.now
-        c.args.to.now c.args.ends) c.args.most) c.args.seen.now))
+      c.args.to.now c.args.ends) c.args.most) c.args.seen.now))
       c.args.store.now.owned c.args.store.now.owned c.args.handle (search rules) (search rules);
   put = search rules;
   kept = search rules;

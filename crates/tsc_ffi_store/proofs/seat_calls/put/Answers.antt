@@ -33,10 +33,10 @@ loop-seat-preserved c =
       omega (arith, ap length step, c.loop-seat.invariant.3, c.lay-in-loop-seat.ensures.room),
       omega (arith, ap length step, c.loop-seat.invariant.4, c.lay-in-loop-seat.ensures.slots),
       omega (
-          arith,
-          ap length step,
-          c.loop-seat.invariant.5,
-          c.lay-in-loop-seat.ensures.laid.next_is,
+        arith,
+        ap length step,
+        c.loop-seat.invariant.5,
+        c.lay-in-loop-seat.ensures.laid.next_is,
       ),
     )
 
