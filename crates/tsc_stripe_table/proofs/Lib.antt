@@ -1,3 +1,6 @@
 pub mod Prefixes
 pub mod Totals
 pub mod Moves
+pub mod Parts
+pub mod Acquiring
+pub mod Releasing
