@@ -4,3 +4,4 @@ pub mod Moves
 pub mod Parts
 pub mod Acquiring
 pub mod Releasing
+pub mod Seeing
