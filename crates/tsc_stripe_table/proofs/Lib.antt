@@ -5,3 +5,4 @@ pub mod Parts
 pub mod Acquiring
 pub mod Releasing
 pub mod Seeing
+pub mod Openings

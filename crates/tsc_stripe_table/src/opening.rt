@@ -1,10 +1,10 @@
 //! Making the table, and those who take part in it.
-ghost use Rattle.std.specs.Prelude.{◌≡◌, [], ◌∷◌, ◌<◌, IfOk, length, replicate};
-ghost use Rattle.tsc_stripe_table.specs.Stripes.{stripe_count, IsStateOn};
+ghost use Rattle.std.specs.Prelude.{◌≡◌, [], ◌<◌, IfOk, length, replicate};
+ghost use Rattle.tsc_stripe_table.specs.Stripes.{stripe_count};
 ghost use Rattle.tsc_stripe_table.specs.Rule.{first_knowledge, keeping, word_count};
 ghost use Rattle.tsc_stripe_table.specs.Steps.{other_states};
 ghost use Rattle.tsc_stripe_table.specs.Participating.{IsOf, IsSized, KeepsStates, IsFirstOf};
-ghost use Rattle.tsc_stripe_table.specs.Opening.{AreOpened};
+ghost use Rattle.tsc_stripe_table.specs.Opening.{IsOpened, AreOpened};
 
 use crate::places::word_count;
 use crate::steps::SplitOff;
@@ -21,15 +21,23 @@ fn blank_words(alloc: Global, stripes: u32) -> Result<Vec<u64>, NoMemory>
     Ok(vec![in alloc; 0; word_count(stripes)]?)
 }
 
-/// The stripes at the opening, each with an empty cache.
+/// A stripe with an empty cache, in a block of its own.
+fn new_stripe(alloc: Global, setup: &Setup) -> Result<Box<Stripe>, NoMemory>
+    ensures { IfOk result (λ stripe. IsOpened setup.now stripe) }
+{
+    let stripe = Stripe::new(alloc, setup.config)?;
+    Ok(Box::new(alloc, stripe)?)
+}
+
+/// The stripes at the opening.
 fn new_stripes(alloc: Global, setup: &Setup, stripes: u32) -> Result<Vec<Box<Stripe>>, NoMemory>
     ensures count { IfOk result (λ all. length all.items ≡ stripes) }
     ensures opened { IfOk result (λ all. AreOpened setup.now all.items) }
 {
     let mut all = Vec::with_capacity(alloc, stripes as usize)?;
     for _stripe in 0..stripes {
-        let stripe = Stripe::new(alloc, setup.config)?;
-        all.push(Box::new(alloc, stripe)?)?;
+        let stripe = new_stripe(alloc, setup)?;
+        all.push(stripe)?;
     }
     Ok(all)
 }
