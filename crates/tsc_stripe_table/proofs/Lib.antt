@@ -6,3 +6,4 @@ pub mod Acquiring
 pub mod Releasing
 pub mod Seeing
 pub mod Openings
+pub mod Endings

@@ -38,9 +38,7 @@ pub fn close(table: StripeTable, all: Participant, mut caches: Vec<Cache>) -> Ve
     let mut stripe = 0;
     while stripe < closed.slot_count() {
         let laid = Box::into_inner(closed.take(stripe));
-        let Ok(()) = caches.push(laid.cache) else {
-            unreachable!()
-        };
+        caches.push_reserved(laid.cache);
         stripe += 1;
     }
     closed.free();
