@@ -508,6 +508,17 @@ impl Cache {
         self.pages.figures(self.floor, self.rotations)
     }
 
+    /// How many bytes the blocks of memory have that hold the pages: what the allocator was asked
+    /// for, for lists by their capacities. The cache's own fields are not among them. A page that
+    /// another cache shares counts in each of the two. The number stays at 2^64 - 1 once it is
+    /// there.
+    ///
+    /// It costs a step for each leaf of each page, of which a leaf has 1 to 64 end keys, and takes
+    /// no memory. No clause can say what memory is taken: tests compare it with what was asked for.
+    pub fn memory(&self) -> u64 {
+        self.pages.memory()
+    }
+
     /// Whether an Add of this span and value would rotate the pages, at whatever moment. It costs a
     /// search for each end key where the front page is nearly full.
     pub fn would_rotate(&self, span: &Span, value: Value) -> bool

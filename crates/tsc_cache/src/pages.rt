@@ -15,7 +15,7 @@ use crate::page_stack::{PageStack, Pages};
 use crate::{Config, Figures};
 use std::alloc::Global;
 use std::sync::Arc;
-use tsc_cache_pages::OlderPages;
+use tsc_cache_pages::{OlderPages, page_memory};
 use tsc_page::{IntervalPage, Page};
 use tsc_span::{AddSpan, Cut, Key, KeyRef, Span, SpanRef};
 use tsc_time::{NoMemory, Timestamp, Value, ratchet};
@@ -193,6 +193,11 @@ impl Pages {
             figures = figures.with(page);
         }
         figures
+    }
+
+    /// How many bytes the blocks of memory have that hold all pages.
+    pub(crate) fn memory(&self) -> u64 {
+        page_memory(&self.front).saturating_add(self.older.memory())
     }
 }
 

@@ -7,4 +7,4 @@
 
 mod older;
 
-pub use older::OlderPages;
+pub use older::{OlderPages, page_memory};

@@ -5,8 +5,10 @@ ghost use Rattle.tsc_cache_pages.specs.Chunks.{in_chunk, in_chunks, joined, AreF
 use std::alloc::Global;
 use std::collections::VecDeque;
 use std::marker::Model;
+use std::mem::size_of;
 use std::sync::Arc;
 use tsc_page::Page;
+use tsc_page_nodes::memory::{list_memory, shared_memory};
 use tsc_time::NoMemory;
 
 /// How many pages a chunk has.
@@ -154,6 +156,21 @@ impl OlderPages {
         }
     }
 
+    /// How many bytes the blocks of memory have that hold the pages, those that were dropped and
+    /// lie in a chunk still among them. It costs what [`page_memory`] does for each page.
+    pub fn memory(&self) -> u64 {
+        let chunks = list_memory(self.chunks.capacity(), size_of::<Arc<Chunk>>());
+        let mut bytes = shared_memory(size_of::<Chunks>())
+            .saturating_add(chunks)
+            .saturating_add(chunk_memory(&self.newest));
+        for chunk in self.chunks.iter() {
+            bytes = bytes
+                .saturating_add(shared_memory(size_of::<Chunk>()))
+                .saturating_add(chunk_memory(chunk));
+        }
+        bytes
+    }
+
     /// Whether the chunks have no page that was dropped.
     fn is_trimmed(&self) -> bool {
         let Some(oldest) = self.chunks.back() else {
@@ -162,6 +179,21 @@ impl OlderPages {
         self.chunks.len() == self.chunked.div_ceil(CHUNK)
             && oldest.len() == (self.chunked - 1) % CHUNK + 1
     }
+}
+
+/// How many bytes the block of memory has that holds a page, and all blocks below it. It costs a
+/// step for each leaf. No clause can say what memory is taken.
+pub fn page_memory(page: &Page) -> u64 {
+    shared_memory(size_of::<Page>()).saturating_add(page.memory())
+}
+
+/// How many bytes the blocks of memory have that hold a list of pages, and these.
+fn chunk_memory(pages: &Chunk) -> u64 {
+    let mut bytes = list_memory(pages.capacity(), size_of::<Arc<Page>>());
+    for page in pages {
+        bytes = bytes.saturating_add(page_memory(page));
+    }
+    bytes
 }
 
 /// The page at a position in chunks.

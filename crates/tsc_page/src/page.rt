@@ -231,6 +231,15 @@ impl Page {
         self.tree.key_above(cut)
     }
 
+    /// How many bytes the blocks of memory have that hold what is on the page: what the allocator
+    /// was asked for. A block that a copy of the page shares counts in full. It costs a step for
+    /// each leaf, and takes no memory. The number stays at 2^64 - 1 once it is there.
+    ///
+    /// No clause can say what memory is taken.
+    pub fn memory(&self) -> u64 {
+        self.tree.memory()
+    }
+
     /// How many nodes a leaf has, from the first one in the order of keys on; `None` past the last.
     /// A page keeps its nodes in leaves, each of 1 to 64, and copies of a page share the leaves in
     /// which they don't differ.

@@ -55,6 +55,17 @@ impl Root {
         }
     }
 
+    /// How many bytes the blocks of memory have that hold what lies below the root, but for the
+    /// keys themselves.
+    pub(crate) fn memory(&self) -> u64 {
+        match self {
+            Root::One(subtrees) => subtrees::memory(subtrees),
+            Root::Two(subtrees) => subtrees::memory(subtrees),
+            Root::Three(subtrees) => subtrees::memory(subtrees),
+            Root::Four(subtrees) => subtrees::memory(subtrees),
+        }
+    }
+
     /// Whether this is a key that has no node.
     pub(crate) fn is_new(&self, key: &KeyRef<'_>) -> bool
         requires root { IsOrderedRoot self.now }

@@ -12,6 +12,7 @@ use crate::insertion::Insertion;
 use crate::root::Root;
 use std::alloc::Global;
 use std::marker::Model;
+use tsc_page_nodes::memory::keys_memory;
 use tsc_page_nodes::{Growth, KeyInsertion, PrefixedCut, SearchKey};
 use tsc_span::{Cut, Key, KeyRef};
 use tsc_time::{NoMemory, Value};
@@ -62,6 +63,13 @@ impl Tree {
         ensures { result ≡ self.now.bytes }
     {
         self.bytes
+    }
+
+    /// How many bytes the blocks of memory have that hold the tree's nodes.
+    pub(crate) fn memory(&self) -> u64 {
+        self.root
+            .memory()
+            .saturating_add(keys_memory(self.count, self.bytes))
     }
 
     /// How many nodes a leaf has.

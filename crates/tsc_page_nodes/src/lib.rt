@@ -17,6 +17,7 @@
 mod insertion;
 mod interval_page;
 pub mod laws;
+pub mod memory;
 mod nodes;
 mod prefix;
 mod prefix_search;

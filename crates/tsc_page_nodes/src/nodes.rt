@@ -14,12 +14,14 @@ mod lists;
 mod new_keys;
 
 use crate::insertion::{KeyInsertion, PrefixedInsertion, SearchKey};
+use crate::memory::{list_memory, shared_memory};
 use crate::nodes::changes::{insert, insert_between, own_keys, raise_values, reserve, split};
 use crate::nodes::lists::Lists;
 use crate::nodes::new_keys::{NewKeys, moved};
 use crate::prefix::{KeyPrefix, PrefixedBytes, PrefixedCut, PrefixedKey};
 use std::alloc::{AllocError, Global};
 use std::marker::Model;
+use std::mem::size_of;
 use std::sync::Arc;
 use tsc_span::{Key, KeyRef};
 use tsc_time::{NoMemory, Timestamp, Value};
@@ -87,6 +89,15 @@ impl Nodes {
         ensures { result ≡ length self.now }
     {
         self.values.len()
+    }
+
+    /// How many bytes the blocks of memory have that hold the two lists, by their capacities; those
+    /// of the keys themselves are [`keys_memory`](crate::memory::keys_memory). It costs no step for
+    /// a node. No clause can say what memory is taken.
+    pub fn memory(&self) -> u64 {
+        shared_memory(size_of::<Vec<PrefixedKey>>())
+            .saturating_add(list_memory(self.keys.capacity(), size_of::<PrefixedKey>()))
+            .saturating_add(list_memory(self.values.capacity(), size_of::<Values>()))
     }
 
     /// The nodes to be read.

@@ -6,10 +6,13 @@ ghost use Rattle.tsc_page_tree.specs.Lazy.{with_lazy, all_joint};
 ghost use Rattle.tsc_page_tree.specs.Trees.{branch_nodes, branch_sizes, branch_copied, AreFewSubtrees, AreBranchSubtrees, IsWholeBranch, IsBranchCopy, IsTold, items_in, sibling_nodes, AreWholeSiblings};
 
 use crate::aggregate::Aggregate;
+use crate::leaf::{Leaf, SUBTREE_BYTES};
 use crate::subtrees::Subtree;
 use crate::{across, subtrees};
 use std::alloc::{AllocError, Global};
+use std::mem::size_of;
 use std::sync::Arc;
+use tsc_page_nodes::memory::shared_memory;
 use tsc_page_nodes::{
     Growth, KeyInsertion, KeyPrefix, Prefixed, PrefixedCut, PrefixedInsertion, SearchKey,
 };
@@ -26,6 +29,8 @@ pub struct Branch<P> {
     pub(crate) aggregate: Aggregate,
     pub(crate) subtrees: Arc<Vec<P>>,
 }
+
+const _: () = prove!(size_of::<Branch<Leaf>>() == SUBTREE_BYTES);
 
 impl<P: Subtree> Branch<P> {
     fn new(alloc: Global, subtrees: Vec<P>) -> Result<Branch<P>, NoMemory>
@@ -154,6 +159,10 @@ impl<P: Subtree> Subtree for Branch<P> {
 
     fn leaf_len(&self, place: usize) -> Result<usize, usize> {
         subtrees::leaf_len(&self.subtrees, place)
+    }
+
+    fn memory(&self) -> u64 {
+        shared_memory(size_of::<Vec<Leaf>>()).saturating_add(subtrees::memory(&self.subtrees))
     }
 
     fn raise_whole(&mut self, value: Value) {

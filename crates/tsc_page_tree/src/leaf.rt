@@ -10,7 +10,9 @@ ghost use Rattle.tsc_page_tree.specs.Trees.{nodes_in, leaf_nodes, leaf_sizes, le
 use crate::aggregate::Aggregate;
 use crate::subtrees::Subtree;
 use std::alloc::{AllocError, Global};
+use std::mem::size_of;
 use std::sync::Arc;
+use tsc_page_nodes::memory::shared_memory;
 use tsc_page_nodes::{
     Growth, KeyInsertion, KeyPrefix, Nodes, Prefixed, PrefixedCut, PrefixedInsertion, SearchKey,
 };
@@ -27,6 +29,9 @@ pub struct Leaf {
     pub(crate) aggregate: Aggregate,
     pub(crate) nodes: Arc<Nodes>,
 }
+
+/// How many bytes a subtree has in its list, of whichever kind it is.
+pub(crate) const SUBTREE_BYTES: usize = size_of::<Leaf>();
 
 impl Leaf {
     /// A leaf of nodes, without a lazy value.
@@ -115,6 +120,10 @@ impl Subtree for Leaf {
             Some(rest) => Err(rest),
             None => Ok(self.nodes.len()),
         }
+    }
+
+    fn memory(&self) -> u64 {
+        shared_memory(size_of::<Nodes>()).saturating_add(self.nodes.memory())
     }
 
     fn raise_whole(&mut self, value: Value) {

@@ -17,11 +17,13 @@ mod joints;
 pub(crate) mod places;
 
 use crate::across;
+use crate::leaf::SUBTREE_BYTES;
 pub use crate::subtrees::joints::join_between;
 use crate::subtrees::joints::leaves_out;
 use crate::subtrees::places::{goes_on, stops_at_next, subtree_at};
 pub(crate) use crate::subtrees::places::{first_starts_above, first_starts_below};
 use std::alloc::Global;
+use tsc_page_nodes::memory::list_memory;
 use tsc_page_nodes::{
     Growth, KeyInsertion, KeyPrefix, Prefixed, PrefixedCut, PrefixedInsertion, SearchKey,
 };
@@ -81,6 +83,10 @@ pub trait Subtree: Clone + Drop + Prefixed {
     /// How many nodes a leaf has; `Err` tells how many places behind the last leaf this is.
     fn leaf_len(&self, place: usize) -> Result<usize, usize>
         ensures { TellsSize (sizes self.now) place result };
+
+    /// How many bytes the blocks of memory have that hold what lies below the subtree, but for the
+    /// keys themselves. It costs a step for each leaf. No clause can say what memory is taken.
+    fn memory(&self) -> u64;
 
     /// Ratchets a value into all keys and gaps. It takes no memory, and looks into nothing.
     fn raise_whole(&mut self, value: Value)
@@ -364,6 +370,16 @@ pub fn leaf_len<P: Subtree>(subtrees: &[P], place: usize) -> Result<usize, usize
         }
     }
     Err(place)
+}
+
+/// How many bytes the blocks of memory have that hold a list of subtrees and what lies below them,
+/// but for the keys themselves.
+pub fn memory<P: Subtree>(subtrees: &Vec<P>) -> u64 {
+    let mut bytes = list_memory(subtrees.capacity(), SUBTREE_BYTES);
+    for subtree in subtrees {
+        bytes = bytes.saturating_add(subtree.memory());
+    }
+    bytes
 }
 
 /// Adds in place to the subtree in which the span lies, or over several subtrees, as
