@@ -21,8 +21,7 @@ use Rattle.tsc_stripe_table.specs.Stripes.{Terms, stripe_count, IsStateOn}
 use Rattle.tsc_stripe_table.specs.Rule.{LaidStripe, keeping, one_if, lock_word, times_held, holders}
 use Rattle.tsc_stripe_table.specs.Rule.{Descends, StripesRule, IsHome}
 use Rattle.tsc_stripe_table.specs.Steps.{At, acquired, acquires, Acquires, AgreeOn, state_in}
-use Rattle.tsc_stripe_table.specs.Steps.{with_state, holds_of}
-use Rattle.tsc_stripe_table.specs.Participating.{KeepsOne, IsStripe}
+use Rattle.tsc_stripe_table.specs.Participating.{CanAcquire}
 use Rattle.tsc_stripe_table.proofs.Moves.{Board, Homes, Moved, moved_kept, of_one, only_fits}
 use Rattle.tsc_stripe_table.proofs.Moves.{busy_in, same_number, other_number, held_once}
 use Rattle.tsc_stripe_table.proofs.Parts.{same_or_not, held_cons, busy_set, busy_else, word_set}
@@ -188,15 +187,15 @@ module _ (setup : Terms) (slots : ℕ) (st : Step LaidStripe) (id : ℕ) (t : Te
 
 -- the same, as the calls have it
 pub acquire_at : (key : Terms) (slots : ℕ) (st : Step LaidStripe) (id : ℕ) (me : At)
-    (stripe word : ℕ) → word ≡ lock_word stripe → st.word ≡ lock_word stripe → KeepsOne me.0
-    → IsStripe me.0 stripe → Descends (stripe ∷ holds_of me.0)
-    → Allows (StripesRule key) slots id me word (λ n. either (n == 0) 1 n) (acquires st me)
-acquire_at key slots st id me stripe word is its one low order =
+    (stripe word : ℕ) → word ≡ lock_word stripe → st.word ≡ lock_word stripe
+    → CanAcquire me.0 stripe → Allows (StripesRule key) slots id me word (λ n. either (n == 0) 1 n) (acquires st me)
+acquire_at key slots st id me stripe word is its can =
     subst (λ (i : ℕ). Allows (StripesRule key) slots id me i (λ n. either (n == 0) 1 n)
     (acquires st me)) (sym is)
     (subst (λ (v : Knowledge). Allows (StripesRule key) slots id (v, me.1) (lock_word stripe)
-    (λ n. either (n == 0) 1 n) (acquires st (v, me.1))) (sym one)
-    (acquire_allowed key slots st id me.0.setup (state_in me.0) me.1 stripe low order its))
+    (λ n. either (n == 0) 1 n) (acquires st (v, me.1))) (sym can.one)
+    (acquire_allowed key slots st id me.0.setup (state_in me.0) me.1 stripe can.is_stripe can.order
+    its))
 
 -- what a word tells that was found
 pub is_none : (n : ℕ) → (n == 0) ≡ true → n ≡ 0
@@ -211,8 +210,7 @@ pub acquired_then : (st : Step LaidStripe) (me me' : At) (found stripe : ℕ)
     × Acquires me.0 me'.0 stripe x.value.cache × (me'.1 ≡ (stripe, x) ∷ me.1)
 acquired_then st me me' found stripe is done none =
     let got = done.0 none in
-    let same : got.0 ≡ stripe = omega (arith, is, got.2) in
-    (
+    let same : got.0 ≡ stripe = omega (arith, is, got.2) in (
       got.1,
       subst (λ (i : ℕ). Acquires me.0 me'.0 i got.1.value.cache) same got.3,
       subst (λ (i : ℕ). me'.1 ≡ (i, got.1) ∷ me.1) same got.4,

@@ -141,11 +141,11 @@ lock_is_free setup s k id v stripe at none long =
     elim (same_or_not (slice_index s.words (lock_word stripe)) 0) [
       | inl free ↦ free
       | inr busy ↦ (let there = some_part (holders stripe) s.views (λ e. omega (
-          arith,
-          e,
-          k.locks stripe,
-          busy_word (slice_index s.words (lock_word stripe)) busy,
-        )) in
+        arith,
+        e,
+        k.locks stripe,
+        busy_word (slice_index s.words (lock_word stripe)) busy,
+      )) in
           let u : Knowledge = there.1 in
           let theirs = some_part (λ (q : SeatState). times_held stripe q.holds) u.states there.3 in
           let p : SeatState = theirs.1 in

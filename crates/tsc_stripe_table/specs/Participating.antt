@@ -4,11 +4,10 @@ use Rattle.atomic_table.specs.Seated.{TableId}
 use Rattle.atomic_table.specs.Table.{rest}
 use Rattle.atomic_table.specs.declared.shared.Seat.{Seat as TableSeat}
 use Rattle.tsc_span.specs.Span.{KeyBytes}
-use Rattle.tsc_cache.specs.History.{History, CanBeAdded}
-use Rattle.tsc_stripe_table.specs.declared.table.SeatState.{SeatState}
+use Rattle.tsc_cache.specs.History.{CanBeAdded}
 use Rattle.tsc_stripe_table.specs.declared.table.Knowledge.{Knowledge}
 use Rattle.tsc_stripe_table.specs.Stripes.{stripe_count, IsStateOn}
-use Rattle.tsc_stripe_table.specs.Rule.{LaidStripe, word_count, keeping}
+use Rattle.tsc_stripe_table.specs.Rule.{LaidStripe, word_count, keeping, Descends}
 use Rattle.tsc_stripe_table.specs.Steps.{At, state_in, with_state, number_of, seen_of, count_of}
 use Rattle.tsc_stripe_table.specs.Steps.{holds_of, reached_of, seated, front_of, earlier}
 use Rattle.tsc_stripe_table.specs.Steps.{first_state, mark_of, entry_of, IsCovered}
@@ -49,6 +48,12 @@ IsFront me = me ≡ (front_of me.0.setup me.0.front, [])
 -- a stripe of the table that this participant is of
 abbrev pub IsStripe : Knowledge → ℕ → Type 0
 IsStripe v stripe = stripe < stripe_count v.setup.bounds
+
+-- The seat may acquire the lock of a stripe of the table, which is above all that it holds.
+pub record CanAcquire (v : Knowledge) (stripe : ℕ) : Type 0 where
+  pub one : KeepsOne v
+  pub is_stripe : IsStripe v stripe
+  pub order : Descends (stripe ∷ holds_of v)
 
 -- The seat acquired the lock of a stripe last, and has that stripe in hand.
 pub record HasStripe (me : At) (stripe : ℕ) (x : LaidStripe) : Type 0 where

@@ -44,6 +44,4 @@ pub use fronts::{catch_up, new_front, see_front};
 pub use locking::{commit, is_free, release, release_seen, try_acquire};
 pub use opening::{deal, new_table};
 pub use stripe::{PendingAdd, Stripe};
-pub use table::{
-    Knowledge, OneHistory, Participant, SeatState, Setup, SharedStripes, StripeTable,
-};
+pub use table::{Knowledge, OneHistory, Participant, SeatState, Setup, SharedStripes, StripeTable};

@@ -1,12 +1,10 @@
 //! Acquiring the locks of stripes, and releasing them.
 ghost use Rattle.std.specs.Prelude.{◌≡◌, ◌∷◌, ◌<◌, true, false};
 ghost use Rattle.atomic_table.specs.Table.{rest};
-ghost use Rattle.tsc_stripe_table.specs.Stripes.{stripe_count};
-ghost use Rattle.tsc_stripe_table.specs.Rule.{LaidStripe, lock_word, Descends};
-ghost use Rattle.tsc_stripe_table.specs.Steps.{Acquires, Commits, state_in, with_state, holds_of};
+ghost use Rattle.tsc_stripe_table.specs.Rule.{LaidStripe, lock_word};
+ghost use Rattle.tsc_stripe_table.specs.Steps.{Acquires, Commits, state_in, with_state};
 ghost use Rattle.tsc_stripe_table.specs.Steps.{released, released_seen, made_in};
-ghost use Rattle.tsc_stripe_table.specs.Participating.{IsOf, KeepsOne, IsStripe};
-ghost use Rattle.tsc_stripe_table.specs.Participating.{CanRelease, CanCommit};
+ghost use Rattle.tsc_stripe_table.specs.Participating.{IsOf, CanAcquire, CanRelease, CanCommit};
 
 use crate::places::lock_word;
 use crate::steps::{Acquire, Commit, Release, ReleaseSeen};
@@ -17,9 +15,7 @@ use crate::table::{Participant, SharedStripes};
 #[inline]
 pub fn try_acquire(shared: &SharedStripes, who: &mut Participant, stripe: u32) -> bool
     requires of { IsOf who.old shared.now.table_id }
-    requires one { KeepsOne who.old.me.0 }
-    requires is_stripe { IsStripe who.old.me.0 stripe }
-    requires order { Descends (stripe ∷ holds_of who.old.me.0) }
+    requires can { CanAcquire who.old.me.0 stripe }
     ensures table { who.new.table_id ≡ who.old.table_id }
     ensures acquired { result ≡ true → (x : LaidStripe)
         × Acquires who.old.me.0 who.new.me.0 stripe x.value.cache

@@ -8,11 +8,11 @@ use Rattle.tsc_stripe_table.proofs.locking.try_acquire.Goals as goal
 pub compare_exchange-requires : goal.compare_exchange-requires
 compare_exchange-requires c = (
   c.requires.of.table,
-  omega (arith, c.lock_word.ensures.value, c.requires.of.sized.words, c.requires.is_stripe),
+  omega (arith, c.lock_word.ensures.value, c.requires.of.sized.words, c.requires.can.is_stripe),
   acquire_at c.args.shared.now.key c.args.shared.now.table_id.slots
       (step c.args.shared.now.table_id.slots c.lock_word.result 0 1 maybe.none) c.args.who.now.id
       c.args.who.now.me c.args.stripe c.lock_word.result c.lock_word.ensures.value
-      c.lock_word.ensures.value c.requires.one c.requires.is_stripe c.requires.order,
+      c.lock_word.ensures.value c.requires.can,
 )
 
 pub returns-clause-acquired : goal.returns-clause-acquired
