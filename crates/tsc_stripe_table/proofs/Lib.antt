@@ -7,5 +7,4 @@ pub mod Releasing
 pub mod Seeing
 pub mod Openings
 pub mod Endings
-pub mod Crossing
 pub mod PieceExamples
