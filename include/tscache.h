@@ -28,8 +28,9 @@
  * may be made at once. The trap: an own answer at 30 hides a read of somebody else at 20, so that
  * a write at 25 is never let pass because the answer is its own.
  *
- * Each function that is declared here is proved, over whatever numbers and bytes it is given, to
- * return and to do what is said of it, as long as the caller keeps to this:
+ * Each function of the library but `tsc_built` is proved, over whatever numbers and bytes it is
+ * given, to return and to keep its contract, which docs/PROOFS.md sets beside what is tested alone.
+ * Those that are written out below are C, and tested. All that holds if the caller keeps to this:
  *
  *   - A `tsc_store` begins as TSC_STORE_INIT, and only these functions change it. What it leads to
  *     is the library's: no one else reads, writes or frees it. A store may be moved (the old
