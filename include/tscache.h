@@ -374,11 +374,11 @@ uint32_t tsc_open_shared(tsc_store *store, uint32_t page_first, uint32_t page_ma
  * before the first lookup: where one is refused the seat has seen no more than before.
  *
  * Adds come one after another. An Add tries `tries` times to acquire the lock that another seat's
- * Add may hold, and looks as often at each seat that is inside a lookup. Meanwhile `tsc_seat_add`
- * asks the seat that holds the lock, which may make the Add as well. If others are in the way each
- * time, the Add is refused with TSC_BUSY, and may be tried again. Take 64 tries. After TSC_BUSY,
- * let other threads run (`sched_yield`, `thrd_yield`), and try again. With 0 tries no Add would
- * ever be made: TSC_TRIES says so, before anything else of the call is looked at but its handle.
+ * Add may hold, and looks as often at each seat that is inside a lookup. If others are in the way
+ * each time, the Add is refused with TSC_BUSY, and may be tried again. Take 64 tries. After
+ * TSC_BUSY, let other threads run (`sched_yield`, `thrd_yield`), and try again. With 0 tries no Add
+ * would ever be made: TSC_TRIES says so, before anything else of the call is looked at but its
+ * handle.
  * TSC_FULL means that `limit` Adds were made. `place_in_history` is the Add's position among all
  * Adds, from 0 on. Lookups wait for nobody, and are refused as those of `tsc_get_max` are. `seen`
  * is the number of Adds that the seat has seen then, which never sinks. */

@@ -1,10 +1,15 @@
 # The words of the command `tscache`, for the checkout's launcher and for an installed command.
 #
 # A script that takes them in sets `version` (as `tscache 0.1.0`), `formats` (the page on traces,
-# logs and faults), `cost` (what a proof takes, or nothing where there is none to make) and
-# `statuses` (the script's own, or nothing). Its function `tell_build` prints what the command
-# `version` tells.
+# logs and faults) and `cost` (what a proof takes, or nothing where there is none to make). Its
+# function `tell_build` prints what the command `version` tells.
 
+# The statuses of the launcher itself: 0 to 5 are the program's.
+statuses="${cost:+    69  Python is missing
+    70  nothing could be built
+    73  nothing can be written to the checkout
+    74  the disk is full
+    127  the toolchain is missing}"
 usage='usage: tscache replay FILE, run FILE or check FILE LOG'
 
 say() { printf 'tscache: %s\n' "$*" >&2; }
@@ -198,18 +203,9 @@ name_lost_files() {
     fi
 }
 
-# run PROGRAM WORD..: answers by a program, so that a signal to this script ends both, and says
-# where a refusal is explained. (A command that runs beside the shell gets no input unless it is
-# handed some.)
+# run PROGRAM WORD..: answers by a program, and says where a refusal is explained.
 run() {
-    for name in HUP INT QUIT TERM; do trap "pass_on $name" "$name"; done
-    if { true 8<&0; } 2>/dev/null; then
-        exec 8<&0
-        "$@" <&8 8<&- &
-    else
-        "$@" <&- &
-    fi
-    wait "$!"
+    waited "$@"
     status=$?
     if [ "$status" -eq 1 ]; then
         explained="$formats, \"Why a trace is refused\", says what each fault means"
@@ -219,11 +215,30 @@ run() {
     exit "$status"
 }
 
-# pass_on SIGNAL: ends the program, and then this script as the signal would have ended it.
+# waited COMMAND..: runs a command so that a signal to this script ends both, and gives its status.
+# (One that runs beside the shell gets no input unless it is handed some.)
+waited() {
+    for name in HUP INT QUIT TERM; do trap "pass_on $name" "$name"; done
+    if { true 8<&0; } 2>/dev/null; then
+        exec 8<&0
+        "$@" <&8 8<&- &
+    else
+        "$@" <&- &
+    fi
+    wait "$!"
+}
+
+# pass_on SIGNAL: ends the command, by force where it is still there after four seconds, and then
+# this script as the signal would have ended it.
 pass_on() {
     trap '' HUP INT QUIT TERM
-    kill "$!" 2>/dev/null
-    wait "$!" 2>/dev/null
+    [ -z "${!-}" ] || {
+        kill "$!"
+        turns=40
+        while kill -0 "$!" && [ $((turns -= 1)) -gt 0 ]; do sleep 0.1; done
+        kill -KILL "$!"
+        wait "$!"
+    } 2>/dev/null
     trap - "$1"
     kill -s "$1" "$$"
 }

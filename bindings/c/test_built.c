@@ -1,4 +1,4 @@
-/* Tests what tsc_built tells, by what test-c-library hands in: VERSION and KIT as texts, NUMBER as
+/* Tests what tsc_built tells, by what `scripts/test library` hands in: VERSION and KIT as texts, NUMBER as
  * TSC_VERSION has it, and PROVED as a bool. At the end it says how many tests passed and failed. */
 #include <stdio.h>
 #include <string.h>

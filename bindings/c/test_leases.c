@@ -1,5 +1,5 @@
 /* Tests of the calls with which a lease goes on, and of those that ask whether a write may be made, through the header alone. The script
- * test-c-library builds and runs it. Linked with -Wl,--wrap=malloc,--wrap=realloc, so that each request for memory can be refused in
+ * `scripts/test library` builds and runs it. Linked with -Wl,--wrap=malloc,--wrap=realloc, so that each request for memory can be refused in
  * turn. */
 #include "tscache.h"
 #include <inttypes.h>

@@ -557,6 +557,12 @@ static void play(FILE *file, uint32_t seats)
         }
         if (!is_played)
             continue;
+        if (strcmp(l.word[0], "seat") == 0 && l.calls > 2) {
+            t.turn = (uint32_t)strtoul(l.word[1], NULL, 10);
+            memmove(l.word, l.word + 2, (size_t)(l.words - 2) * sizeof *l.word);
+            l.words -= 2;
+            l.calls -= 2;
+        }
         char told[128] = "refused", wanted[128] = "";
         t.is_right = true;
         call(&t, &l, told);

@@ -1,4 +1,4 @@
-/* Tests of the calls from bytes to texts, through the header alone. The script test-c-library builds and runs it, with EXAMPLES as the
+/* Tests of the calls from bytes to texts, through the header alone. The script `scripts/test library` builds and runs it, with EXAMPLES as the
  * folder of the traces and logs of the repository. Linked with -Wl,--wrap=malloc,--wrap=realloc, so that each request for memory can be
  * refused in turn. */
 #include "tscache.h"

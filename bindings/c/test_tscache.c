@@ -1,4 +1,4 @@
-/* Tests of libtscache through its header alone. The script test-c-library builds and runs it. Linked with
+/* Tests of libtscache through its header alone. The script `scripts/test library` builds and runs it. Linked with
  * -Wl,--wrap=malloc,--wrap=realloc, so that each request for memory can be refused in turn.
  *
  * With a word after its name it measures, and tests nothing. */

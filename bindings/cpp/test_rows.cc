@@ -412,13 +412,17 @@ void play(std::size_t seats, Counts &counts)
     for (int number = 1; std::getline(file, line); number++) {
         const std::size_t equals = line.find(" =");
         std::istringstream text(line.substr(0, equals));
-        const Words words{std::istream_iterator<std::string>(text), {}};
+        Words words{std::istream_iterator<std::string>(text), {}};
         if (words.empty() || line[0] == '#')
             continue;
         if (equals == line.npos) { // the name of a case
             table = Table(seats);
             is_played = words[0] != (seats == 0 ? "seats" : "cache");
         } else if (is_played) {
+            if (words[0] == "seat") {
+                table.turn = std::stoull(words.at(1));
+                words.erase(words.begin(), words.begin() + 2);
+            }
             const std::string answer = played(table, words);
             const bool is_right = " = " + answer == line.substr(equals);
             (is_right ? counts.passed : counts.failed)++;

@@ -175,6 +175,10 @@ func (p *table) added(place uint64, a Added, err error) (string, error) {
 }
 
 func (p *table) call(words []string) (string, error) {
+	if words[0] == "seat" {
+		p.turn = int(number(words[1], 16)) + len(p.seats) - 1
+		words = words[2:]
+	}
 	op, rest := words[0], words[1:]
 	switch {
 	case op == "add":

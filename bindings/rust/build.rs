@@ -13,7 +13,7 @@ const KNOWN: [&str; 5] =
     ["/usr/local/lib", "/usr/lib", "/usr/lib64", "/lib", "/usr/lib/x86_64-linux-gnu"];
 
 const ASK: &str = "set TSCACHE_DIR to PREFIX/lib of an installed release, or to the OUT of \
-                   scripts/build-c-library";
+                   scripts/build library";
 
 /// What the answer depends on, beside the library itself.
 const ASKED: [&str; 6] = [

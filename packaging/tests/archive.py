@@ -5,6 +5,8 @@ import re
 import tarfile
 import tempfile
 
+from parts.measure.gate import measured
+
 from cases import BUILT_FILES, HERE, LINK, RUNS, STRICT
 from cases import files_below, read, run, text_of, write
 
@@ -74,9 +76,8 @@ def built(cases, top, commit, is_proved):
     cases.expect("BUILT: whether it is proved", lines["proved"], proved)
     gate = re.compile(r"\d+ minutes on two processors when last measured .*")
     cases.expect("BUILT: the gate", lines["gate"], gate)
-    minutes = lines["gate"].split()[0]
-    proofs = " ".join(text_of(f"{HERE}/docs/PROOFS.md").replace("*", "").split())
-    cases.expect("docs/PROOFS.md says so", f"takes {minutes} minutes by the clock" in proofs)
+    gate = measured(text_of(f"{HERE}/docs/PROOFS.md"))
+    cases.expect("docs/PROOFS.md says so", lines["gate"].split()[0], gate.minutes)
     found = [it for it in files_below(top) if it != "BUILT"]
     wanted = "".join(f"{hashlib.sha256(read(f'{top}/{it}')).hexdigest()}  {it}\n" for it in found)
     cases.expect("BUILT: the checksums", sums, wanted)

@@ -6,6 +6,8 @@ import re
 import shlex
 import shutil
 
+from parts.repository import anchors
+
 from cases import LINK, RUNS
 from cases import append, files_below, mode_of, read, run, text_of, tree, write
 
@@ -173,9 +175,3 @@ def links(cases, what, top):
             elif anchor and anchor not in anchors(text_of(f"{top}/{place}")):
                 lost.append(f"{it}: {target}")
     cases.expect(f"the links of the documents of {what}", (lost, count > 50), ([], True))
-
-
-def anchors(text):
-    """The anchor of each heading of a text, as the forges make them."""
-    heads = re.findall(r"^#+ +(.*?)\s*$", text, re.M)
-    return {re.sub(r"[^\w\- ]", "", head).lower().replace(" ", "-") for head in heads}

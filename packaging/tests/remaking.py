@@ -69,7 +69,7 @@ def other_clone(work, clone):
 
 def packed_elsewhere(cases, work, other, env, made, name, commit):
     """A second release of the commit, with other settings; and one that calls itself proved."""
-    words = "umask 077; scripts/release --unproved ../again && scripts/release ../proved"
+    words = "umask 077; scripts/build release --unproved ../again && scripts/build release ../proved"
     status, told = run("sh", "-c", words, cwd=other, env=env)
     cases.expect("two more releases are made", (status, told if status else ""), (0, ""))
     for path in made:
@@ -90,7 +90,7 @@ def packed_elsewhere(cases, work, other, env, made, name, commit):
 
 def changed_meanwhile(cases, work, other, env):
     """A checkout that is another one at the end of a release than it was at its beginning."""
-    told = "release: the checkout was changed meanwhile, so nothing is released"
+    told = "build release: the checkout was changed meanwhile, so nothing is released"
     commit = f"git {WHO} commit -q --allow-empty -m another"
     top = shlex.quote(other)
     for what, command, back in (
@@ -98,7 +98,7 @@ def changed_meanwhile(cases, work, other, env):
         ("a text that is changed", f"echo >>{top}/README.md", "git checkout -q README.md"),
         ("another commit", f"cd {top} && {commit}", f"git reset -q --soft {env['COMMIT']}"),
     ):
-        words = ["scripts/release", "--unproved", f"{work}/none"]
+        words = ["scripts/build", "release", "--unproved", f"{work}/none"]
         status, text = run(*words, cwd=other, env={**env, "MEANWHILE": f"({command})"})
         got = status, text.splitlines()[-1:], os.listdir(f"{work}/none")
         cases.expect(f"meanwhile, {what}", got, (70, [told], []))
@@ -106,13 +106,13 @@ def changed_meanwhile(cases, work, other, env):
 
 
 def library_folder(cases, work, other, env):
-    """What `build-c-library` leaves in a folder that has files of its names."""
+    """What `scripts/build library` leaves in a folder that has files of its names."""
     out = f"{work}/library"
     headers = os.listdir(f"{other}/include")
     files = ["libtscache.a", "libtscache.so", "libtscache.so.0", "tscache-shared.pc", "tscache.pc"]
     for it in (*headers, *files, "tscache.h.part"):
         write(f"{out}/{it}", "another one\n")
-    build = ["scripts/build-c-library", "--unproved", out]
+    build = ["scripts/build", "library", "--unproved", out]
     with open(f"{out}/libtscache.so.0", "rb") as mapped:
         status, first = run(*build, cwd=other, env=env)[0], tree(out)
         cases.expect("what a running program has mapped stays", mapped.read(), b"another one\n")
@@ -168,7 +168,7 @@ def commits(cases, work, other, env):
         ),
     ):
         run("sh", "-c", before, cwd=other)
-        build = ["scripts/build-c-library", "--unproved", out]
+        build = ["scripts/build", "library", "--unproved", out]
         status = run(*build, cwd=other, env={**env, "MEANWHILE": meanwhile})[0]
         line = f"{version}|{wanted}|{kit}|unproved\n" if status == 0 else status
         told_by_library(cases, what, out, out, line)

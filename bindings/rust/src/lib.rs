@@ -38,6 +38,12 @@ pub struct Time {
 
 impl Time {
     /// The time of these parts. Calls refuse it with [`Error::Time`] where one is too large.
+    ///
+    /// ```
+    /// use tscache::{Cache, Config, Error, Time};
+    /// let too_late = Config { low_water: Time::new(1 << 63, 0), ..Config::default() };
+    /// assert_eq!(Cache::open(&too_late).err(), Some(Error::Time));
+    /// ```
     #[inline]
     #[must_use = "a time alone changes nothing"]
     pub const fn new(wall: u64, logical: u32) -> Time {
@@ -152,6 +158,13 @@ pub enum Span<'a> {
 
 impl<'a> Span<'a> {
     /// From one key to another that is excluded.
+    ///
+    /// ```
+    /// use tscache::Span;
+    /// let (from, to): (&[u8], &[u8]) = (b"a", b"c");
+    /// let range = Span::Range { from, to, exclude_from: false, exclude_to: true };
+    /// assert_eq!(Span::until(b"a", b"c"), range);
+    /// ```
     #[inline]
     #[must_use = "a span alone adds nothing and asks nothing"]
     pub const fn until(from: &'a [u8], to: &'a [u8]) -> Span<'a> {

@@ -159,6 +159,16 @@ impl Cache {
 
 impl Seat {
     /// As [`Cache::may_write`], by what a lookup of the seat answers. It waits for nobody.
+    ///
+    /// ```
+    /// use tscache::{Config, Error, Shared, Span, Time, Value};
+    /// let (_shared, mut seats) = Shared::open(&Config::default(), 2, u64::MAX)?;
+    /// let (key, reader, writer, at) = (Span::Point(b"a"), [0x11; 16], [0x22; 16], Time::new(20, 0));
+    /// seats[0].add(&key, Value { time: at, owner: Some(reader) }, at, 64)?;
+    /// assert!(seats[1].may_write(&key, at, reader)?);
+    /// assert!(!seats[1].may_write(&key, at, writer)?);
+    /// # Ok::<(), Error>(())
+    /// ```
     #[inline]
     #[must_use = "a write may be made only where this says so"]
     pub fn may_write(&mut self, span: &Span<'_>, at: Time, by: [u8; 16]) -> Result<bool, Error> {
@@ -166,6 +176,16 @@ impl Seat {
     }
 
     /// As [`Cache::may_write_all`], by what lookups of the seat answer, one after another.
+    ///
+    /// ```
+    /// use tscache::{Config, Error, Shared, Span, Time, Value};
+    /// let (_shared, mut seats) = Shared::open(&Config::default(), 2, u64::MAX)?;
+    /// let (spans, at) = ([Span::Point(b"a"), Span::Point(b"b")], Time::new(20, 0));
+    /// seats[0].add(&spans[1], Value { time: at, owner: None }, at, 64)?;
+    /// assert!(seats[1].may_write_all(&spans[..1], at, [0x22; 16])?);
+    /// assert!(!seats[1].may_write_all(&spans, at, [0x22; 16])?);
+    /// # Ok::<(), Error>(())
+    /// ```
     #[inline]
     #[must_use = "a write may be made only where this says so"]
     pub fn may_write_all(

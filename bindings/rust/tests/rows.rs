@@ -219,6 +219,12 @@ impl Table {
 
     fn call(&mut self, words: &[&str]) -> String {
         match words {
+            ["seat", number, call @ ..] => {
+                if let Table::Seats { seats, turn, .. } = self {
+                    *turn = number.parse::<usize>().unwrap() + seats.len() - 1;
+                }
+                self.call(call)
+            }
             ["add", span, at, by, now] => {
                 let (span, value, now) = (keys(span), value(at, by), time(now));
                 self.add(

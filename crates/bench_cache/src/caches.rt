@@ -1,12 +1,10 @@
 //! What is measured on caches of several pages.
-use crate::figure::{Figure, Least, ROUNDS, Rounds, Spread};
-use crate::keys::{At, Keys, PLACES, WIDTH};
+use crate::figure::{Figure, Least, ROUNDS};
+use crate::keys::{At, Keys};
 use crate::subject::{Subject, value_at};
-use crate::turns::{AddLast, Board, Call, Course, LATE, Lookup, Plan, time_calls};
+use crate::turns::{AddLast, Board, Call, Course, LATE, Plan, time_calls};
 use std::alloc::Global;
-use std::time::Instant;
-use tsc_cache::{Cache, Config, Mark, TimestampCache};
-use tsc_span::Span;
+use tsc_cache::{Cache, Config, TimestampCache};
 use tsc_time::Timestamp;
 
 /// The operations on a cache, in the order of their rows, each with the row of the one on a page
@@ -22,25 +20,8 @@ pub static CACHE_OPERATIONS: [(&str, usize); 8] = [
     ("add of a new key, with rotations", 0),
 ];
 
-/// What is measured by the next version, which takes the place of the one before it. Each is
-/// compared with the first.
-pub static BATCH_OPERATIONS: [(&str, usize); 3] = [
-    ("next with a key", 0),
-    ("next_all of 64 keys", 0),
-    ("next_all of 64 keys side by side", 0),
-];
-
-/// How many marks a batch has.
-pub const MARKS: u32 = 64;
-
 /// How many pages the caches have that are measured.
 pub static PAGES: [u32; 3] = [1, 4, 17];
-
-/// How many pages a cache has that is compared with one of a single page.
-pub const MANY: u32 = 17;
-
-/// What is looked up in both, and how many nodes wide it is.
-pub static STOPPING: [(&str, u32); 2] = [("lookup of a key", 0), ("lookup of 16 nodes", WIDTH)];
 
 /// How many pages are filled while the oldest ones are dropped.
 const ROTATIONS: u32 = 2;
@@ -69,14 +50,6 @@ static NEXT: Course = Course {
 static RISING: Course = Course {
     steps: &[(5, Call::Lookup, At::Keys), (6, Call::Lookup, At::Ranges)],
     at_once: true,
-    ..Course::RISING
-};
-
-/// Adds of [`PLACES`] known keys by the next version.
-static ONE_BY_ONE: Course = Course {
-    steps: &[(0, Call::Next, At::Keys)],
-    first: LATE,
-    step: 0,
     ..Course::RISING
 };
 
@@ -160,96 +133,4 @@ fn rotate(rt: &HostRuntime, cache: &mut Cache, front: Keys) -> Option<Figure> {
         all = all.and(time_calls::<Cache, AddLast>(rt, plan, cache, &keys)?);
     }
     Some(all)
-}
-
-/// Adds known keys of a cache of one page by the next version: one at a time, and [`MARKS`] at a
-/// time from all over the page, and that are next to one another.
-pub fn measure_batches(rt: &HostRuntime, nodes: u32, turns: u32) -> Option<Least> {
-    let mut board = Board::new(Keys::new(nodes, 0).places(rt.alloc())?);
-    let marks = marks_on(rt.alloc(), board.spans(At::Keys))?;
-    let row = marks_on(rt.alloc(), board.spans(At::Row))?;
-    let mut newest = filled(rt.alloc(), Keys::new(nodes, 0), 1, false)?;
-    for _ in 0..turns {
-        board.go(rt, &ONE_BY_ONE, 1, &mut newest);
-        board.keep(1, in_batches(rt, &mut newest, &marks));
-        board.keep(2, in_batches(rt, &mut newest, &row));
-    }
-    board.end(true)
-}
-
-/// Each of the spans with a late value.
-pub fn marks_on(alloc: Global, spans: &[Span]) -> Option<Vec<Mark>> {
-    let value = value_at(LATE);
-    let mut marks = Vec::with_capacity(alloc, spans.len()).ok()?;
-    for span in spans {
-        let span = span.try_copy().ok()?;
-        marks.push(Mark { span, value }).ok()?;
-    }
-    Some(marks)
-}
-
-/// Adds the marks, of which there are [`PLACES`], [`MARKS`] at a time, and puts the next version in
-/// the place of the cache.
-fn in_batches(rt: &HostRuntime, newest: &mut Cache, marks: &[Mark]) -> Option<Figure> {
-    let start = Instant::now(rt).ok()?;
-    for batch in marks.chunks(MARKS as usize) {
-        let Ok((next, added)) = newest.next_all(batch, Timestamp::ZERO) else {
-            return None;
-        };
-        *newest = next;
-        if !added.kept {
-            return None;
-        }
-    }
-    Figure::since(rt, start, u64::from(PLACES / MARKS))
-}
-
-/// Looks up spans of a width, in caches whose newer pages have later times, in [`ROUNDS`] rounds,
-/// and gives what lookups that stop at the newest of [`MANY`] pages took as a percentage of those
-/// in a single page. Each round makes both caches anew, and every second round the larger one
-/// first, since it matters where in memory a page lies.
-pub fn measure_stops(rt: &HostRuntime, nodes: u32, width: u32, turns: u32) -> Option<Spread> {
-    let in_single = Keys::new(nodes, 0).spans(rt.alloc(), PLACES, width)?;
-    let in_many = Keys::new(nodes, MANY - 1).spans(rt.alloc(), PLACES, width)?;
-    let mut percents: Rounds = [0; 9];
-    let mut single_first = true;
-    for percent in &mut percents {
-        *percent = if single_first {
-            let (single, many) = measure_pair(rt, nodes, turns, (1, &in_single), (MANY, &in_many))?;
-            many.percent_of(single)
-        } else {
-            let (many, single) = measure_pair(rt, nodes, turns, (MANY, &in_many), (1, &in_single))?;
-            many.percent_of(single)
-        };
-        single_first = !single_first;
-    }
-    Some(Spread::of(percents))
-}
-
-/// How many pages a cache has, and what is looked up in its newest page.
-type Side<'a> = (u32, &'a [Span]);
-
-/// Makes both caches, and tells what lookups in each took, turn by turn.
-fn measure_pair(
-    rt: &HostRuntime,
-    nodes: u32,
-    turns: u32,
-    first: Side<'_>,
-    second: Side<'_>,
-) -> Option<(Figure, Figure)> {
-    let plan = Plan {
-        times: 1,
-        first: 0,
-        step: 0,
-    };
-    let mut one = filled(rt.alloc(), Keys::new(nodes, 0), first.0, true)?;
-    let mut other = filled(rt.alloc(), Keys::new(nodes, 0), second.0, true)?;
-    let (mut in_one, mut in_other) = (Some(Figure::NONE), Some(Figure::NONE));
-    for _ in 0..turns {
-        let told = time_calls::<Cache, Lookup>(rt, plan, &mut one, first.1);
-        in_one = Figure::of_both(in_one, told);
-        let told = time_calls::<Cache, Lookup>(rt, plan, &mut other, second.1);
-        in_other = Figure::of_both(in_other, told);
-    }
-    in_one.zip(in_other)
 }

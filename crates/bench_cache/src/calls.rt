@@ -6,7 +6,6 @@ use crate::keys::{Keys, PLACES};
 use crate::subject::{Subject, value_at};
 use std::sync::Wait;
 use std::time::Instant;
-use tsc_cache::Mark;
 use tsc_shared::{Seat, SharedCache};
 use tsc_span::Span;
 use tsc_time::{Timestamp, Value, ratchet};
@@ -14,19 +13,21 @@ use tsc_time::{Timestamp, Value, ratchet};
 /// Multiplied by this, the numbers of 100 calls in a row spread the lookups among them.
 const SPREAD: u64 = 37;
 
-/// What a seat does again and again.
+/// How many calls are made between two looks at the clock.
+const CHUNK: u64 = 256;
+
+/// For how many nanoseconds a thread makes calls whose rate is measured.
+const LONG_ENOUGH: u64 = 60_000_000;
+
+/// What is measured of the calls of a thread.
 #[derive(Clone, Copy)]
-pub enum Work {
-    /// Lookups, and Adds of keys that are there.
-    Calls,
-    /// Lookups, and Adds of keys that are there, of which each Add is timed by itself.
-    TimedAdds,
-    /// Lookups, and Adds of keys that are there, of which each lookup is timed by itself.
-    TimedLookups,
-    /// Adds of marks one at a time.
-    Marks,
-    /// Adds of several marks as a batch.
-    Batches,
+pub enum Measures {
+    /// What all calls of all threads take together.
+    Whole,
+    /// What each Add takes by itself.
+    EachAdd,
+    /// How many calls it makes in a second.
+    Rate,
 }
 
 /// What is measured: seats that make calls at one full page that they share, each in a thread of
@@ -35,18 +36,15 @@ pub enum Work {
 pub struct Trial {
     /// How many nodes the page has.
     pub nodes: u32,
-    /// How many bytes each key has before the 8 that differ.
-    pub prefix: u32,
     /// How many seats make calls.
     pub seats: u32,
     /// How many further seats the cache has, which make none.
     pub idle: u32,
     /// How many of 100 calls are lookups.
     pub lookups: u64,
-    /// How many calls each seat makes, or how often it adds all of its marks.
+    /// How many calls each seat makes.
     pub number: u64,
-    /// What each seat does.
-    pub work: Work,
+    pub measures: Measures,
 }
 
 /// How many seats make calls, and how many further ones make none; how many of 100 calls are
@@ -55,24 +53,20 @@ pub type Row = (u32, u32, u64, u32);
 
 impl Trial {
     /// The trial of a row.
-    pub fn new(nodes: u32, (seats, idle, lookups, turns): Row, work: Work) -> Trial {
+    pub fn new(nodes: u32, (seats, idle, lookups, turns): Row, measures: Measures) -> Trial {
         Trial {
             nodes,
-            prefix: 0,
             seats,
             idle,
             lookups,
             number: u64::from(PLACES) * u64::from(turns),
-            work,
+            measures,
         }
     }
 
     /// The keys of the page.
     pub fn keys(self) -> Keys {
-        Keys {
-            prefix: self.prefix,
-            ..Keys::new(self.nodes, 0)
-        }
+        Keys::new(self.nodes, 0)
     }
 
     /// How many calls all seats make.
@@ -109,20 +103,68 @@ impl Trial {
         (Timestamp::ZERO < latest.time()).then_some(())
     }
 
-    /// Makes the calls one after the other, and tells the nanoseconds of those that are timed.
-    pub fn time_all<S: Subject>(
+    /// Makes the calls of a thread, and gives what is measured of them: nothing, the nanoseconds of
+    /// each Add, or the rate. Seats begin at different places, so that they do not go over them
+    /// side by side.
+    pub fn measure<S: Subject>(
         self,
         rt: &HostRuntime,
         subject: &mut S,
         spans: &[Span],
+        seat: u32,
     ) -> Option<Vec<u64>> {
-        let of_lookups = matches!(self.work, Work::TimedLookups);
+        let first = u64::from(seat).wrapping_mul(u64::from(PLACES) / 8);
+        let mut told = Vec::new(rt.alloc());
+        match self.measures {
+            Measures::Whole => self.make_all(subject, spans)?,
+            Measures::EachAdd => return self.time_all(rt, subject, spans, first),
+            Measures::Rate => told.push(self.rate(rt, subject, spans, first)?).ok()?,
+        }
+        Some(told)
+    }
+
+    /// Makes calls from the one of number `first` on until it was long enough, and gives how many
+    /// that were in a second.
+    fn rate<S: Subject>(
+        self,
+        rt: &HostRuntime,
+        subject: &mut S,
+        spans: &[Span],
+        first: u64,
+    ) -> Option<u64> {
+        let mut latest = Value::unowned(Timestamp::ZERO);
+        let mut made: u64 = 0;
+        let mut figure = Figure::NONE;
+        let start = Instant::now(rt).ok()?;
+        for _ in 0..u64::MAX {
+            for i in 0..CHUNK {
+                let number = first.wrapping_add(made).wrapping_add(i);
+                latest = ratchet(latest, self.make(subject, spans, number)?).0;
+            }
+            made = made.saturating_add(CHUNK);
+            figure = Figure::since(rt, start, made)?;
+            if LONG_ENOUGH <= figure.nanoseconds {
+                break;
+            }
+        }
+        (Timestamp::ZERO < latest.time()).then_some(figure.per_second())
+    }
+
+    /// Makes the calls one after the other, and tells the nanoseconds of each Add.
+    fn time_all<S: Subject>(
+        self,
+        rt: &HostRuntime,
+        subject: &mut S,
+        spans: &[Span],
+        first: u64,
+    ) -> Option<Vec<u64>> {
         let mut times = Vec::with_capacity(rt.alloc(), self.number as usize).ok()?;
-        for number in 0..self.number {
+        for i in 0..self.number {
+            let number = first.wrapping_add(i);
             let start = Instant::now(rt).ok()?;
             self.make(subject, spans, number)?;
             let figure = Figure::since(rt, start, 1)?;
-            if self.looks_up(number) == of_lookups {
+            if !self.looks_up(number) {
                 times.push(figure.nanoseconds).ok()?;
             }
         }
@@ -151,33 +193,5 @@ impl<'a, R: Wait> Subject for Seated<'a, R> {
         self.shared
             .add(self.rt, &mut self.seat, span, value, now)
             .is_ok()
-    }
-}
-
-impl<'a, R: Wait> Seated<'a, R> {
-    /// Adds marks again and again, as a batch or one at a time.
-    pub fn add_often(&mut self, marks: &[Mark], trial: Trial) -> Option<()> {
-        for _ in 0..trial.number {
-            if !self.add_marks(marks, trial.work) {
-                return None;
-            }
-        }
-        Some(())
-    }
-
-    /// Adds marks once.
-    fn add_marks(&mut self, marks: &[Mark], work: Work) -> bool {
-        if let Work::Batches = work {
-            return self
-                .shared
-                .add_all(self.rt, &mut self.seat, marks, Timestamp::ZERO)
-                .is_ok();
-        }
-        for mark in marks {
-            if !self.make_add(&mark.span, mark.value, Timestamp::ZERO) {
-                return false;
-            }
-        }
-        true
     }
 }

@@ -35,14 +35,6 @@ impl Figure {
         }
     }
 
-    /// What two figures come to together, where there are both.
-    pub fn of_both(one: Option<Figure>, other: Option<Figure>) -> Option<Figure> {
-        match (one, other) {
-            (Some(one), Some(other)) => Some(one.and(other)),
-            _ => None,
-        }
-    }
-
     /// The one of two figures of equal operations in which they took less, or `other` where there
     /// is none so far.
     pub fn or_less(self, other: Figure) -> Figure {
@@ -116,10 +108,10 @@ impl Times {
 }
 
 /// The figures of some rows, of which each is an operation.
-pub type Least = [Figure; 13];
+pub type Least = [Figure; 12];
 
 /// The least figures of no turns.
-pub const NO_TURNS: Least = [Figure::NONE; 13];
+pub const NO_TURNS: Least = [Figure::NONE; 12];
 
 /// What is printed of operations.
 #[derive(Clone, Copy)]

@@ -45,8 +45,6 @@ pub enum At {
     Between,
     /// All keys, each once.
     All,
-    /// The first [`PLACES`] keys side by side, and those of a smaller page again from the first on.
-    Row,
 }
 
 /// The keys of a page. Those of the first 64 pages of a cache are different ones.
@@ -58,8 +56,6 @@ pub struct Keys {
     pub page: u32,
     /// How many bytes each key has before the 8 that differ, 32 at the most.
     pub prefix: u32,
-    /// How far each span of a list is from the one before it.
-    pub stride: u64,
 }
 
 impl Keys {
@@ -69,7 +65,6 @@ impl Keys {
             nodes,
             page,
             prefix: 0,
-            stride: STRIDE,
         }
     }
 
@@ -95,6 +90,16 @@ impl Keys {
         Span::of(first, next).ok()
     }
 
+    /// Keys that part the page into so many equal parts: one less than there are parts.
+    pub fn bounds(self, alloc: Global, parts: u32) -> Option<Vec<Key>> {
+        let mut bounds = Vec::new(alloc);
+        for i in 1..u64::from(parts) {
+            let place = i.saturating_mul(u64::from(self.nodes)) / u64::from(parts).max(1);
+            bounds.push(self.key(alloc, place)?).ok()?;
+        }
+        Some(bounds)
+    }
+
     /// The size of a page that has room for `nodes` of these keys and no more.
     pub fn page_size(self) -> u32
         ensures at_least { 64 ≤ result }
@@ -113,7 +118,7 @@ impl Keys {
         let starts = u64::from(self.nodes.saturating_sub(width)).max(1);
         let mut spans = Vec::with_capacity(alloc, count as usize).ok()?;
         for i in 0..u64::from(count) {
-            let from = i.wrapping_mul(self.stride) % starts;
+            let from = i.wrapping_mul(STRIDE) % starts;
             spans.push(self.span(alloc, from, width)?).ok()?;
         }
         Some(spans)
@@ -130,7 +135,6 @@ impl Keys {
             (self, COPIES, 0),
             (Keys { page, ..self }, COPIES, 0),
             (self, self.nodes, 0),
-            (Keys { stride: 1, ..self }, PLACES, 0),
         ];
         let mut places = Vec::with_capacity(alloc, lists.len()).ok()?;
         for (keys, count, width) in lists {

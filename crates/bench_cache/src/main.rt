@@ -6,14 +6,8 @@
 //! operation grew from the first size to the last.
 //!
 //! `bench NODES..` does that, and then looks up and adds in caches. It prints too what each
-//! operation took as a percentage of what it took on the page. It compares lookups that stop at the
-//! newest of 17 pages with those in a single page, turn by turn. Then it measures a shared cache,
-//! as `bench shared NODES..` does alone.
-//!
-//! `bench batch NODES..` adds known keys to the next version of a cache of one page, and prints
-//! what 64 of them as a batch take as a percentage of what one of them takes, from all over the
-//! page and side by side. Then 1 and 4 seats of a shared cache add 64 of them one at a time, and as
-//! a batch.
+//! operation took as a percentage of what it took on the page. Then it measures a shared cache, as
+//! `bench shared NODES..` does alone.
 //!
 //! `bench bytes NODES..` looks up and adds known keys of a cache of one page, with keys and an
 //! owner that are given as bytes, and then adds them by a start and an end, and ranges of two
@@ -25,14 +19,12 @@
 //! costs it. Beside each figure stands that of one thread that makes these calls to a cache of its
 //! own. Of several rounds it prints the one in the middle, the least and the greatest.
 //!
-//! `bench long NODES..` does the first part of `bench shared` with keys of 40 bytes.
+//! `bench longest NODES..` has 8 seats make a million Adds, and lookups between them. It times each
+//! Add by itself, and prints what half of them took at the most, 99 of 100, and the longest.
 //!
-//! `bench times NODES..` times each Add of 1, 2 and 4 seats by itself, and each lookup where there
-//! are no Adds, with keys of 8 and of 40 bytes, and prints what half of these took at the most, 99
-//! of 100, and the longest.
-//!
-//! `bench longest NODES..` has 8 seats make a million Adds, and lookups between them, and prints of
-//! the Adds what `bench times` prints.
+//! `bench forms NODES..` has 1, 2 and 4 threads call each form of the cache: one lock, 64 stripes,
+//! two copies, and a cache a thread. It prints how many calls they made in a second, and then what
+//! Adds of 4 and of 8 threads took: half of them, 99 of 100, and the longest.
 //!
 //! `bench` alone makes a short run and prints no times.
 #![tactic(auto)]
@@ -41,23 +33,21 @@ mod bytes;
 mod caches;
 mod calls;
 mod figure;
+mod forms;
 mod keys;
 mod pages;
 mod report;
 mod shared;
+mod striped;
 mod subject;
 mod turns;
 
 use crate::bytes::{BYTES_OPERATIONS, measure_bytes};
-use crate::caches::{
-    BATCH_OPERATIONS, CACHE_OPERATIONS, MANY, PAGES, STOPPING, measure_batches, measure_cache,
-    measure_stops,
-};
-use crate::figure::{Least, NO_TURNS, ROUNDS, Table, Tells, print_lines};
+use crate::caches::{CACHE_OPERATIONS, PAGES, measure_cache};
+use crate::figure::{Least, NO_TURNS, Table, Tells, print_lines};
+use crate::forms::{print_forms, short_run_forms};
 use crate::pages::{PAGE_OPERATIONS, measure_page};
-use crate::report::{
-    LONG, print_all_times, print_crowds, print_longest, print_marks, print_shared, short_run_shared,
-};
+use crate::report::{print_longest, print_shared, short_run_shared};
 use anyhow::{Context, Result, ensure};
 use std::alloc::Global;
 use std::env;
@@ -76,14 +66,8 @@ const TURNS: u32 = 25;
 /// The turns on a cache whose lookups look into many pages.
 const CACHE_TURNS: u32 = 5;
 
-/// The turns of batches.
-const BATCH_TURNS: u32 = 100;
-
 /// The turns with keys that are given as bytes.
 const BYTES_TURNS: u32 = 225;
-
-/// The turns where two caches are compared.
-const STOP_TURNS: u32 = 40;
 
 /// The kinds of keys, of which all of the second kind share their first 16 bytes.
 const SHORT_KEYS: &str = "keys of 8 bytes";
@@ -97,12 +81,10 @@ const GIVEN_UP: &str = "no memory, or a call was refused, or what was measured c
 #[derive(Clone, Copy)]
 enum Word {
     Pages,
-    Batch,
     Bytes,
     Shared,
-    Long,
-    Times,
     Longest,
+    Forms,
     All,
 }
 
@@ -133,12 +115,10 @@ fn run<R: Threads + Wait + Sync>(host: &HostRuntime, rt: &R, words: &[String]) -
 fn word_of(text: &str) -> Word {
     match text {
         "pages" => Word::Pages,
-        "batch" => Word::Batch,
         "bytes" => Word::Bytes,
         "shared" => Word::Shared,
-        "long" => Word::Long,
-        "times" => Word::Times,
         "longest" => Word::Longest,
+        "forms" => Word::Forms,
         _ => Word::All,
     }
 }
@@ -190,12 +170,10 @@ fn measure_size<R: Threads + Wait + Sync>(
     let done = match word {
         Word::Pages => return measure_pages(host, nodes, TURNS, Tells::Each),
         Word::All => return measure_all(host, rt, nodes),
-        Word::Batch => print_batches(host, rt, nodes),
         Word::Bytes => print_bytes(host, nodes),
         Word::Shared => print_shared(host, rt, nodes),
-        Word::Long => print_crowds(host, rt, nodes, LONG),
-        Word::Times => print_all_times(host, rt, nodes),
         Word::Longest => print_longest(host, rt, nodes),
+        Word::Forms => print_forms(host, rt, nodes),
     };
     done.and(Some(NO_PAGES))
 }
@@ -205,22 +183,8 @@ fn measure_size<R: Threads + Wait + Sync>(
 fn measure_all<R: Threads + Wait + Sync>(host: &HostRuntime, rt: &R, nodes: u32) -> Option<Pages> {
     let pages = measure_pages(host, nodes, TURNS, Tells::Each)?;
     measure_caches(host, nodes, CACHE_TURNS, Tells::Beside, &pages.0)?;
-    print_stops(host, nodes)?;
     print_shared(host, rt, nodes)?;
     Some(pages)
-}
-
-/// Prints what batches take, on one thread and then at seats of a shared cache.
-fn print_batches<R: Threads + Wait + Sync>(host: &HostRuntime, rt: &R, nodes: u32) -> Option<()> {
-    let least = measure_batches(host, nodes, BATCH_TURNS)?;
-    let table = Table {
-        tells: Tells::Beside,
-        names: &BATCH_OPERATIONS,
-        least: &least,
-        others: &least,
-    };
-    print_cache(host, 1, nodes, table)?;
-    print_marks(host, rt, nodes)
 }
 
 /// Prints what calls take that are given bytes.
@@ -298,24 +262,11 @@ fn print_cache(rt: &HostRuntime, pages: u32, nodes: u32, table: Table<'_>) -> Op
     print_lines(rt, &head, table)
 }
 
-/// Prints what lookups that stop at the newest of many pages take beside those in a single page.
-fn print_stops(rt: &HostRuntime, nodes: u32) -> Option<()> {
-    for (name, width) in STOPPING {
-        let percents = measure_stops(rt, nodes, width, STOP_TURNS)?;
-        println!(rt;
-            "{MANY} x {nodes} nodes, {name} that stops at the newest page, beside a single page in {ROUNDS} rounds: {percents} %"
-        ).ok()?;
-    }
-    Some(())
-}
-
 /// Makes each operation once at each place of a small page and of small caches, and prints no
 /// times.
 fn short_run<R: Threads + Wait + Sync>(host: &HostRuntime, rt: &R) -> Option<()> {
     measure_pages(host, SMALLEST, 1, Tells::Count)?;
     measure_caches(host, SMALLEST, 1, Tells::Count, &NO_TURNS)?;
-    for (_, width) in STOPPING {
-        measure_stops(host, SMALLEST, width, 1)?;
-    }
-    short_run_shared(host, rt, SMALLEST)
+    short_run_shared(host, rt, SMALLEST)?;
+    short_run_forms(host, rt, SMALLEST)
 }

@@ -6,7 +6,7 @@ use tsc_page::{IntervalPage, Page};
 use tsc_time::Timestamp;
 
 /// The operations on a page, in the order of their rows, each with its row.
-pub static PAGE_OPERATIONS: [(&str, usize); 13] = [
+pub static PAGE_OPERATIONS: [(&str, usize); 12] = [
     ("add of a new key", 0),
     ("lookup of a key", 1),
     ("lookup of 16 nodes", 2),
@@ -19,7 +19,6 @@ pub static PAGE_OPERATIONS: [(&str, usize); 13] = [
     ("next with a key", 9),
     ("next with a new key", 10),
     ("lookup of a key by its bytes", 11),
-    ("lookup of a key that is copied first", 12),
 ];
 
 /// Adds of all keys, and then late ones to copies of the page, which share all else with it, and
@@ -52,13 +51,9 @@ static TURN: Course = Course {
     ..Course::RISING
 };
 
-/// Lookups of the keys by their bytes, and by copies of these, in turns of their own, in which
-/// nothing else is done.
+/// Lookups of the keys by their bytes, in turns of their own, in which nothing else is done.
 static BY_BYTES: Course = Course {
-    steps: &[
-        (11, Call::LookupByBytes, At::Keys),
-        (12, Call::LookupByCopy, At::Keys),
-    ],
+    steps: &[(11, Call::LookupByBytes, At::Keys)],
     ..Course::RISING
 };
 

@@ -1,9 +1,9 @@
 //! Seats of a shared cache, each in a thread of its own.
 ghost use Rattle.std.specs.Prelude.{◌≡◌, IfSome, All};
 
-use crate::caches::{MARKS, filled, marks_on};
-use crate::calls::{Seated, Trial, Work};
-use crate::figure::{Figure, Times};
+use crate::caches::filled;
+use crate::calls::{Seated, Trial};
+use crate::figure::Figure;
 use crate::keys::{Keys, PLACES};
 use crate::subject::value_at;
 use std::alloc::Global;
@@ -15,36 +15,26 @@ use tsc_shared::{Seat, SharedCache};
 use tsc_span::Span;
 use tsc_time::Timestamp;
 
-/// What the calls of all seats took in one round, and those among them that were timed by
-/// themselves.
+/// What the calls of all seats took in one round, and what was measured of each seat's calls.
 pub fn by_seats<R: Threads + Wait + Sync>(
     host: &HostRuntime,
     rt: &R,
     trial: Trial,
-) -> Option<(Figure, Times)> {
-    let spans = spans_of(host.alloc(), trial)?;
+) -> Option<(Figure, Vec<u64>)> {
+    let spans = trial.keys().spans(host.alloc(), PLACES, 0)?;
     let (shared, seats) = open_filled(host, rt, trial)?;
     call_all(host, rt, &shared, seats, &spans, trial)
 }
 
 /// What as many calls took on one thread, to a cache of its own.
 pub fn by_one(rt: &HostRuntime, trial: Trial) -> Option<Figure> {
-    let spans = spans_of(rt.alloc(), trial)?;
+    let spans = trial.keys().spans(rt.alloc(), PLACES, 0)?;
     let mut cache = filled(rt.alloc(), trial.keys(), 1, false)?;
     let start = Instant::now(rt).ok()?;
     for _ in 0..trial.seats {
         trial.make_all(&mut cache, &spans)?;
     }
     Figure::since(rt, start, trial.operations())
-}
-
-/// The places of a trial's calls, or those of its marks.
-fn spans_of(alloc: Global, trial: Trial) -> Option<Vec<Span>> {
-    let count = match trial.work {
-        Work::Calls | Work::TimedAdds | Work::TimedLookups => PLACES,
-        Work::Marks | Work::Batches => MARKS,
-    };
-    trial.keys().spans(alloc, count, 0)
 }
 
 /// A shared cache with a full page, and the seats that are to make calls. The idle ones are
@@ -92,7 +82,8 @@ fn fill<R: Wait>(alloc: Global, rt: &R, shared: &SharedCache, seat: &mut Seat, k
     is_full
 }
 
-/// Has each seat make its calls in a thread of its own, and tells what they took.
+/// Has each seat make its calls in a thread of its own, and tells what they took, and what was
+/// measured of them.
 fn call_all<R: Threads + Wait + Sync>(
     host: &HostRuntime,
     rt: &R,
@@ -100,7 +91,7 @@ fn call_all<R: Threads + Wait + Sync>(
     seats: Vec<Seat>,
     spans: &[Span],
     trial: Trial,
-) -> Option<(Figure, Times)>
+) -> Option<(Figure, Vec<u64>)>
     requires { All (λ seat. seat.cache ≡ shared.now) seats.items }
 {
     let start = Instant::now(host).ok()?;
@@ -112,17 +103,22 @@ fn call_all<R: Threads + Wait + Sync>(
         { call_seat(host, rt, shared, seat, spans, trial) },
     );
     let figure = Figure::since(host, start, trial.operations())?;
-    let mut times = Vec::new(host.alloc());
-    for one in told.ok()? {
-        for nanoseconds in one? {
-            times.push(nanoseconds).ok()?;
-        }
-    }
-    Some((figure, Times::of(times)))
+    Some((figure, gathered(host.alloc(), told.ok()?)?))
 }
 
-/// Makes the calls of a seat, and tells the nanoseconds of those that are timed. Tells nothing
-/// where one was refused, or where no value was met.
+/// What was measured of the calls of all threads, or nothing where one of them tells nothing.
+pub fn gathered(alloc: Global, told: Vec<Option<Vec<u64>>>) -> Option<Vec<u64>> {
+    let mut all = Vec::new(alloc);
+    for one in told {
+        for measured in one? {
+            all.push(measured).ok()?;
+        }
+    }
+    Some(all)
+}
+
+/// Makes the calls of a seat, and gives what is measured of them. Gives nothing where one was
+/// refused, or where no value was met.
 fn call_seat<R: Wait>(
     host: &HostRuntime,
     rt: &R,
@@ -133,11 +129,7 @@ fn call_seat<R: Wait>(
 ) -> Option<Vec<u64>>
     requires { seat.cache ≡ shared.now }
 {
+    let number = seat.number();
     let mut seated = Seated { rt, shared, seat };
-    match trial.work {
-        Work::Calls => trial.make_all(&mut seated, spans)?,
-        Work::TimedAdds | Work::TimedLookups => return trial.time_all(host, &mut seated, spans),
-        Work::Marks | Work::Batches => seated.add_often(&marks_on(host.alloc(), spans)?, trial)?,
-    }
-    Some(Vec::new(host.alloc()))
+    trial.measure(host, &mut seated, spans, number)
 }

@@ -2,9 +2,8 @@
 use crate::figure::{Figure, Least, NO_TURNS};
 use crate::keys::At;
 use crate::subject::{Subject, Versions, value_at};
-use std::alloc::Global;
 use std::time::Instant;
-use tsc_span::{Key, Span, SpanRef};
+use tsc_span::{Span, SpanRef};
 use tsc_time::{Timestamp, Value, ratchet};
 
 /// A late wall time.
@@ -15,7 +14,6 @@ pub const LATE: u64 = 4_294_967_295;
 pub enum Call {
     Lookup,
     LookupByBytes,
-    LookupByCopy,
     Add,
     Next,
 }
@@ -51,14 +49,14 @@ fn meet(latest: &mut Value, found: Value) -> bool {
 pub trait Operation<S> {
     /// Makes it at a place, and an Add at a wall time. It tells whether that was done, and joins
     /// what was found with the latest so far.
-    fn make(alloc: Global, subject: &mut S, span: &Span, wall: u64, latest: &mut Value) -> bool;
+    fn make(subject: &mut S, span: &Span, wall: u64, latest: &mut Value) -> bool;
 }
 
 /// A lookup.
-pub struct Lookup;
+struct Lookup;
 
 impl<S: Subject> Operation<S> for Lookup {
-    fn make(_alloc: Global, subject: &mut S, span: &Span, _wall: u64, latest: &mut Value) -> bool {
+    fn make(subject: &mut S, span: &Span, _wall: u64, latest: &mut Value) -> bool {
         meet(latest, subject.look_up(span))
     }
 }
@@ -67,28 +65,16 @@ impl<S: Subject> Operation<S> for Lookup {
 struct LookupByBytes;
 
 impl<S: Versions> Operation<S> for LookupByBytes {
-    fn make(_alloc: Global, subject: &mut S, span: &Span, _wall: u64, latest: &mut Value) -> bool {
+    fn make(subject: &mut S, span: &Span, _wall: u64, latest: &mut Value) -> bool {
         meet(latest, subject.look_up_in(&SpanRef::point(bytes_of(span))))
     }
 }
 
-/// A lookup of a key of which a span is made first, by a copy of its bytes.
-struct LookupByCopy;
-
-impl<S: Subject> Operation<S> for LookupByCopy {
-    fn make(alloc: Global, subject: &mut S, span: &Span, _wall: u64, latest: &mut Value) -> bool {
-        match Key::new(alloc, bytes_of(span)) {
-            Ok(copy) => meet(latest, subject.look_up(&Span::point(copy))),
-            Err(_) => false,
-        }
-    }
-}
-
 /// An Add without an owner.
-pub struct Add;
+struct Add;
 
 impl<S: Subject> Operation<S> for Add {
-    fn make(_alloc: Global, subject: &mut S, span: &Span, wall: u64, latest: &mut Value) -> bool {
+    fn make(subject: &mut S, span: &Span, wall: u64, latest: &mut Value) -> bool {
         *latest = value_at(wall);
         subject.make_add(span, *latest, Timestamp::ZERO)
     }
@@ -98,17 +84,17 @@ impl<S: Subject> Operation<S> for Add {
 pub struct AddLast;
 
 impl<S: Subject> Operation<S> for AddLast {
-    fn make(_alloc: Global, subject: &mut S, span: &Span, wall: u64, latest: &mut Value) -> bool {
+    fn make(subject: &mut S, span: &Span, wall: u64, latest: &mut Value) -> bool {
         *latest = value_at(wall);
         subject.make_add(span, *latest, Timestamp::MAX)
     }
 }
 
 /// An Add to the next version.
-pub struct Next;
+struct Next;
 
 impl<S: Versions> Operation<S> for Next {
-    fn make(_alloc: Global, subject: &mut S, span: &Span, wall: u64, latest: &mut Value) -> bool {
+    fn make(subject: &mut S, span: &Span, wall: u64, latest: &mut Value) -> bool {
         *latest = value_at(wall);
         subject.make_next(span, *latest, Timestamp::ZERO)
     }
@@ -122,13 +108,12 @@ pub fn time_calls<S, O: Operation<S>>(
     spans: &[Span],
 ) -> Option<Figure> {
     let operations = (spans.len() as u64).saturating_mul(u64::from(plan.times));
-    let alloc = rt.alloc();
     let mut latest = Value::unowned(Timestamp::ZERO);
     let start = Instant::now(rt).ok()?;
     for time in 0..plan.times {
         let mut wall = plan.first.saturating_add(u64::from(time));
         for span in spans {
-            if !O::make(alloc, subject, span, wall, &mut latest) {
+            if !O::make(subject, span, wall, &mut latest) {
                 return None;
             }
             wall = wall.saturating_add(plan.step);
@@ -240,7 +225,6 @@ impl Board {
                 let told = match call {
                     Call::Lookup => time_calls::<S, Lookup>(rt, plan, subject, spans),
                     Call::LookupByBytes => time_calls::<S, LookupByBytes>(rt, plan, subject, spans),
-                    Call::LookupByCopy => time_calls::<S, LookupByCopy>(rt, plan, subject, spans),
                     Call::Add => time_calls::<S, Add>(rt, plan, subject, spans),
                     Call::Next => time_calls::<S, Next>(rt, plan, subject, spans),
                 };

@@ -1,12 +1,19 @@
-//! The bank: a range that threads share, and a clock.
-use crate::accounts::{self, CASH, CURRENT, TELLERS};
-use anyhow::{Result, ensure};
+//! The bank: a range that threads share, a clock, and desks at which clients are served.
+ghost use Rattle.std.specs.Prelude.{◌≡◌, All, IfOk};
+ghost use Rattle.example_bank.specs.Replays.{CanBeReplayed};
+
+use crate::accounts::{self, TELLERS};
+use anyhow::{Context, Result, bail};
 use mvcc_range::{Outcome, RangeError, Row, Transaction, Write};
-use mvcc_shared::{Closed, NotCommitted, SharedRange};
+use mvcc_shared::{Client, Closed, Dealer, NotCommitted, SharedRange, laws};
 use std::alloc::Global;
+use std::marker::Model;
 use std::sync::Wait;
 use std::sync::atomic::{AtomicU64, Ordering};
 use timestamp_cache::{Config, Key, Span, Timestamp, Uuid};
+
+/// How many clients the bank has: one for each teller, and one that opens the accounts.
+const CLIENTS: u32 = TELLERS as u32 + 1;
 
 #[derive(Drop)]
 pub struct Bank {
@@ -15,26 +22,49 @@ pub struct Bank {
     clock: AtomicU64,
 }
 
+impl Model for Bank {
+    ghost use Rattle.mvcc_shared.specs.Clients.{SharedView};
+
+    ghost Value = { SharedView };
+
+    ghost view = { λ b. b.range };
+}
+
+/// Where a client of the bank is served.
+#[derive(Drop)]
+pub struct Desk<'a, R> {
+    pub rt: &'a R,
+    pub bank: &'a Bank,
+    pub client: Client,
+    ghost is: { client.range ≡ bank.now },
+}
+
 /// Small pages that are kept for some ticks of the clock, so that many are filled and dropped.
-fn config() -> Result<Config> {
+pub fn config() -> Result<Config> {
     Ok(Config::new(512, 1024, 2, 100, Timestamp::ZERO)?)
 }
 
 impl Bank {
-    /// A bank whose accounts have what they have at first.
-    pub fn open<R: Wait>(rt: &R, alloc: Global) -> Result<Bank> {
+    /// A bank without accounts, and the dealer of its clients.
+    pub fn open(alloc: Global) -> Result<(Bank, Dealer)>
+        ensures { IfOk result (λ opened. opened.1.range ≡ opened.0) }
+    {
+        let (range, dealer) = SharedRange::open(alloc, accounts::all(alloc), config()?, CLIENTS)?;
         let bank = Bank {
             alloc,
-            range: SharedRange::open(alloc, accounts::all(alloc), config()?)?,
+            range,
             clock: AtomicU64::new(1),
         };
-        let mut first = bank.begin();
-        for teller in 0..TELLERS {
-            bank.put(&mut first, accounts::cash(alloc, teller)?, Some(CASH))?;
-            bank.put(&mut first, accounts::current(alloc, teller)?, Some(CURRENT))?;
-        }
-        ensure!(bank.commit(rt, first)?, "the bank is not opened");
-        Ok(bank)
+        Ok((bank, dealer))
+    }
+
+    /// The next client.
+    pub fn deal(&self, dealer: &mut Dealer) -> Result<Client>
+        requires { dealer.old.range ≡ self.now }
+        ensures dealer { dealer.new.range ≡ dealer.old.range }
+        ensures client { IfOk result (λ client. client.range ≡ self.now) }
+    {
+        self.range.deal(dealer).context("all clients are dealt")
     }
 
     /// A time that no other call is given.
@@ -48,34 +78,6 @@ impl Bank {
         Transaction::new(self.alloc, now, Uuid::from_u128(u128::from(now.wall())))
     }
 
-    /// The rows of a span, or none where the transaction has to begin again.
-    pub fn rows<R: Wait>(
-        &self,
-        rt: &R,
-        transaction: &mut Transaction,
-        span: &Span,
-    ) -> Result<Option<Vec<Row>>> {
-        match self.range.read(rt, transaction, span, self.now()) {
-            Ok(rows) => Ok(Some(rows)),
-            Err(RangeError::TooEarly) => Ok(None),
-            Err(error) => Err(error.into()),
-        }
-    }
-
-    /// What an account has, which is nothing where there is none, or none where the transaction has
-    /// to begin again.
-    pub fn amount<R: Wait>(
-        &self,
-        rt: &R,
-        transaction: &mut Transaction,
-        key: Key,
-    ) -> Result<Option<i64>> {
-        match self.rows(rt, transaction, &Span::point(key))? {
-            Some(rows) => Ok(Some(accounts::sum_of(&rows)?)),
-            None => Ok(None),
-        }
-    }
-
     /// An account is to have so much, or to be there no more.
     pub fn put(&self, transaction: &mut Transaction, key: Key, amount: Option<i64>) -> Result<()> {
         let content = match amount {
@@ -86,32 +88,88 @@ impl Bank {
         Ok(())
     }
 
+    /// The range and its log, once all its clients are handed in. The transactions of the log are
+    /// serializable as textbooks have it.
+    pub fn close(self, dealer: Dealer, clients: Vec<Client>) -> Result<Closed>
+        requires dealer { dealer.range ≡ self }
+        requires clients { All (λ client. client.range ≡ self) clients.items }
+        ensures { IfOk result CanBeReplayed }
+    {
+        let Bank {
+            alloc: _,
+            range,
+            clock: _,
+        } = self;
+        laws::histories_run();
+        laws::textbook_serializable();
+        match range.close(dealer, clients) {
+            Ok(closed) => Ok(closed),
+            Err(_still_out) => bail!("a client is missing"),
+        }
+    }
+}
+
+impl<'a, R: Wait> Desk<'a, R> {
+    /// The rows of a span, or none where the transaction has to begin again.
+    pub fn rows(&mut self, transaction: &mut Transaction, span: &Span) -> Result<Option<Vec<Row>>>
+        ensures { self.new.bank ≡ self.old.bank }
+    {
+        let bank = self.bank;
+        let now = bank.now();
+        match bank
+            .range
+            .read(self.rt, &mut self.client, transaction, span, now)
+        {
+            Ok(rows) => Ok(Some(rows)),
+            Err(RangeError::TooEarly) => Ok(None),
+            Err(error) => Err(error.into()),
+        }
+    }
+
+    /// What an account has, which is nothing where there is none, or none where the transaction has
+    /// to begin again.
+    pub fn amount(&mut self, transaction: &mut Transaction, key: Key) -> Result<Option<i64>>
+        ensures { self.new.bank ≡ self.old.bank }
+    {
+        match self.rows(transaction, &Span::point(key))? {
+            Some(rows) => Ok(Some(accounts::sum_of(&rows)?)),
+            None => Ok(None),
+        }
+    }
+
     /// Whether a transaction commits, and need not begin again.
-    pub fn commit<R: Wait>(&self, rt: &R, transaction: Transaction) -> Result<bool> {
-        match self.range.commit(rt, transaction, self.now()) {
+    pub fn commit(&mut self, transaction: Transaction) -> Result<bool>
+        ensures { self.new.bank ≡ self.old.bank }
+    {
+        let bank = self.bank;
+        let now = bank.now();
+        match bank
+            .range
+            .commit(self.rt, &mut self.client, transaction, now)
+        {
             Ok(outcome) => Ok(matches!(outcome, Outcome::Committed(_))),
             Err(refused) => is_over(refused),
         }
     }
 
     /// A new lease takes over what a summary of a few marks tells.
-    pub fn hand_on<R: Wait>(&self, rt: &R) -> Result<()> {
-        self.range.hand_on(rt, config()?, 8, self.now())?;
+    pub fn hand_on(&mut self) -> Result<()>
+        ensures { self.new.bank ≡ self.old.bank }
+    {
+        let bank = self.bank;
+        let now = bank.now();
+        bank.range
+            .hand_on(self.rt, &mut self.client, config()?, 8, now)?;
         Ok(())
     }
 
     /// Drops versions that no transaction which begins now can see.
-    pub fn collect_garbage<R: Wait>(&self, rt: &R) {
-        self.range.collect_garbage(rt, self.now());
-    }
-
-    pub fn close(self) -> Closed {
-        let Bank {
-            alloc: _,
-            range,
-            clock: _,
-        } = self;
-        range.close()
+    pub fn collect_garbage(&mut self)
+        ensures { self.new.bank ≡ self.old.bank }
+    {
+        let bank = self.bank;
+        let now = bank.now();
+        bank.range.collect_garbage(self.rt, &mut self.client, now);
     }
 }
 

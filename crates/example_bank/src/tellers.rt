@@ -1,8 +1,11 @@
 //! What a teller does.
-use crate::accounts::{self, ALL, TELLERS};
-use crate::bank::Bank;
-use anyhow::Result;
+ghost use Rattle.std.specs.Prelude.{◌≡◌, IfOk};
+
+use crate::accounts::{self, ALL, CASH, CURRENT, TELLERS};
+use crate::bank::{Bank, Desk};
+use anyhow::{Result, ensure};
 use mvcc_range::Transaction;
+use mvcc_shared::Client;
 use std::sync::Wait;
 use std::thread;
 
@@ -49,41 +52,86 @@ enum Operation {
     Open,
 }
 
-/// A teller makes its transactions, each until it commits. The first teller hands the lease on in
-/// the middle, and the second one has old versions dropped.
-pub fn serve<R: Wait>(rt: &R, bank: &Bank, teller: usize) -> Result<Tally> {
-    let mut tally = Tally::NOTHING;
-    for number in 0..OPERATIONS {
-        if number == OPERATIONS / 2 {
-            tally = tally.plus(manage(rt, bank, teller)?);
-        }
-        tally = tally.plus(make(rt, bank, teller, number)?);
-    }
-    Ok(tally)
+/// A teller: its number, its client, and what it did.
+#[derive(Drop)]
+pub struct Teller {
+    pub number: usize,
+    pub client: Client,
+    pub tally: Tally,
 }
 
-fn manage<R: Wait>(rt: &R, bank: &Bank, teller: usize) -> Result<Tally> {
+/// A client opens the accounts, with what they have at first.
+pub fn open_accounts<R: Wait>(rt: &R, bank: &Bank, client: Client) -> Result<Client>
+    requires { client.range ≡ bank.now }
+    ensures { IfOk result (λ client. client.range ≡ bank.now) }
+{
+    let mut desk = Desk { rt, bank, client };
+    let mut first = bank.begin();
+    for teller in 0..TELLERS {
+        bank.put(&mut first, accounts::cash(bank.alloc, teller)?, Some(CASH))?;
+        bank.put(
+            &mut first,
+            accounts::current(bank.alloc, teller)?,
+            Some(CURRENT),
+        )?;
+    }
+    ensure!(desk.commit(first)?, "the bank is not opened");
+    Ok(desk.client)
+}
+
+/// A teller makes its transactions, each until it commits. The first teller hands the lease on in
+/// the middle, and the second one has old versions dropped.
+pub fn serve<R: Wait>(rt: &R, bank: &Bank, teller: Teller) -> Result<Teller>
+    requires { teller.client.range ≡ bank.now }
+    ensures { IfOk result (λ teller. teller.client.range ≡ bank.now) }
+{
+    let Teller {
+        number,
+        client,
+        mut tally,
+    } = teller;
+    let mut desk = Desk { rt, bank, client };
+    for turn in 0..OPERATIONS {
+        if turn == OPERATIONS / 2 {
+            tally = tally.plus(manage(&mut desk, number)?);
+        }
+        tally = tally.plus(make(&mut desk, number, turn)?);
+    }
+    let client = desk.client;
+    Ok(Teller {
+        number,
+        client,
+        tally,
+    })
+}
+
+fn manage<R: Wait>(desk: &mut Desk<'_, R>, teller: usize) -> Result<Tally>
+    ensures { desk.new.bank ≡ desk.old.bank }
+{
     let mut tally = Tally::NOTHING;
     if teller == 0 {
-        bank.hand_on(rt)?;
+        desk.hand_on()?;
         tally.leases = 1;
     } else if teller == 1 {
-        bank.collect_garbage(rt);
+        desk.collect_garbage();
         tally.collections = 1;
     }
     Ok(tally)
 }
 
 /// Makes a transaction until it commits.
-fn make<R: Wait>(rt: &R, bank: &Bank, teller: usize, number: usize) -> Result<Tally> {
+fn make<R: Wait>(desk: &mut Desk<'_, R>, teller: usize, number: usize) -> Result<Tally>
+    ensures { desk.new.bank ≡ desk.old.bank }
+{
     let operation = match number % 4 {
         0 => Operation::Transfer,
         1 => Operation::Audit,
         2 => Operation::Withdraw,
         _ => Operation::Open,
     };
+    let rt = desk.rt;
     for _ in rt.forever() {
-        if let Some(tally) = try_once(rt, bank, teller, operation)? {
+        if let Some(tally) = try_once(desk, teller, operation)? {
             return Ok(tally);
         }
         thread::yield_now();
@@ -93,17 +141,18 @@ fn make<R: Wait>(rt: &R, bank: &Bank, teller: usize, number: usize) -> Result<Ta
 
 /// What came of a transaction that committed.
 fn try_once<R: Wait>(
-    rt: &R,
-    bank: &Bank,
+    desk: &mut Desk<'_, R>,
     teller: usize,
     operation: Operation,
-) -> Result<Option<Tally>> {
-    let mut transaction = bank.begin();
-    let Some(tally) = operate(rt, bank, teller, operation, &mut transaction)? else {
+) -> Result<Option<Tally>>
+    ensures { desk.new.bank ≡ desk.old.bank }
+{
+    let mut transaction = desk.bank.begin();
+    let Some(tally) = operate(desk, teller, operation, &mut transaction)? else {
         return Ok(None);
     };
     thread::yield_now();
-    if !bank.commit(rt, transaction)? {
+    if !desk.commit(transaction)? {
         return Ok(None);
     }
     Ok(Some(Tally {
@@ -114,31 +163,34 @@ fn try_once<R: Wait>(
 
 /// What a transaction reads and is to write, or none where it has to begin again.
 fn operate<R: Wait>(
-    rt: &R,
-    bank: &Bank,
+    desk: &mut Desk<'_, R>,
     teller: usize,
     operation: Operation,
     transaction: &mut Transaction,
-) -> Result<Option<Tally>> {
+) -> Result<Option<Tally>>
+    ensures { desk.new.bank ≡ desk.old.bank }
+{
     match operation {
-        Operation::Transfer => transfer(rt, bank, teller, transaction),
-        Operation::Audit => audit(rt, bank, transaction),
-        Operation::Withdraw => withdraw(rt, bank, teller, transaction),
-        Operation::Open => open(rt, bank, teller, transaction),
+        Operation::Transfer => transfer(desk, teller, transaction),
+        Operation::Audit => audit(desk, transaction),
+        Operation::Withdraw => withdraw(desk, teller, transaction),
+        Operation::Open => open(desk, teller, transaction),
     }
 }
 
 /// Moves 10 from a teller's cash to that of the next one.
 fn transfer<R: Wait>(
-    rt: &R,
-    bank: &Bank,
+    desk: &mut Desk<'_, R>,
     teller: usize,
     transaction: &mut Transaction,
-) -> Result<Option<Tally>> {
+) -> Result<Option<Tally>>
+    ensures { desk.new.bank ≡ desk.old.bank }
+{
+    let bank = desk.bank;
     let next = teller.wrapping_add(1) % TELLERS;
-    let own = bank.amount(rt, transaction, accounts::cash(bank.alloc, teller)?)?;
+    let own = desk.amount(transaction, accounts::cash(bank.alloc, teller)?)?;
     thread::yield_now();
-    let other = bank.amount(rt, transaction, accounts::cash(bank.alloc, next)?)?;
+    let other = desk.amount(transaction, accounts::cash(bank.alloc, next)?)?;
     let (Some(own), Some(other)) = (own, other) else {
         return Ok(None);
     };
@@ -149,13 +201,16 @@ fn transfer<R: Wait>(
 }
 
 /// Adds up all accounts, among them those that others open meanwhile.
-fn audit<R: Wait>(rt: &R, bank: &Bank, transaction: &mut Transaction) -> Result<Option<Tally>> {
-    let Some(all) = bank.rows(rt, transaction, &accounts::all(bank.alloc))? else {
+fn audit<R: Wait>(desk: &mut Desk<'_, R>, transaction: &mut Transaction) -> Result<Option<Tally>>
+    ensures { desk.new.bank ≡ desk.old.bank }
+{
+    let bank = desk.bank;
+    let Some(all) = desk.rows(transaction, &accounts::all(bank.alloc))? else {
         return Ok(None);
     };
     thread::yield_now();
-    let first = bank.rows(rt, transaction, &accounts::pair(bank.alloc, 0)?)?;
-    let second = bank.rows(rt, transaction, &accounts::pair(bank.alloc, 2)?)?;
+    let first = desk.rows(transaction, &accounts::pair(bank.alloc, 0)?)?;
+    let second = desk.rows(transaction, &accounts::pair(bank.alloc, 2)?)?;
     let (Some(first), Some(second)) = (first, second) else {
         return Ok(None);
     };
@@ -173,15 +228,17 @@ fn audit<R: Wait>(rt: &R, bank: &Bank, transaction: &mut Transaction) -> Result<
 /// there. Two tellers of a pair who both take, each from its own account, would leave less than
 /// nothing.
 fn withdraw<R: Wait>(
-    rt: &R,
-    bank: &Bank,
+    desk: &mut Desk<'_, R>,
     teller: usize,
     transaction: &mut Transaction,
-) -> Result<Option<Tally>> {
-    let both = bank.rows(rt, transaction, &accounts::pair(bank.alloc, teller)?)?;
+) -> Result<Option<Tally>>
+    ensures { desk.new.bank ≡ desk.old.bank }
+{
+    let bank = desk.bank;
+    let both = desk.rows(transaction, &accounts::pair(bank.alloc, teller)?)?;
     thread::yield_now();
-    let own = bank.amount(rt, transaction, accounts::current(bank.alloc, teller)?)?;
-    let cash = bank.amount(rt, transaction, accounts::cash(bank.alloc, teller)?)?;
+    let own = desk.amount(transaction, accounts::current(bank.alloc, teller)?)?;
+    let cash = desk.amount(transaction, accounts::cash(bank.alloc, teller)?)?;
     let (Some(both), Some(own), Some(cash)) = (both, own, cash) else {
         return Ok(None);
     };
@@ -204,14 +261,16 @@ fn withdraw<R: Wait>(
 /// where there are 5, closes the last one. Two tellers with equal counts would both open under that
 /// number.
 fn open<R: Wait>(
-    rt: &R,
-    bank: &Bank,
+    desk: &mut Desk<'_, R>,
     teller: usize,
     transaction: &mut Transaction,
-) -> Result<Option<Tally>> {
-    let opened = bank.rows(rt, transaction, &accounts::all_opened(bank.alloc)?)?;
+) -> Result<Option<Tally>>
+    ensures { desk.new.bank ≡ desk.old.bank }
+{
+    let bank = desk.bank;
+    let opened = desk.rows(transaction, &accounts::all_opened(bank.alloc)?)?;
     thread::yield_now();
-    let cash = bank.amount(rt, transaction, accounts::cash(bank.alloc, teller)?)?;
+    let cash = desk.amount(transaction, accounts::cash(bank.alloc, teller)?)?;
     let (Some(opened), Some(cash)) = (opened, cash) else {
         return Ok(None);
     };

@@ -6,3 +6,4 @@ pub mod Times
 pub mod Checks
 pub mod HandingOn
 mod Examples
+pub mod Crossing

@@ -98,6 +98,12 @@ pub enum Reason {
 
 impl Range {
     /// A range of keys that have nothing yet.
+    ///
+    /// ```
+    /// let config = Config::new(1 << 10, 1 << 20, 2, 10_000_000_000, Timestamp::ZERO)?;
+    /// let range = Range::open(alloc, keys(alloc, "a", "z")?, config)?;
+    /// assert_eq!(rt; range.threshold(), Timestamp::ZERO);
+    /// ```
     pub fn open(alloc: Global, span: Span, config: Config) -> Result<Range, NoMemory>
         ensures opened { IfOk result (λ range. IsOpened config range) }
         ensures span { IfOk result (λ range. range.span ≡ span) }
@@ -114,6 +120,16 @@ impl Range {
     /// Answers a read of a transaction as of its time, and remembers that. The answer is the rows
     /// of the span with the transaction's own writes put over them; without these, the rows are the
     /// last of its reads.
+    ///
+    /// ```
+    /// let (mut range, mut one) = (new_range(alloc)?, begin(alloc, 20, 'A'));
+    /// one.write(put(alloc, "k", "mine")?)?;
+    /// let rows = range.read(&mut one, &keys(alloc, "j", "m")?, at(20))?;
+    /// assert_eq!(rt; rows[0].value.as_slice(), "mine".as_bytes());
+    /// assert_eq!(rt; (rows.len(), one.reads()[0].rows.len()), (1, 0));
+    /// let outside = range.read(&mut one, &keys(alloc, "z", "")?, at(20)).err();
+    /// assert_eq!(rt; outside, Some(RangeError::OutOfRange));
+    /// ```
     pub fn read(
         &mut self,
         transaction: &mut Transaction,
@@ -141,6 +157,17 @@ impl Range {
 
     /// Commits a transaction at the earliest time, from the one on at which it reads, that is free
     /// for its writes. If what it read isn't so any more as of then, it has to restart.
+    ///
+    /// ```
+    /// let mut range = new_range(alloc)?;
+    /// let (mut one, mut two) = (begin(alloc, 20, 'A'), begin(alloc, 15, 'B'));
+    /// range.read(&mut two, &keys(alloc, "k", "")?, at(15))?;
+    /// for transaction in [&mut one, &mut two] {
+    ///     transaction.write(put(alloc, "k", "new")?)?;
+    /// }
+    /// assert_eq!(rt; range.commit(&one, at(20))?, Outcome::Committed(at(20)));
+    /// assert!(rt; matches!(range.commit(&two, at(21))?, Outcome::Restart(Reason::Changed(_))));
+    /// ```
     pub fn commit(
         &mut self,
         transaction: &Transaction,
@@ -172,6 +199,16 @@ impl Range {
 
     /// Hands the range on to a new lease. A new cache takes over what a summary of the old one
     /// tells of the range's span, in at most `most` marks.
+    ///
+    /// ```
+    /// let (mut range, mut one) = (new_range(alloc)?, begin(alloc, 20, 'A'));
+    /// range.read(&mut one, &keys(alloc, "k", "")?, at(20))?;
+    /// let config = Config::new(1 << 10, 1 << 20, 2, 10_000_000_000, Timestamp::ZERO)?;
+    /// range.hand_on(config, 8, at(30))?;
+    /// let mut two = begin(alloc, 15, 'B');
+    /// two.write(put(alloc, "k", "new")?)?;
+    /// assert!(rt; range.commit(&two, at(31))? != Outcome::Committed(at(15)));
+    /// ```
     pub fn hand_on(&mut self, config: Config, most: usize, now: Timestamp) -> Result<(), CacheFault>
         ensures ok { OnOk result (HandsOn config self.old self.new) }
         ensures err { OnErr result (self.new ≡ self.old) }
@@ -185,6 +222,13 @@ impl Range {
 
     /// Drops the versions that no read at a time, or later, can see. From then on reads and commits
     /// before that time are refused. It costs a step for each version, and takes no memory.
+    ///
+    /// ```
+    /// let mut range = new_range(alloc)?;
+    /// range.collect_garbage(at(50));
+    /// let early = range.commit(&begin(alloc, 49, 'A'), at(51)).err();
+    /// assert_eq!(rt; early, Some(RangeError::TooEarly));
+    /// ```
     pub fn collect_garbage(&mut self, before: Timestamp)
         ensures { Collects self.old self.new before }
     {
@@ -195,6 +239,13 @@ impl Range {
     }
 
     /// The time before which reads and commits are refused.
+    ///
+    /// ```
+    /// let mut range = new_range(alloc)?;
+    /// range.collect_garbage(at(50));
+    /// range.collect_garbage(at(40));
+    /// assert_eq!(rt; range.threshold(), at(50));
+    /// ```
     pub fn threshold(&self) -> Timestamp
         ensures { result ≡ self.now.threshold }
     {

@@ -31,6 +31,11 @@ impl Model for Transaction {
 
 impl Transaction {
     /// A transaction that reads as of a time. It has read and written nothing yet.
+    ///
+    /// ```
+    /// let one = Transaction::new(alloc, at(20), Uuid::from_u128(1));
+    /// assert!(rt; one.reads().is_empty() && one.writes().is_empty());
+    /// ```
     pub fn new(alloc: Global, at: Timestamp, by: Uuid) -> Transaction
         ensures { result ≡ record { at = at; by = by; reads = []; writes = [] } }
     {
@@ -43,6 +48,10 @@ impl Transaction {
     }
 
     /// The time at which the transaction reads.
+    ///
+    /// ```
+    /// assert_eq!(rt; begin(alloc, 20, 'A').time(), at(20));
+    /// ```
     pub fn time(&self) -> Timestamp
         ensures { result ≡ self.now.at }
     {
@@ -50,6 +59,10 @@ impl Transaction {
     }
 
     /// Who it is.
+    ///
+    /// ```
+    /// assert_eq!(rt; Transaction::new(alloc, at(20), Uuid::nil()).id(), Uuid::nil());
+    /// ```
     pub fn id(&self) -> Uuid
         ensures { result ≡ self.now.by }
     {
@@ -57,6 +70,12 @@ impl Transaction {
     }
 
     /// What the transaction read, one read after another.
+    ///
+    /// ```
+    /// let (mut range, mut one) = (new_range(alloc)?, begin(alloc, 20, 'A'));
+    /// range.read(&mut one, &keys(alloc, "k", "")?, at(20))?;
+    /// assert!(rt; one.reads()[0].span.covers(b"k"));
+    /// ```
     pub fn reads(&self) -> &[Read]
         ensures { result.now ≡ self.now.reads }
     {
@@ -64,6 +83,12 @@ impl Transaction {
     }
 
     /// What the transaction is going to write, one write after another.
+    ///
+    /// ```
+    /// let mut one = begin(alloc, 20, 'A');
+    /// one.write(put(alloc, "k", "new")?)?;
+    /// assert_eq!(rt; one.writes()[0].key.bytes(), "k".as_bytes());
+    /// ```
     pub fn writes(&self) -> &[Write]
         ensures { result.now ≡ self.now.writes }
     {
@@ -71,6 +96,13 @@ impl Transaction {
     }
 
     /// Writes a key once it commits. Of several writes of a key the last one counts.
+    ///
+    /// ```
+    /// let (mut range, mut one) = (new_range(alloc)?, begin(alloc, 20, 'A'));
+    /// one.write(put(alloc, "k", "old")?)?;
+    /// one.write(Write { key: Key::new(alloc, b"k")?, content: None })?;
+    /// assert!(rt; range.read(&mut one, &keys(alloc, "k", "")?, at(20))?.is_empty());
+    /// ```
     pub fn write(&mut self, write: Write) -> Result<(), NoMemory>
         ensures ok { OnOk result (self.new ≡ record self.old {
           writes = self.old.writes
@@ -83,6 +115,10 @@ impl Transaction {
     }
 
     /// The transaction at another time, as once it has committed then.
+    ///
+    /// ```
+    /// assert_eq!(rt; begin(alloc, 20, 'A').moved_to(at(30)).time(), at(30));
+    /// ```
     pub fn moved_to(self, at: Timestamp) -> Transaction
         ensures { result ≡ moved self at }
     {

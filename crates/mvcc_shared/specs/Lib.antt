@@ -1,1 +1,11 @@
-pub mod Served
+pub mod History
+pub mod Pending
+pub mod Rule
+pub mod Steps
+pub mod Participating
+pub mod Serving
+pub mod Clients
+pub mod Keeping
+pub mod Answers
+pub mod Laws
+pub mod Textbook

@@ -1,69 +1,56 @@
 //! What lies under the lock.
-ghost use Rattle.std.specs.Prelude.{◌≡◌, ◌+◌, ◌≤◌, IfOk, IfErr, OnOk, OnErr, vec_len, vec_capacity};
-ghost use Rattle.mvcc_range.specs.Steps.{HandsOn, Collects};
-ghost use Rattle.mvcc_range.specs.Calls.{Reads, SeesOwn};
-ghost use Rattle.mvcc_shared.specs.Served.{WasServed, IsLogged, EndsLogged, IsSameServed};
+ghost use Rattle.std.specs.Prelude.{◌≡◌, ◌+◌, ◌≤◌, ◌++◌, vec_len, vec_capacity};
+ghost use Rattle.mvcc_shared.specs.Answers.{ReadsAt, EndsAt, HandsOnAt, CollectsAt};
+ghost use Rattle.mvcc_shared.specs.History.{entries_ended};
+ghost use Rattle.mvcc_shared.specs.Pending.{call_of};
+ghost use Rattle.mvcc_shared.specs.Serving.{HasMade};
 
+use crate::answers::NotCommitted;
 use mvcc_range::{Outcome, Range, RangeError, Row, Transaction};
-use std::alloc::Global;
-use std::marker::Model;
-use timestamp_cache::{CacheFault, Config, NoMemory, Span, Timestamp};
+use std::snapshot::Snapshot;
+use timestamp_cache::{CacheFault, Config, Span, Timestamp};
+
+/// The call that was made last. Only the proof reads what it did.
+#[derive(Drop)]
+pub enum PendingCall {
+    Read(Snapshot<Transaction>, Snapshot<Transaction>, Snapshot<Span>, Timestamp),
+    End(Snapshot<Transaction>, Timestamp, Outcome),
+    HandOn(Config),
+    Collect(Timestamp),
+    Refuse,
+}
 
 /// A range, and the transactions that committed, in the order in which they did.
 #[derive(Drop)]
-pub(crate) struct Served {
-    range: Range,
-    log: Vec<Transaction>,
-}
-
-impl Model for Served {
-    ghost use Rattle.mvcc_shared.specs.Served.{Served, WasServed};
-
-    ghost Value = { Served };
-
-    ghost view = { λ s. record { range = s.range; log = s.log.items } };
-
-    ghost invariant = { λ s. WasServed (record { range = s.range; log = s.log.items }) };
-}
-
-/// A range that no thread shares any more, and the transactions that committed there, in the order
-/// in which they did, each at the time at which it committed.
-#[derive(Drop)]
-pub struct Closed {
-    pub range: Range,
-    pub log: Vec<Transaction>,
-}
-
-/// A commit that was refused, and the transaction, which may be tried again.
-#[derive(Drop)]
-pub struct NotCommitted {
-    pub error: RangeError,
-    pub transaction: Transaction,
+pub struct Served {
+    pub(crate) range: Range,
+    pub(crate) log: Vec<Transaction>,
+    pub(crate) pending: PendingCall,
 }
 
 impl Served {
-    pub(crate) fn open(alloc: Global, span: Span, config: Config) -> Result<Served, NoMemory> {
-        Ok(Served {
-            range: Range::open(alloc, span, config)?,
-            log: Vec::new(alloc),
-        })
-    }
-
     pub(crate) fn read(
         &mut self,
         transaction: &mut Transaction,
         span: &Span,
         now: Timestamp,
     ) -> Result<Vec<Row>, RangeError>
-        ensures was { WasServed self.old }
-        ensures ok { OnOk result
-            (Reads self.old.range self.new.range transaction.old transaction.new span.now now) }
-        ensures own { IfOk result
-            (λ rows. SeesOwn self.old.range transaction.old span.now rows.items) }
-        ensures err { OnErr result ((self.new ≡ self.old) × (transaction.new ≡ transaction.old)) }
-        ensures log { self.new.log ≡ self.old.log }
+        ensures made { HasMade self.old self.new }
+        ensures reads { ReadsAt self.old.range (call_of self.new.pending) self.new.range
+            transaction.old transaction.new span.now now result }
     {
-        self.range.read(transaction, span, now)
+        let before = Snapshot::of(transaction);
+        match self.range.read(transaction, span, now) {
+            Ok(rows) => {
+                let after = Snapshot::of(transaction);
+                self.pending = PendingCall::Read(before, after, Snapshot::of(span), now);
+                Ok(rows)
+            }
+            Err(error) => {
+                self.pending = PendingCall::Refuse;
+                Err(error)
+            }
+        }
     }
 
     /// A transaction that commits is the last of the log.
@@ -72,23 +59,28 @@ impl Served {
         transaction: Transaction,
         now: Timestamp,
     ) -> Result<Outcome, NotCommitted>
-        ensures was { WasServed self.old }
-        ensures ok { IfOk result (λ outcome. EndsLogged self.old self.new transaction now outcome) }
-        ensures err { OnErr result (IsSameServed self.old self.new) }
-        ensures again { IfErr result (λ refused. refused.transaction ≡ transaction) }
+        ensures made { HasMade self.old self.new }
+        ensures ends { EndsAt self.old.range (call_of self.new.pending) self.new.range transaction
+            now result }
     {
         if self.log.reserve(1).is_err() {
+            self.pending = PendingCall::Refuse;
             return Err(NotCommitted {
                 error: RangeError::NoMemory,
                 transaction,
             });
         }
+        let ended = Snapshot::of(&transaction);
         match self.range.commit(&transaction, now) {
             Ok(outcome) => {
+                self.pending = PendingCall::End(ended, now, outcome);
                 record_end(&mut self.log, transaction, &outcome);
                 Ok(outcome)
             }
-            Err(error) => Err(NotCommitted { error, transaction }),
+            Err(error) => {
+                self.pending = PendingCall::Refuse;
+                Err(NotCommitted { error, transaction })
+            }
         }
     }
 
@@ -98,32 +90,36 @@ impl Served {
         most: usize,
         now: Timestamp,
     ) -> Result<(), CacheFault>
-        ensures ok { OnOk result (HandsOn config self.old.range self.new.range) }
-        ensures err { OnErr result (self.new ≡ self.old) }
-        ensures log { self.new.log ≡ self.old.log }
+        ensures made { HasMade self.old self.new }
+        ensures hands_on { HandsOnAt self.old.range (call_of self.new.pending) self.new.range config
+            most result }
     {
-        self.range.hand_on(config, most, now)
+        match self.range.hand_on(config, most, now) {
+            Ok(()) => {
+                self.pending = PendingCall::HandOn(config);
+                Ok(())
+            }
+            Err(fault) => {
+                self.pending = PendingCall::Refuse;
+                Err(fault)
+            }
+        }
     }
 
     pub(crate) fn collect_garbage(&mut self, before: Timestamp)
-        ensures ok { Collects self.old.range self.new.range before }
-        ensures log { self.new.log ≡ self.old.log }
+        ensures made { HasMade self.old self.new }
+        ensures collects { CollectsAt self.old.range (call_of self.new.pending) self.new.range
+            before }
     {
         self.range.collect_garbage(before);
-    }
-
-    pub(crate) fn close(self) -> Closed
-        ensures { WasServed (record { range = result.range; log = result.log.items }) }
-    {
-        let Served { range, log } = self;
-        Closed { range, log }
+        self.pending = PendingCall::Collect(before);
     }
 }
 
 /// Puts a transaction that has committed behind a log that has room for it.
 fn record_end(log: &mut Vec<Transaction>, transaction: Transaction, outcome: &Outcome)
     requires { vec_len log.old + 1 ≤ vec_capacity log.old }
-    ensures { IsLogged log.old.items log.new.items transaction outcome.now }
+    ensures { log.new.items ≡ log.old.items ++ entries_ended transaction outcome.now }
 {
     match outcome {
         Outcome::Committed(at) => log.push_reserved(transaction.moved_to(*at)),

@@ -1,86 +1,204 @@
 //! The calls that threads make.
-ghost use Rattle.std.specs.Prelude.{◌≡◌, IfOk, IfErr, OnErr, reverse};
-ghost use Rattle.mvcc_range.specs.Laws.{IsSerializable};
-ghost use Rattle.mvcc_shared.specs.Served.{WasServed, ReadsServed, CommitsServed};
+ghost use Rattle.std.specs.Prelude.{◌≡◌, ◌↔◌, IsOk, IfOk, IfErr, IfSome, IfNone, All, length};
+ghost use Rattle.mvcc_shared.specs.Answers.{Opens, Deals, DealsNone, Calls, ReadsAt, EndsAt};
+ghost use Rattle.mvcc_shared.specs.Answers.{HandsOnAt, CollectsAt, Shows, Learns, Closes};
 
+use crate::answers::{Closed, NotCommitted, StillOut};
+use crate::calls;
+use crate::client::{Client, Dealer, Front};
+use crate::closing::{close, gather};
+use crate::fronts::{new_front, see_front};
+use crate::opening::{deal, new_table};
 use crate::served::Served;
-use crate::{Closed, NotCommitted};
-use mvcc_range::{Outcome, RangeError, Row, Transaction};
+use crate::table::{RangeTable, Setup};
+use mvcc_range::{Outcome, Range, RangeError, Row, Transaction};
 use std::alloc::Global;
-use std::sync::{Mutex, Wait};
+use std::marker::Model;
+use std::snapshot::Snapshot;
+use std::sync::Wait;
 use timestamp_cache::{CacheFault, Config, NoMemory, Span, Timestamp};
 
 /// A range under a lock, for any number of threads, with the log of the transactions that
 /// committed.
 ///
-/// Each call waits for the lock, and holds it until it answers. The log keeps each transaction that
-/// committed, with what it read and wrote.
+/// Each call of a client waits for the lock, and holds it until it answers: it pauses for longer
+/// and longer, and then leaves the processor to others between its tries. Nothing bounds how often
+/// others acquire the lock before. The log keeps each transaction that committed, with what it read
+/// and wrote.
 #[derive(Drop)]
 pub struct SharedRange {
-    served: Mutex<Served>,
+    table: RangeTable,
+    setup: Setup,
+}
+
+impl Model for SharedRange {
+    ghost use Rattle.std.specs.Prelude.{◌≡◌};
+    ghost use Rattle.mvcc_shared.specs.Clients.{SharedView};
+
+    ghost Value = { SharedView };
+
+    ghost use Rattle.mvcc_range.specs.Steps.{IsOpened};
+    ghost use Rattle.mvcc_shared.specs.Participating.{IsSized};
+
+    ghost view = { λ r. record { table = r.table.shared.table_id; terms = r.setup } };
+
+    ghost invariant = { λ r. IsSized r.table.shared.table_id × (r.table.shared.key ≡ r.setup) };
 }
 
 impl SharedRange {
-    /// A range of keys that have nothing yet, and an empty log.
-    pub fn open(alloc: Global, span: Span, config: Config) -> Result<SharedRange, NoMemory> {
-        Ok(SharedRange {
-            served: Mutex::new(Served::open(alloc, span, config)?),
-        })
+    /// A range of keys that have nothing yet, an empty log, and the dealer of `clients` clients.
+    pub fn open(
+        alloc: Global,
+        span: Span,
+        config: Config,
+        clients: u32,
+    ) -> Result<(SharedRange, Dealer), NoMemory>
+        ensures { IfOk result (λ opened. Opens span config clients opened.0 opened.1) }
+    {
+        let range = Range::open(alloc, span, config)?;
+        let setup = Setup {
+            config,
+            clients,
+            opened: Snapshot::of(&range),
+        };
+        let (table, all) = new_table(alloc, &setup, range)?;
+        let dealer = Dealer {
+            participant: all,
+            dealt: 0,
+        };
+        Ok((SharedRange { table, setup }, dealer))
     }
 
-    /// Answers a read of a transaction, as `Range::read` does.
+    /// The next client, with the least number that was not dealt yet, or `None` where all were
+    /// dealt. It takes no memory and waits for nobody.
+    pub fn deal(&self, dealer: &mut Dealer) -> Option<Client>
+        requires range { dealer.old.range ≡ self.now }
+        ensures dealt { IfSome result (λ client. Deals dealer.old dealer.new client) }
+        ensures none { IfNone result (DealsNone dealer.old dealer.new) }
+    {
+        let number = dealer.dealt;
+        if number >= self.setup.clients {
+            return None;
+        }
+        let participant = deal(&self.table.shared, &mut dealer.participant);
+        dealer.dealt = number + 1;
+        Some(Client { participant })
+    }
+
+    /// Answers a read of a transaction, as [`Range::read`] does.
     pub fn read<R: Wait>(
         &self,
         rt: &R,
+        client: &mut Client,
         transaction: &mut Transaction,
         span: &Span,
         now: Timestamp,
     ) -> Result<Vec<Row>, RangeError>
-        ensures ok { IfOk result (λ rows. ReadsServed transaction.old transaction.new span.now now
-            rows.items) }
-        ensures err { OnErr result (transaction.new ≡ transaction.old) }
+        requires range { client.old.range ≡ self.now }
+        ensures { Calls client.old client.new (λ old call new. ReadsAt old call new transaction.old
+            transaction.new span.now now result) }
     {
-        self.served.lock(rt).read(transaction, span, now)
+        let shared = &self.table.shared;
+        calls::read(rt, shared, &mut client.participant, transaction, span, now)
     }
 
-    /// Commits a transaction, as `Range::commit` does. If it commits, it is the last of the log
+    /// Commits a transaction, as [`Range::commit`] does. If it commits, it is the last of the log
     /// then. One that has to restart is gone, and one whose commit is refused comes back.
     pub fn commit<R: Wait>(
         &self,
         rt: &R,
+        client: &mut Client,
         transaction: Transaction,
         now: Timestamp,
     ) -> Result<Outcome, NotCommitted>
-        ensures ok { IfOk result (λ outcome. CommitsServed transaction now outcome) }
-        ensures err { IfErr result (λ refused. refused.transaction ≡ transaction) }
+        requires range { client.old.range ≡ self.now }
+        ensures { Calls client.old client.new (λ old call new. EndsAt old call new transaction now
+            result) }
     {
-        self.served.lock(rt).commit(transaction, now)
+        let shared = &self.table.shared;
+        calls::commit(rt, shared, &mut client.participant, transaction, now)
     }
 
-    /// Hands the range on to a new lease, as `Range::hand_on` does.
+    /// Hands the range on to a new lease, as [`Range::hand_on`] does.
     pub fn hand_on<R: Wait>(
         &self,
         rt: &R,
+        client: &mut Client,
         config: Config,
         most: usize,
         now: Timestamp,
-    ) -> Result<(), CacheFault> {
-        self.served.lock(rt).hand_on(config, most, now)
-    }
-
-    /// Drops old versions, as `Range::collect_garbage` does.
-    pub fn collect_garbage<R: Wait>(&self, rt: &R, before: Timestamp) {
-        self.served.lock(rt).collect_garbage(before);
-    }
-
-    /// The range and its log, once no thread shares it any more. The transactions of the log are
-    /// serializable in the order of their times, those of one time in the order of the log, and
-    /// the range has what all of them leave.
-    pub fn close(self) -> Closed
-        ensures served { WasServed (record { range = result.range; log = result.log.items }) }
-        ensures serializable { IsSerializable (reverse result.log.items) result.range.chains }
+    ) -> Result<(), CacheFault>
+        requires range { client.old.range ≡ self.now }
+        ensures { Calls client.old client.new (λ old call new. HandsOnAt old call new config most
+            result) }
     {
-        let SharedRange { served } = self;
-        served.into_inner().close()
+        let shared = &self.table.shared;
+        calls::hand_on(rt, shared, &mut client.participant, config, most, now)
+    }
+
+    /// Drops old versions, as [`Range::collect_garbage`] does.
+    pub fn collect_garbage<R: Wait>(&self, rt: &R, client: &mut Client, before: Timestamp)
+        requires range { client.old.range ≡ self.now }
+        ensures { Calls client.old client.new (λ old call new. CollectsAt old call new before) }
+    {
+        calls::collect_garbage(rt, &self.table.shared, &mut client.participant, before);
+    }
+
+    /// A front of all that a client has seen, for others to learn. It acquires no lock, and waits
+    /// for nobody.
+    pub fn front(&self, client: &mut Client) -> Front
+        requires range { client.old.range ≡ self.now }
+        ensures same { client.new ≡ client.old }
+        ensures front { Shows client.old result }
+    {
+        Front {
+            participant: new_front(&self.table.shared, &mut client.participant),
+        }
+    }
+
+    /// Takes in a front. The client has then seen a history that begins with both its own and the
+    /// front's, so its next calls come after those that the front shows. It acquires no lock, and
+    /// waits for nobody.
+    pub fn learn(&self, client: &mut Client, front: Front)
+        requires range { client.old.range ≡ self.now }
+        requires front { front.range ≡ self.now }
+        ensures { Learns client.old client.new front }
+    {
+        see_front(
+            &self.table.shared,
+            &mut client.participant,
+            front.participant,
+        );
+    }
+
+    /// Ends the range where all its clients are handed in that were dealt, and gives it with its
+    /// log. Where some are missing it hands all back. A client that was dropped is missing for
+    /// good.
+    ///
+    /// The call takes no memory, waits for nobody, and takes three steps for each client.
+    pub fn close(self, dealer: Dealer, clients: Vec<Client>) -> Result<Closed, StillOut>
+        requires dealer { dealer.range ≡ self }
+        requires clients { All (λ client. client.range ≡ self) clients.items }
+        ensures closed { IfOk result (λ closed. Closes dealer clients.items closed) }
+        ensures exactly { IsOk result ↔ (length clients.items ≡ dealer.dealt) }
+        ensures still_out { IfErr result (λ out. (out.range ≡ self) × (out.dealer ≡ dealer)
+            × (out.clients.items ≡ clients.items)) }
+    {
+        let is_missing = clients.len() != dealer.dealt as usize;
+        if is_missing {
+            return Err(StillOut {
+                range: self,
+                dealer,
+                clients,
+            });
+        }
+        let SharedRange { table, setup: _ } = self;
+        let all = gather(&table.shared, dealer.participant, clients);
+        let Served {
+            range,
+            log,
+            pending: _,
+        } = close(table, all);
+        Ok(Closed { range, log })
     }
 }

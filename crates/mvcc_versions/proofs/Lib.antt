@@ -4,3 +4,4 @@ pub mod RowsAsOf
 pub mod OwnRows
 pub mod Linking
 pub mod Dropping
+pub mod Crossing

@@ -1,11 +1,13 @@
-//! Tests of ranges: scenarios row by row, calls that are refused and made again, a range under a
-//! lock, and random histories of transactions.
+//! Tests of ranges: rows that each way through a call takes with ample memory, calls that are
+//! refused it, the clients of a shared range, and random histories of transactions.
 //!
-//! Each history is executed once more by brute force in the serial order. The executor shares no
-//! code with the range. It finds no violation in what [`mvcc_range::Range`] answers, and finds some
-//! in the answers of each plain store that leaves a step out.
+//! That transactions are serializable is proved. Each history is executed once more by brute force
+//! in the serial order, by code that shares none with the range, so that the definition of the
+//! proof is seen to mean that.
 #![tactic(auto)]
 
+#[cfg(test)]
+mod clients;
 #[cfg(test)]
 mod refused;
 #[cfg(test)]

@@ -15,11 +15,9 @@
 //! error's message.
 use anyhow::{Context, Result, bail, ensure};
 use mvcc_range::{Outcome, Range, RangeError, Reason, Transaction, Write};
-use mvcc_shared::SharedRange;
-use std::alloc::{AllocGlobal, Global};
+use std::alloc::Global;
 use std::fmt::InlineText;
 use std::str;
-use std::sync::Wait;
 use std::test::Fail;
 use test_support::{at, words};
 use timestamp_cache::{Config, Key, Span, Uuid};
@@ -32,26 +30,20 @@ put 0 c 3
 put 0 b 2
 commit 0 -> at 10.0";
 
-const SCENARIOS: &str = "# rows are in order, as of a time
+const SCENARIOS: &str = "# rows are in order, as of a time, and a deletion is a version
 begin 1 20
 read 1 a..z -> a=1 b=2 c=3
-read 1 b -> b=2
 read 1 aa..c -> b=2
 read 1 d..z
+put 1 b
+commit 1 -> at 20.0
 begin 2 9
 read 2 a..z
-begin 3 10
-read 3 a..c -> a=1 b=2
-# no update is lost
-begin 1 20
-begin 2 21
-read 1 a -> a=1
-read 2 a -> a=1
-put 1 a one
-put 2 a two
-commit 1 -> at 21.1
-commit 2 -> changed 21.2
-# no write is skewed
+begin 3 15
+read 3 a..z -> a=1 b=2 c=3
+put 3 b late
+commit 3 -> changed 20.1
+# who is pushed refreshes its reads, and restarts where these have changed
 begin 1 20
 begin 2 20
 read 1 a..c -> a=1 b=2
@@ -60,141 +52,39 @@ put 1 a one
 put 2 b two
 commit 1 -> at 20.1
 commit 2 -> changed 20.2
-# no phantom appears
-begin 1 30
-read 1 a..z -> a=1 b=2 c=3
-begin 2 20
-put 2 bb new
-commit 2 -> at 30.1
-read 1 a..z -> a=1 b=2 c=3
-commit 1 -> at 30.0
-begin 3 31
-read 3 b..c -> b=2 bb=new
-# who only reads is not pushed
-begin 1 20
-read 1 a..z -> a=1 b=2 c=3
-begin 2 25
-put 2 a new
-commit 2 -> at 25.0
-commit 1 -> at 20.0
-# who is pushed refreshes its reads, which count at the later time
-begin 1 40
-read 1 b -> b=2
-begin 2 20
-read 2 a -> a=1
-put 2 b x
-commit 2 -> at 40.1
-begin 3 30
-put 3 a y
-commit 3 -> at 40.2
-begin 4 50
-read 4 a..z -> a=y b=x c=3
-# who restarts may commit later
-begin 1 20
-read 1 a -> a=1
-begin 2 25
-put 2 a new
-commit 2 -> at 25.0
-put 1 a old
-commit 1 -> changed 25.1
-begin 1 30
-read 3 a -> a=new
-put 3 a newer
-commit 3 -> at 30.0
-# two at one time
-begin 1 20
-begin 2 20
-begin 3 20
-put 1 a one
-put 2 b two
-put 3 a three
-commit 1 -> at 20.0
-commit 2 -> at 20.0
-commit 3 -> at 20.1
-# an own later read pushes to its time, and not above
-begin 1 30
-read 1 b -> b=2
-begin 1 20
-put 2 b own
-commit 2 -> at 30.0
-# a deletion is a version
-begin 1 20
-put 1 b
-commit 1 -> at 20.0
-begin 2 20
-read 2 a..z -> a=1 c=3
-begin 3 19
-read 3 a..z -> a=1 b=2 c=3
-begin 4 15
-put 4 b late
-commit 4 -> at 20.1
-# a new lease minds the reads of the old one, by marks
+# a new lease minds the reads of the old one, by marks and by a floor
 begin 1 30
 read 1 a..c -> a=1 b=2
 hand_on wide 100
 begin 2 20
-put 2 b new
-commit 2 -> at 30.1
-begin 3 20
-put 3 c new
-commit 3 -> at 20.0
-# a new lease minds them by a floor, where no mark is sent
-begin 1 30
-read 1 a..c -> a=1 b=2
+put 2 c new
+commit 2 -> at 20.0
 hand_on wide 0
-begin 2 20
-put 2 b new
-commit 2 -> at 30.1
 begin 3 20
-put 3 c new
+put 3 c newer
 commit 3 -> at 30.1
-# a transaction sees its own writes
+# a transaction sees its own writes, and the last of each key is committed
 begin 1 20
 put 1 b own
 put 1 c
-put 1 bb more
-put 1 zz beside
-read 1 a..z -> a=1 b=own bb=more
-read 1 b..bb -> b=own
-put 1 b
 put 1 a first
 put 1 a second
-read 1 a..z -> a=second bb=more
-begin 2 21
-read 2 a..z -> a=1 b=2 c=3
-commit 1 -> outside of the range
-# its own writes are not what it has to find again
-begin 1 20
-put 1 b own
-read 1 a..z -> a=1 b=own c=3
+read 1 a..z -> a=second b=own
 begin 2 30
 read 2 b -> b=2
 commit 1 -> at 30.1
-begin 3 40
-read 3 a..z -> a=1 b=own c=3
 # old versions go, and nobody reads or commits where they were
 begin 1 20
 put 1 b new
-put 1 c
 commit 1 -> at 20.0
-begin 2 30
-put 2 b newer
-commit 2 -> at 30.0
-begin 3 24
-read 3 a..z -> a=1 b=new
+begin 2 24
+read 2 a..z -> a=1 b=new c=3
 collect 25
 collect 22
-read 3 a..z -> too early
-commit 3 -> too early
-begin 4 25
-read 4 a..z -> a=1 b=new
-put 4 a late
-commit 4 -> at 25.0
-begin 5 30
-read 5 a..z -> a=late b=newer
-collect 100
-begin 6 100
-read 6 a..z -> a=late b=newer
+read 2 a..z -> too early
+commit 2 -> too early
+begin 3 25
+read 3 a..z -> a=1 b=new c=3
 # no time is free behind the last one
 begin 1 9223372036854775807.2147483647
 put 1 b last
@@ -202,19 +92,9 @@ begin 2 40
 put 2 b new
 commit 1 -> at 9223372036854775807.2147483647
 commit 2 -> no time
-begin 3 50
-read 3 b -> b=2
-begin 4 9223372036854775807.2147483647
-read 4 b -> b=last
-# what is outside is refused
+# what is outside is refused, and what no page takes
 begin 1 20
 read 1 a..zz -> outside of the range
-read 1 A -> outside of the range
-read 1 a..z -> a=1 b=2 c=3
-put 1 z beside
-commit 1 -> outside of the range
-# what no page takes is refused
-begin 1 20
 read 1 m-with-more-letters-than-a-narrow-page-takes
 hand_on narrow 100 -> the span is too large for a page
 hand_on wide 0
@@ -222,8 +102,37 @@ hand_on narrow 100
 read 1 m-with-more-letters-than-a-narrow-page-takes -> the span is too large for a page
 put 1 b new
 commit 1 -> the span is too large for a page
+put 1 z beside
+commit 1 -> outside of the range";
+
+/// A transaction is pushed by a later read, and one by what a new lease was told. A deletion is
+/// committed, and versions are dropped. The pages are small, so that they rotate.
+pub const SMALL: &str = "begin 1 10
+put 0 a 1
+put 0 b 2
+put 0 d 4
+commit 0 -> at 10.0
 begin 2 20
-read 2 a..z -> a=1 b=2 c=3";
+read 1 a..g -> a=1 b=2 d=4
+put 1 b 5
+read 1 a..c -> a=1 b=5
+begin 3 30
+read 2 b..d -> b=2
+commit 1 -> at 30.1
+hand_on small 1
+begin 4 25
+put 3 c 9
+commit 3 -> at 30.2
+collect 30
+begin 5 24
+read 4 a..g -> too early
+begin 6 40
+read 5 a..g -> a=1 b=5 c=9 d=4
+put 5 a
+read 5 a..b
+commit 5 -> at 40.0
+begin 7 50
+read 6 a..g -> b=5 c=9 d=4";
 
 /// A text that takes no memory, so that no answer is lost for want of it.
 pub type Text = InlineText<120>;
@@ -237,7 +146,7 @@ pub fn open(alloc: Global, keys: &str, pages: &str) -> Result<Scene> {
 }
 
 /// The configuration of a cache by its pages. Small ones rotate, and narrow ones take no long key.
-fn config(pages: &str) -> Result<Config> {
+pub fn config(pages: &str) -> Result<Config> {
     Ok(match pages {
         "small" => Config::new(128, 256, 1, 4, at(5, 0))?,
         "narrow" => Config::new(72, 72, 2, 1000, at(5, 0))?,
@@ -251,7 +160,7 @@ pub fn time(text: &str) -> Result<Timestamp> {
 }
 
 /// The span of `a..c`, or of `d` alone.
-fn span(alloc: Global, keys: &str) -> Result<Span> {
+pub fn span(alloc: Global, keys: &str) -> Result<Span> {
     let (from, to) = keys.split_once("..").unwrap_or((keys, ""));
     let from = Key::new(alloc, from.as_bytes())?;
     Ok(Span::of(from, Key::new(alloc, to.as_bytes())?)?)
@@ -273,7 +182,7 @@ fn read(range: &mut Range, reader: &mut Transaction, span: &Span) -> Result<Text
 }
 
 /// The answer of a commit.
-pub fn text_of(outcome: Outcome) -> Text {
+fn text_of(outcome: Outcome) -> Text {
     let (word, at) = match outcome {
         Outcome::Committed(at) => ("at", at),
         Outcome::Restart(reason) => match reason {
@@ -344,41 +253,4 @@ pub fn play(alloc: Global, pages: &str, first: &str, scenarios: &str) -> Result<
 #[test]
 fn scenarios_go_as_said(rt: HostRuntime) -> Result<(), Fail> {
     Ok(play(rt.alloc(), "wide", FIRST, SCENARIOS)?)
-}
-
-/// Why a shared range refuses a read at a time, where it does. No clause can name what a call makes
-/// of the range under its lock, so each one is followed by a read that it changes.
-fn refusal<R: Wait + AllocGlobal>(rt: &R, range: &SharedRange, row: &str) -> Result<Text> {
-    let [time_of, keys, ..] = words(row, ' ');
-    let mut reader = Transaction::new(rt.alloc(), time(time_of)?, Uuid::from_bytes([1; 16]));
-    let refusal = range
-        .read(rt, &mut reader, &span(rt.alloc(), keys)?, at(30, 0))
-        .err();
-    Ok(Text::of(format_args!("{refusal:?}")))
-}
-
-#[test]
-fn a_shared_range_has_its_span(rt: HostRuntime) -> Result<(), Fail> {
-    let range = SharedRange::open(rt.alloc(), span(rt.alloc(), "a..g")?, config("small")?)?;
-    assert_eq!(rt; refusal(&rt, &range, "10 c")?.as_str(), "None");
-    assert_eq!(rt; refusal(&rt, &range, "10 z")?.as_str(), "Some(OutOfRange)");
-    Ok(())
-}
-
-#[test]
-fn a_shared_range_drops_old_versions(rt: HostRuntime) -> Result<(), Fail> {
-    let range = SharedRange::open(rt.alloc(), span(rt.alloc(), "a..g")?, config("small")?)?;
-    range.collect_garbage(&rt, time("20")?);
-    assert_eq!(rt; refusal(&rt, &range, "19 c")?.as_str(), "Some(TooEarly)");
-    assert_eq!(rt; refusal(&rt, &range, "20 c")?.as_str(), "None");
-    Ok(())
-}
-
-#[test]
-fn a_shared_range_is_handed_on(rt: HostRuntime) -> Result<(), Fail> {
-    let range = SharedRange::open(rt.alloc(), span(rt.alloc(), "a..g")?, config("small")?)?;
-    range.hand_on(&rt, config("narrow")?, 4, time("30")?)?;
-    let read = "10 c-with-more-letters-than-a-narrow-page-takes";
-    assert_eq!(rt; refusal(&rt, &range, read)?.as_str(), "Some(TooLarge)");
-    Ok(())
 }

@@ -1,110 +1,75 @@
 //! What a seat tells of the reads so far, while the cache goes on.
-use crate::steps::{Way, play};
+//!
+//! This finds a seat that tells of less than all seats have added, and a snapshot that holds up
+//! Adds: a contract speaks of what the seat has seen alone.
+use crate::stage::play;
 use std::test::Fail;
 
 /// A seat tells of what both have added, and of what it saw before.
-const TOLD: &str = "# With a mark for each key, the next cache answers as this one, with its owners.
-open 2 100
-0 add a@20¹ 20 gate = place 0 kept
-1 add [c,e)@21² 20 gate = place 1 kept
-0 see = 1
-0 tell [a,z) 9 = 2
-0 see = 2
-0 count = 1
-next a = 20¹ 2
-next (a,c) = 5 2
-next d = 21² 2
-next [a,z) = 21² 2
+const TOLD: &str =
+    "case with a mark for each key, the next cache answers as this one, with its owners
+open 132 132 2 10 5.0 100 = done
+add [a] 20.0 A 20.0 = 1 0 0
+seat 1 add [c,e) 21.0 B 20.0 = 1 0 0
+tell [a,z) 9 = 2
+next [a] = 20.0 A
+next (a,c) = 5.0 -
+next [d] = 21.0 B
+seat 1 add [b] 22.0 B 20.0 = 1 0 0
+next [b] = 5.0 -
+add [a] 23.0 - 20.0 = 1 0 0
+seat 1 tell [a,b] 0 = 4
+next [b] = 23.0 -
+next [c] = 5.0 -
+seat 1 get [b] = 22.0 B
 
-# The cache goes on, and tells more. Without marks the floor tells all.
-open 2 100
-0 add a@20¹ 20 gate = place 0 kept
-1 tell a 9 = 1
-1 add b@22² 20 gate = place 1 kept
-next b = 5 1
-0 add a@23 20 gate = place 2 kept
-1 tell [a,b] 0 = 3
-next a = 23 3
-next b = 23 3
-next c = 5 3
-1 get b = 22² 3
-close = 3
+case a page is gone: its reads are told by the floor
+open 132 132 2 10 5.0 100 = done
+batch 20.0 [a] 20.0 A [b] 20.0 A [c] 20.0 A [d] 20.0 A = 1 0 0
+add [e] 30.0 B 30.0 = 1 1 0
+batch 30.0 [f] 30.0 B [g] 30.0 B [h] 30.0 B = 1 0 0
+add [i] 45.0 A 45.0 = 1 1 1
+seat 1 tell [a,z) 9 = 4
+next [a] = 20.0 -
+next [e] = 30.0 B
+next [i] = 45.0 A";
 
-# A page is gone: its reads are told by the floor.
-open 2 100
-0 add a@20¹ 20 gate = place 0 kept
-0 add b@20¹ 20 gate = place 1 kept
-0 add c@20¹ 20 gate = place 2 kept
-0 add d@20¹ 20 gate = place 3 kept
-0 add e@30² 30 gate = place 4 rotated
-0 add f@30² 30 gate = place 5 kept
-0 add g@30² 30 gate = place 6 kept
-0 add h@30² 30 gate = place 7 kept
-0 add i@45¹ 45 gate = place 8 dropped
-1 see = 0
-1 tell [a,z) 9 = 9
-1 see = 9
-next a = 20 9
-next e = 30² 9
-next i = 45¹ 9
-close = 9";
-
-/// A snapshot stays as it is, while keys come that it has and that it lacks, pages rotate, and the
-/// cache is closed.
-const KEPT: &str = "# Adds of known keys, which are made in place otherwise.
-open 2 100
-beside
-0 add a@20¹ 20 gate = place 0 kept
-0 add b@20¹ 20 gate = place 1 kept
-0 add a@21¹ 20 gate = place 2 kept
-1 keep = 3
-0 add a@22² 20 gate = place 3 kept
-1 add a@23² 20 gate = place 4 kept
-0 add c@23 20 gate = place 5 kept
-kept a = 21¹ 3
-kept c = 5 3
-0 get a = 23² 6
-1 get c = 23 6
-close = 6
-kept [a,z) = 21¹ 3
-
-# The pages rotate, the oldest is dropped, and a later snapshot takes the place of the first.
-open 2 100
-beside
-0 keep = 0
-0 add {a@20¹|b@20¹|c@20¹|d@20¹} 20 plain = place 0 kept
-kept a = 5 0
-0 keep = 1
-1 add e@30² 30 gate = place 1 rotated
-0 add {f@30|g@30|h@30} 30 plain = place 2 kept
-0 add i@45¹ 45 gate = place 3 dropped
-kept a = 20¹ 1
-kept e = 5 1
-1 get a = 20 4
-close = 4
-kept a = 20¹ 1";
+/// A snapshot stays as it is, while keys come that it has and that it lacks, and pages rotate.
+const KEPT: &str = "open 132 132 2 10 5.0 100 = done
+batch 20.0 [a] 20.0 A [b] 20.0 A = 1 0 0
+add [a] 21.0 A 20.0 = 1 0 0
+seat 1 keep = 2
+add [a] 22.0 B 20.0 = 1 0 0
+seat 1 add [a] 23.0 B 20.0 = 1 0 0
+add [c] 23.0 - 20.0 = 1 0 0
+batch 60.0 [d] 60.0 A [e] 60.0 A [f] 60.0 A = 1 1 0
+kept [a] = 21.0 A
+kept [c] = 5.0 -
+kept [a,z) = 21.0 A
+get [a] = 23.0 B
+seat 1 get [c] = 23.0 -";
 
 /// A seat tells of two keys and a range. Each growth of that is refused in turn, and it then tells
 /// the same.
-const AGAIN: &str = "open 2 100
-0 add a@20¹ 20 gate = place 0 kept
-1 add [c,e)@21² 20 gate = place 1 kept
-0 tell [a,z) 9 = 2
-next a = 20¹ 2
-next (a,c) = 5 2
-next d = 21² 2";
+const AGAIN: &str = "open 132 132 2 10 5.0 100 = done
+once = done
+add [a] 20.0 A 20.0 = 1 0 0
+seat 1 add [c,e) 21.0 B 20.0 = 1 0 0
+tell [a,z) 9 = 2
+next [a] = 20.0 A
+next [d] = 21.0 B";
 
 #[test]
 fn a_seat_tells_what_all_have_added(rt: HostRuntime) -> Result<(), Fail> {
-    play(&rt, rt.alloc(), TOLD, Way::Once)
+    play(&rt, rt.alloc(), 2, TOLD)
 }
 
 #[test]
 fn a_snapshot_stays_as_it_is(rt: HostRuntime) -> Result<(), Fail> {
-    play(&rt, rt.alloc(), KEPT, Way::Once)
+    play(&rt, rt.alloc(), 2, KEPT)
 }
 
 #[test]
 fn a_refused_summary_can_be_told_again(rt: HostRuntime) -> Result<(), Fail> {
-    play(&rt, rt.alloc(), AGAIN, Way::Once)
+    play(&rt, rt.alloc(), 2, AGAIN)
 }

@@ -1,222 +1,92 @@
-//! Seats on threads of their own, each of which takes turns until its part is done.
-use crate::entries::{Entry, owned};
-use crate::fronts::Channel;
-use crate::harness::{Of, TestCache, TestSeat};
-use crate::replies::Reply::{Busy, Full, Inside, Number, Place};
-use crate::replies::{By, Reply, reply_of};
-use crate::stress::Plan;
-use crate::watch::{TURNS, Watch};
-use std::alloc::{AllocError, Global};
-use std::process::Abort;
-use std::sync::Wait;
-use std::sync::atomic::{AtomicU64, Ordering};
+//! Seats on threads of their own, at one time.
+//!
+//! This finds an Add that others do not see once it has returned, or see before its gate was told;
+//! a lookup that waits for an Add, or a seat that waits for one which waits; and, under
+//! ThreadSanitizer, a race.
+use crate::stage::play;
 use std::test::Fail;
-use std::thread;
-use std::thread::Threads;
-use test_support::{Words, at};
-use tsc_cache::Cache;
 
-/// The key of each seat.
-static KEYS: [&str; 8] = ["a", "b", "c", "d", "e", "f", "g", "h"];
+/// Nobody sees an Add that is held up at its gate, and all do once that has let it go.
+const HELD: &str = "open 132 132 2 10 5.0 100 = done
+held 1000 20.0 [a] 20.0 A = done
+seat 1 get [a] = 20.0 A
+held 1000 20.0 [a] 30.0 A = done
+seat 4 get [a] = 30.0 A
+seat 4 get [b] = 5.0 -";
 
-/// What seats look up while an Add is held up, how often, and what they are answered.
-#[derive(Clone, Copy)]
-pub struct Meanwhile<'a> {
-    pub asked: &'a str,
-    pub looks: u32,
-    pub reply: Reply,
-    pub floor: Reply,
+/// Two keys, as a batch.
+const BATCH: &str = "open 132 132 2 10 5.0 10 = done
+held 1 20.0 [a] 20.0 A [b] 20.0 A = done
+seat 1 get [a] = 20.0 A
+seat 1 get [b] = 20.0 A";
+
+/// An Add that rotates the pages and drops the oldest. The floor rises to 20.0, which has no owner.
+const ROTATING: &str = "open 132 132 2 10 5.0 100 = done
+batch 20.0 [a] 20.0 A [b] 20.0 A [c] 20.0 A [d] 20.0 A = 1 0 0
+add [e] 20.0 A 20.0 = 1 1 0
+batch 40.0 [f] 41.0 A [g] 41.0 A [h] 41.0 A = 1 0 0
+held 1 40.0 [i] 41.0 A = done
+seat 1 get [a] = 20.0 -
+seat 1 get [b] = 20.0 -";
+
+const RETURNED: &str = "open 132 132 2 10 5.0 10000 = done
+returned 10000 = done";
+
+/// Each Add is told a place of its own, and all of them are there.
+const CROWD: &str = "open 132 132 2 10 5.0 400 = done
+crowd 50 = done
+see = 400";
+
+/// Adds that are refused memory have no place.
+const REFUSED: &str = "open 132 132 2 10 5.0 48 = done
+crowd 12 = done";
+
+/// Each seat has a key that is known to both copies. In the scene the first seat's Add is held up
+/// while the two others wait for the lock.
+const STOPPED: &str = "open 132 132 2 10 5.0 100000000 = done
+add [a] 20.0 A 20.0 = 1 0 0
+add [b] 20.0 A 20.0 = 1 0 0
+add [c] 20.0 A 20.0 = 1 0 0
+add [a] 20.0 A 20.0 = 1 0 0
+seat 1 add [b] 20.0 A 20.0 = 1 0 0
+seat 2 add [c] 20.0 A 20.0 = 1 0 0
+stopped 1000 20.0 [a] 20.0 A = done";
+
+#[test]
+fn all_lookups_answer_while_the_lock_is_held(rt: HostRuntime) -> Result<(), Fail> {
+    play(&rt, rt.alloc(), 5, HELD)
 }
 
-/// A scene under way. All that many turns need is there before a thread starts.
-#[derive(Drop)]
-pub struct Meeting<'a, C: Of> {
-    /// The name of the scene.
-    pub scene: &'a str,
-    pub plan: Plan<'a>,
-    pub meanwhile: Meanwhile<'a>,
-    pub seats: u64,
-    /// What is added where all Adds are alike, and the reply of one that is held up.
-    pub entry: Entry,
-    pub wanted: Reply,
-    pub gate: Watch,
-    /// To which Add each place was told, from 1 on.
-    pub places: Vec<AtomicU64>,
-    /// How many Adds have returned.
-    pub adds: AtomicU64,
-    /// A channel to each seat.
-    pub channels: Vec<Channel<C>>,
+/// For `scripts/refuse growth`.
+#[test]
+fn a_lookup_answers_while_a_batch_is_held_up(rt: HostRuntime) -> Result<(), Fail> {
+    play(&rt, rt.alloc(), 2, BATCH)
 }
 
-fn zeros(alloc: Global, count: u64) -> Result<Vec<AtomicU64>, AllocError> {
-    let mut zeros = Vec::new(alloc);
-    for _ in 0..count {
-        zeros.push(AtomicU64::new(0))?;
-    }
-    Ok(zeros)
+#[test]
+fn a_lookup_answers_while_a_rotating_add_is_held_up(rt: HostRuntime) -> Result<(), Fail> {
+    play(&rt, rt.alloc(), 2, ROTATING)
 }
 
-impl<'a, C: Of> Meeting<'a, C> {
-    /// The scene of a row, for some seats and a limit of Adds.
-    pub fn new(
-        alloc: Global,
-        words: &'a Words,
-        (seats, limit): (u64, u64),
-        meanwhile: Meanwhile<'a>,
-    ) -> Result<Meeting<'a, C>, Fail> {
-        let (plan, entry, wanted) = match *words {
-            ["held", entry, now, ..] => {
-                let entry = Entry::new(alloc, entry, now.parse()?)?;
-                (Plan::of(1), entry, reply_of(words.get(3..).unwrap_or(&[]))?)
-            }
-            _ => {
-                let entry = Entry::new(alloc, "a@20¹", 20)?;
-                (Plan::new(words)?, entry, Reply::Done)
-            }
-        };
-        let (lookers, places) = match words[0] {
-            "held" | "stopped" => (seats.saturating_sub(1), 0),
-            "crowd" | "retried" => (0, limit),
-            "ring" | "returned" | "both" | "tried" | "given_up" | "told" => (0, 0),
-            _ => return Err("no such step".into()),
-        };
-        Ok(Meeting {
-            scene: words[0],
-            plan,
-            meanwhile,
-            seats,
-            entry,
-            wanted,
-            gate: Watch::new(lookers),
-            places: zeros(alloc, places)?,
-            adds: AtomicU64::new(0),
-            channels: Channel::all(alloc, seats)?,
-        })
-    }
-
-    /// Whether keys or times rise, and the pages may rotate.
-    fn may_rotate(&self) -> bool {
-        matches!(self.scene, "ring" | "held") || self.plan.keys != "same"
-    }
-
-    /// Whether there are more rounds behind this one.
-    pub fn has_more(&self, round: u32) -> bool {
-        round.saturating_add(1) < self.plan.rounds
-    }
-
-    /// How many Adds the gate was told of, or that not all looked while the Add was held up. After
-    /// a stress there is a cache too that isn't shared, to which its Adds were made.
-    pub fn end(&self, alloc: Global) -> Result<(Reply, Option<Cache>), Fail> {
-        let reply = Number(self.gate.told());
-        match self.scene {
-            "held" | "stopped" if !self.gate.met.load(Ordering::SeqCst) => {
-                Ok((Reply::NoThread, None))
-            }
-            _ if self.has_gap() => Ok((Reply::Changed, None)),
-            "crowd" | "retried" => Ok((reply, Some(self.alone(alloc)?))),
-            _ => Ok((reply, None)),
-        }
-    }
+#[test]
+fn a_lookup_sees_each_add_that_has_returned(rt: HostRuntime) -> Result<(), Fail> {
+    play(&rt, rt.alloc(), 3, RETURNED)
 }
 
-/// A seat on its thread, with what its turns need.
-#[derive(Drop)]
-pub struct Player<'a, C: Of, R> {
-    pub rt: &'a R,
-    pub alloc: Global,
-    pub home: &'a TestCache<C>,
-    pub meeting: &'a Meeting<'a, C>,
-    pub guest: TestSeat<C>,
+/// For `scripts/test races`.
+#[test]
+fn eight_seats_have_each_place_once(rt: HostRuntime) -> Result<(), Fail> {
+    play(&rt, rt.alloc(), 8, CROWD)
 }
 
-impl<C: Of, R: Wait + Abort> Player<'_, C, R> {
-    /// A turn, and whether there are more to come.
-    fn turn(&mut self, round: u32) -> bool {
-        match self.meeting.scene {
-            "held" => self.hold(round),
-            "crowd" | "retried" => self.add_placed(round),
-            "returned" => self.follow(round),
-            "ring" => self.send_on(round),
-            "both" => self.add_both(round),
-            "tried" => self.try_beside(round),
-            "given_up" => self.add_own(round),
-            "told" => self.see_told(round),
-            _ => self.stop(round),
-        }
-    }
-
-    /// All turns. A thread that gave up would leave others waiting for it.
-    fn play(mut self) -> TestSeat<C> {
-        let mut has_more = true;
-        for round in 0..=TURNS {
-            has_more = self.turn(round);
-            if !has_more {
-                break;
-            }
-        }
-        self.check(!has_more, Reply::Changed);
-        self.guest
-    }
-
-    /// The number of the seat.
-    pub fn number(&self) -> u32 {
-        self.guest.seat.number()
-    }
-
-    /// A key of its own, where there are eight seats at the most.
-    pub fn key(&self) -> &'static str {
-        KEYS[self.number() as usize % 8]
-    }
-
-    /// An Add that is kept on the page that there is, but where the pages may rotate; or one that
-    /// was refused.
-    pub fn add(&mut self, entry: &Entry, by: By) -> Reply {
-        let (guest, gate) = (&mut self.guest, &self.meeting.gate);
-        let reply = self.home.add(self.rt, guest, entry, (by, gate));
-        let may_be = match reply {
-            Place(_, (true, false, 0)) => true,
-            Place(_, _) => self.meeting.may_rotate(),
-            Full(_) | Busy | Inside | Reply::NoMemory => true,
-            _ => false,
-        };
-        self.check(may_be, reply);
-        reply
-    }
-
-    /// An Add of a key at a time, which is its moment too.
-    pub fn add_key(&mut self, key: &str, wall: u64, by: By) -> Reply {
-        match Entry::point(self.alloc, key.as_bytes(), owned(wall), at(wall, 0)) {
-            Ok(entry) => self.add(&entry, by),
-            Err(_refused) => Reply::NoMemory,
-        }
-    }
-
-    pub fn get(&mut self, text: &str) -> Reply {
-        self.home.get_between(&mut self.guest, text)
-    }
-
-    pub fn check(&self, is_right: bool, reply: Reply) {
-        assert!(self.rt; is_right, "{reply:?}");
-    }
+/// For `scripts/refuse growth` and `scripts/refuse handle`.
+#[test]
+fn refused_adds_have_no_place(rt: HostRuntime) -> Result<(), Fail> {
+    play(&rt, rt.alloc(), 4, REFUSED)
 }
 
-/// All turns of all seats, each on a thread of its own.
-pub fn meet<C: Of + Send + Sync, R: Threads + Wait + Abort + Sync>(
-    rt: &R,
-    alloc: Global,
-    home: &TestCache<C>,
-    guests: Vec<TestSeat<C>>,
-    meeting: &Meeting<'_, C>,
-) -> Result<Vec<TestSeat<C>>, AllocError> {
-    let play = |guest: TestSeat<C>| {
-        let player = Player {
-            rt,
-            alloc,
-            home,
-            meeting,
-            guest,
-        };
-        player.play()
-    };
-    thread::map_vec(rt, guests, &play)
+/// For `scripts/refuse stop`, which stops two of the threads as the system may.
+#[test]
+fn a_stopped_seat_holds_up_nobody(rt: HostRuntime) -> Result<(), Fail> {
+    play(&rt, rt.alloc(), 3, STOPPED)
 }

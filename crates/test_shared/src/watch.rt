@@ -6,6 +6,9 @@ use tsc_shared::Gate;
 /// How often a thread looks whether another has come so far.
 pub const TURNS: u32 = 10_000_000;
 
+/// How often it looks whether an Add is held up, if it does not yield.
+const SPINS: u32 = 1_000_000_000;
+
 /// How many pauses it makes before it counts an Add, in which others may look for it.
 const PAUSES: u32 = 50;
 
@@ -33,6 +36,23 @@ impl Watch {
         }
     }
 
+    /// Waits until an Add is held up, and tells whether one was before the limit. Other threads run
+    /// meanwhile, if it yields.
+    pub fn is_reached(&self, yields: bool) -> bool {
+        for _ in 0..if yields { TURNS } else { SPINS } {
+            if self.told() > 0 {
+                return true;
+            }
+            if yields {
+                thread::yield_now();
+            } else {
+                hint::spin_loop();
+            }
+        }
+        self.alone.store(true, Ordering::SeqCst);
+        false
+    }
+
     /// How many Adds it was told of.
     pub fn told(&self) -> u64 {
         self.told.load(Ordering::SeqCst)
@@ -58,6 +78,8 @@ impl Watch {
 }
 
 impl Gate for Watch {
+    ghost HasTold = { λ _ _. Unit {0} };
+
     fn start(&self, _thread: u32, _call: u32) {}
 
     fn done(&self, _thread: u32, _call: u32) {}

@@ -1,8 +1,7 @@
 //! The bytes that texts of rows stand for, and streams over memory.
-pub(crate) mod watch;
 
-pub(crate) use crate::commands::traces::*;
-pub(crate) use crate::support::watch::Watch;
+pub(crate) use crate::examples::example;
+pub(crate) use crate::watch::Watch;
 use std::alloc::AllocGlobal;
 pub(crate) use std::alloc::{AllocError, Global};
 use std::ops::Range;
@@ -58,34 +57,23 @@ pub(crate) fn numbered(alloc: Global, table: &str) -> Result<String, AllocError>
     Ok(rows)
 }
 
-/// Adds what the signs of a piece stand for, at a number.
-fn add(bytes: &mut Vec<u8>, piece: &str, number: u32) -> Result<(), AllocError> {
-    for sign in piece.chars() {
-        match sign {
-            '¶' => bytes.push(b'\n')?,
-            '¹' => bytes.extend_from_slice(b"11111111-1111-4111-8111-111111111111")?,
-            '²' => bytes.extend_from_slice(b"22222222-2222-4222-8222-222222222222")?,
-            '⁰' => bytes.push((number % 10) as u8 | b'0')?,
-            '⁺' => bytes.push((number / 10 % 10) as u8 | b'0')?,
-            _ => bytes.push((sign as u32 % 256) as u8)?,
-        }
-    }
-    Ok(())
-}
-
 /// The bytes that a text stands for, or with `✂N` behind it the first N of them. Each `¦` ends a
-/// part, which may name an example. A part that ends with `×N` or `×M..N` comes for each number.
-///
-/// The sign `¶` is a line feed, `¹` and `²` are owners, and `⁰` and `⁺` the last digit of such a
-/// number and the one before it. Any other stands for the last byte of its code, as `␀` for 0.
+/// part, which may name an example. A part that ends with `×N` comes N times. The sign `¶` is a
+/// line feed, and `¹` and `²` are owners.
 pub(crate) fn bytes_of(alloc: Global, text: &str) -> Result<Vec<u8>, AllocError> {
     let (text, length) = text.split_once('✂').unwrap_or((text, ""));
     let mut bytes = Vec::new(alloc);
     for part in text.split('¦') {
         let (piece, times) = part.split_once('×').unwrap_or((part, "1"));
-        let piece = example(piece);
-        for number in numbers(times) {
-            add(&mut bytes, piece, number)?;
+        for _ in numbers(times) {
+            for sign in example(piece).chars() {
+                match sign {
+                    '¶' => bytes.push(b'\n')?,
+                    '¹' => bytes.extend_from_slice(b"11111111-1111-4111-8111-111111111111")?,
+                    '²' => bytes.extend_from_slice(b"22222222-2222-4222-8222-222222222222")?,
+                    _ => bytes.push((sign as u32 % 256) as u8)?,
+                }
+            }
         }
     }
     bytes.truncate(length.parse().unwrap_or(usize::MAX));
@@ -94,6 +82,7 @@ pub(crate) fn bytes_of(alloc: Global, text: &str) -> Result<Vec<u8>, AllocError>
 
 /// The bytes of a trace. Lists, which begin with `[[`, get a head.
 pub(crate) fn trace_of(alloc: Global, head: &str, text: &str) -> Result<Vec<u8>, AllocError> {
+    let text = example(text);
     if !text.starts_with("[[") {
         return bytes_of(alloc, text);
     }
@@ -104,16 +93,12 @@ pub(crate) fn trace_of(alloc: Global, head: &str, text: &str) -> Result<Vec<u8>,
 pub(crate) type Writer = Limited<FaultyStream<Vec<u8>>>;
 
 /// A reader or a writer whose calls go as words say: how many bytes a call moves, and which call
-/// fails, from 0, or whether calls are interrupted `in turn` or `always`; and behind `of` how many
-/// calls there may be.
+/// fails, from 0, or whether calls are interrupted `in turn`.
 pub(crate) fn stream<T>(inner: T, words: &str) -> Limited<FaultyStream<T>> {
-    let (words, turns) = words.split_once(" of ").unwrap_or((words, "33554432"));
     let (step, plan) = words.split_once(' ').unwrap_or(("65536", words));
     let plan = match plan {
         "in turn" => FaultPlan::InterruptedNowAndThen,
-        "always" => FaultPlan::AlwaysInterrupted,
         call => call.parse().map_or(FaultPlan::Never, FaultPlan::FailsAt),
     };
-    let inner = FaultyStream::new(inner, step.parse().unwrap_or(0), plan);
-    Limited::with_turns(inner, turns.parse().unwrap_or(0))
+    Limited::new(FaultyStream::new(inner, step.parse().unwrap_or(0), plan))
 }

@@ -13,6 +13,13 @@ use uuid::Uuid;
 /// An own read that is later is not passed over: where it is a lookup's answer, an earlier read of
 /// another transaction may lie behind it. Nobody owns a read of the nil UUID, so a writer with that
 /// name has to be later than all.
+///
+/// ```
+/// let read = Value::of(at(20), id('A'));
+/// assert!(rt; is_clear_of(read, at(20), id('A')));
+/// assert!(rt; !is_clear_of(read, at(20), id('B')));
+/// assert!(rt; is_clear_of(read, at(21), id('B')));
+/// ```
 pub fn is_clear_of(read: Value, at: Timestamp, by: Uuid) -> bool
     ensures { IsTrue result ↔ IsClearOf read by at }
 {
@@ -25,6 +32,13 @@ pub fn is_clear_of(read: Value, at: Timestamp, by: Uuid) -> bool
 ///
 /// The answer is `at` where that is clear, the time of an own read that is later, and else the
 /// timestamp after the read's.
+///
+/// ```
+/// let read = Value::of(at(20), id('A'));
+/// assert_eq!(rt; earliest_clear_of(read, at(15), id('B')), Timestamp::new(20, 1));
+/// assert_eq!(rt; earliest_clear_of(read, at(15), id('A')), Some(at(20)));
+/// assert_eq!(rt; earliest_clear_of(read, at(30), id('B')), Some(at(30)));
+/// ```
 pub fn earliest_clear_of(read: Value, at: Timestamp, by: Uuid) -> Option<Timestamp>
     ensures { TellsEarliest (λ t. IsClearOf read by t) at result }
 {

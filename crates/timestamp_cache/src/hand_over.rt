@@ -56,6 +56,15 @@ pub struct SeatSummary {
 /// page for each end key. It takes the memory of the span's keys and of the marks.
 ///
 /// The function restates `tscache.Cache.Serialize` of CockroachDB's `pkg/kv/kvserver/tscache`.
+///
+/// ```
+/// let mut cache = Cache::new(alloc, config()?)?;
+/// cache.add(&keys(alloc, "b", "")?, Value::of(at(20), id('A')), at(20))?;
+/// let whole = summary(alloc, &cache, &keys(alloc, "a", "z")?, 8)?;
+/// assert_eq!(rt; (whole.floor, whole.marks.len()), (at(5), 1));
+/// let short = summary(alloc, &cache, &keys(alloc, "a", "z")?, 0)?;
+/// assert_eq!(rt; (short.floor, short.marks.len()), (at(20), 0));
+/// ```
 pub fn summary(
     alloc: Global,
     cache: &Cache,
@@ -86,6 +95,14 @@ pub fn summary(
 /// The call waits for nobody. It is made over a [`snapshot`](SharedCache::snapshot), so an Add
 /// meanwhile waits for no more than a lookup, and finds the pages shared. Where memory is refused,
 /// the seat has seen as much as after a lookup.
+///
+/// ```
+/// let (cache, mut seats) = SharedCache::open(alloc, config()?, 1, u64::MAX)?;
+/// let mut seat = seats.pop().ok_or("a seat")?;
+/// cache.try_add(&mut seat, &keys(alloc, "b", "")?, Value::of(at(20), id('A')), at(20), 64)?;
+/// let told = summary_at(alloc, &cache, &mut seat, &keys(alloc, "a", "z")?, 8)?;
+/// assert_eq!(rt; (told.front, told.summary.marks.len()), (1, 1));
+/// ```
 pub fn summary_at(
     alloc: Global,
     cache: &SharedCache,
@@ -177,6 +194,13 @@ impl ReadSummary {
 ///
 /// The function restates `applyReadSummaryToTimestampCache` of CockroachDB's
 /// `pkg/kv/kvserver/replica_tscache.go`.
+///
+/// ```
+/// let (mut old, mut new) = (Cache::new(alloc, config()?)?, Cache::new(alloc, config()?)?);
+/// old.add(&keys(alloc, "b", "")?, Value::of(at(20), id('A')), at(20))?;
+/// apply(&mut new, &summary(alloc, &old, &keys(alloc, "a", "z")?, 8)?, at(30))?;
+/// assert_eq!(rt; new.get_max(&keys(alloc, "b", "")?), Value::of(at(20), id('A')));
+/// ```
 pub fn apply(cache: &mut Cache, summary: &ReadSummary, now: Timestamp) -> Result<Added, CacheFault>
     ensures stands { OnOk result ((settings : Settings) (s : CacheState) →
         RepresentsState cache.old settings s

@@ -29,6 +29,99 @@
 //! The rule is that of CockroachDB's `applyTimestampCache` (`pkg/kv/kvserver/replica_tscache.go`):
 //! a write goes above each read of its keys, save those of its own transaction. A write that is
 //! clear of what a lookup answers is clear of each read that was added.
+//!
+//! # Examples
+//!
+//! `scripts/test examples` runs each example of this crate as the body of a function that has the
+//! runtime `rt` and its allocator `alloc`. These lines stand before all of them:
+//!
+//! ```
+//! use std::alloc::Global;
+//! use std::slice;
+//! use std::test::Fail;
+//! use timestamp_cache::*;
+//!
+//! fn at(wall: u64) -> Timestamp {
+//!     Timestamp::new(wall, 0).unwrap_or(Timestamp::MAX)
+//! }
+//!
+//! fn id(name: char) -> Uuid {
+//!     Uuid::from_u128(u128::from(u32::from(name)))
+//! }
+//!
+//! fn keys(alloc: Global, from: &str, to: &str) -> Result<Span, SpanFault> {
+//!     Span::of(Key::new(alloc, from.as_bytes())?, Key::new(alloc, to.as_bytes())?)
+//! }
+//!
+//! fn config() -> Result<Config, ConfigFault> {
+//!     Config::new(1 << 10, 1 << 20, 2, 10_000_000_000, at(5))
+//! }
+//! ```
+//!
+//! A read of a span is added with its time and its transaction. Lookups of keys in the span then
+//! answer it, and others answer the floor:
+//!
+//! ```
+//! let mut cache = Cache::new(alloc, config()?)?;
+//! let added = cache.add(&keys(alloc, "a", "c")?, Value::of(at(20), id('A')), at(20))?;
+//! assert!(rt; added.kept && !added.rotated);
+//! assert_eq!(rt; cache.get_max(&keys(alloc, "b", "")?), Value::of(at(20), id('A')));
+//! assert_eq!(rt; cache.get_max(&keys(alloc, "c", "")?), Value::unowned(cache.low_water()));
+//! ```
+//!
+//! Bytes that lie elsewhere need no span of their own, and no memory for a lookup:
+//!
+//! ```
+//! let mut cache = Cache::new(alloc, config()?)?;
+//! let ends = Ends { exclude_from: false, exclude_to: true };
+//! cache.add_key(&KeyRef::new(b"a")?, Value::of(at(20), id('A')), at(20))?;
+//! cache.add_between(b"m", Some(b"p"), ends, Value::of(at(21), id('B')), at(21))?;
+//! assert_eq!(rt; cache.get_max_ref(&SpanRef::point(b"a")), Value::of(at(20), id('A')));
+//! assert_eq!(rt; cache.get_max_between(b"b", None, ends).time(), at(21));
+//! ```
+//!
+//! Several reads are added together or not at all. `next_all` and `next` leave the cache as it is,
+//! and make the one after it, which shares its pages:
+//!
+//! ```
+//! let mut cache = Cache::new(alloc, config()?)?;
+//! let read = Mark { span: keys(alloc, "a", "c")?, value: Value::of(at(20), id('A')) };
+//! cache.add_all(slice::from_ref(&read), at(20))?;
+//! let (next, added) = cache.next(&keys(alloc, "x", "")?, Value::of(at(30), id('B')), at(30))?;
+//! assert!(rt; added.kept);
+//! assert_eq!(rt; cache.get_max(&keys(alloc, "x", "")?).time(), at(5));
+//! assert_eq!(rt; next.get_max(&keys(alloc, "x", "")?).time(), at(30));
+//! assert_eq!(rt; (cache.figures().nodes, next.figures().nodes), (2, 3));
+//! ```
+//!
+//! Each thread has a seat of a shared cache. A thread that goes on with the work of another one
+//! first learns the front of that work:
+//!
+//! ```
+//! let (cache, mut seats) = SharedCache::open(alloc, config()?, 2, u64::MAX)?;
+//! let (mut one, mut two) = (seats.pop().ok_or("a seat")?, seats.pop().ok_or("a seat")?);
+//! let key = keys(alloc, "a", "")?;
+//! let receipt = cache.add(&rt, &mut one, &key, Value::of(at(20), id('A')), at(20))?;
+//! assert_eq!(rt; receipt.place, 0);
+//! assert_eq!(rt; cache.learn(&mut two, receipt.front)?, 1);
+//! let answer = cache.get_max(&mut two, &key)?;
+//! assert_eq!(rt; (answer.front, answer.value.time()), (1, at(20)));
+//! ```
+//!
+//! An Add with a number of tries waits for nobody. A cache closes once it has all its seats:
+//!
+//! ```
+//! let (cache, mut seats) = SharedCache::open(alloc, config()?, 1, u64::MAX)?;
+//! let mut seat = seats.pop().ok_or("a seat")?;
+//! let key = keys(alloc, "a", "")?;
+//! cache.try_add(&mut seat, &key, Value::of(at(20), id('A')), at(20), 64)?;
+//! let before = cache.snapshot(&mut seat)?;
+//! cache.try_add(&mut seat, &key, Value::of(at(30), id('B')), at(30), 64)?;
+//! assert_eq!(rt; before.cache.get_max(&key).time(), at(20));
+//! seats.push(seat)?;
+//! let Ok(closed) = cache.finish(seats) else { return Err("a seat is out")? };
+//! assert_eq!(rt; (closed.adds, closed.cache.get_max(&key).time()), (2, at(30)));
+//! ```
 #![tactic(auto)]
 
 mod clear;

@@ -9,6 +9,11 @@ use tsc_time::Timestamp;
 ///
 /// The next timestamp has one logical count more, or where that was the greatest, the next
 /// nanosecond.
+///
+/// ```
+/// assert_eq!(rt; next_time(at(20)), Timestamp::new(20, 1));
+/// assert_eq!(rt; next_time(Timestamp::MAX), None);
+/// ```
 pub fn next_time(time: Timestamp) -> Option<Timestamp>
     ensures { TellsEarliest (λ t. is_before time t ≡ true) time result }
 {

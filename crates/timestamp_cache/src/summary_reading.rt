@@ -34,6 +34,15 @@ impl ReadSummary {
     /// Bytes of another version, of another length than they tell, or with another digest than
     /// that of what stands before it, are refused, in this order; and then bytes in whose frame
     /// there is no summary. It takes the memory of the summary's keys and marks.
+    ///
+    /// ```
+    /// let cache = Cache::new(alloc, config()?)?;
+    /// let mut bytes = summary(alloc, &cache, &keys(alloc, "a", "z")?, 8)?.to_bytes()?;
+    /// assert_eq!(rt; ReadSummary::from_bytes(alloc, &bytes)?.floor, at(5));
+    /// bytes.pop();
+    /// let cut = ReadSummary::from_bytes(alloc, &bytes).err();
+    /// assert_eq!(rt; cut, Some(SummaryFault::Length));
+    /// ```
     pub fn from_bytes(alloc: Global, bytes: &[u8]) -> Result<ReadSummary, SummaryFault>
         ensures read { Gives (λ told. told) result (summary_of bytes.now) }
         ensures written { IfOk result (λ told.

@@ -29,6 +29,13 @@ impl ReadSummary {
     /// form. [`from_bytes`](ReadSummary::from_bytes) reads them back.
     ///
     /// The call takes the memory of the bytes, twice at the most while it writes.
+    ///
+    /// ```
+    /// let cache = Cache::new(alloc, config()?)?;
+    /// let told = summary(alloc, &cache, &keys(alloc, "a", "z")?, 8)?;
+    /// let read = ReadSummary::from_bytes(alloc, &told.to_bytes()?)?;
+    /// assert_eq!(rt; (read.floor, read.marks.len()), (at(5), 0));
+    /// ```
     pub fn to_bytes(&self) -> Result<Vec<u8>, NoMemory>
         ensures written { IfOk result (λ bytes. bytes.items ≡ summary_bytes self.now) }
         ensures read_back { IfOk result (λ bytes. summary_of bytes.items ≡ Ok self.now) }

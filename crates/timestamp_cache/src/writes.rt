@@ -18,6 +18,14 @@ use uuid::Uuid;
 /// A write that may be made is clear of each read on the span that was added so far, also of one
 /// whose page is gone. Where it may not, the transaction may still be pushed, to the time that
 /// [`earliest_write`] tells. It costs a lookup, and takes no memory.
+///
+/// ```
+/// let mut cache = Cache::new(alloc, config()?)?;
+/// cache.add(&keys(alloc, "a", "c")?, Value::of(at(20), id('A')), at(20))?;
+/// let key = keys(alloc, "b", "")?;
+/// assert!(rt; may_write(&cache, &key, at(20), id('A')));
+/// assert!(rt; !may_write(&cache, &key, at(20), id('B')));
+/// ```
 pub fn may_write(cache: &Cache, span: &Span, at: Timestamp, by: Uuid) -> bool
     ensures value { IsTrue result ↔ IsClearOf (cache_answer cache.now span.now) by at }
     ensures reads { IsTrue result → (settings : Settings) (h : History) →
@@ -31,6 +39,15 @@ pub fn may_write(cache: &Cache, span: &Span, at: Timestamp, by: Uuid) -> bool
 /// clear of each read on the span in it.
 ///
 /// The call waits for nobody, takes no memory, and is never [`Gone`].
+///
+/// ```
+/// let (cache, mut seats) = SharedCache::open(alloc, config()?, 1, u64::MAX)?;
+/// let mut seat = seats.pop().ok_or("a seat")?;
+/// let key = keys(alloc, "b", "")?;
+/// cache.try_add(&mut seat, &key, Value::of(at(20), id('A')), at(20), 64)?;
+/// assert!(rt; may_write_at(&cache, &mut seat, &key, at(20), id('A'))?);
+/// assert!(rt; !may_write_at(&cache, &mut seat, &key, at(20), id('B'))?);
+/// ```
 pub fn may_write_at(
     cache: &SharedCache,
     seat: &mut Seat,
@@ -51,6 +68,14 @@ pub fn may_write_at(
 ///
 /// A write at that time is clear of each read on one of the spans that was added so far. The call
 /// costs a lookup for each span, and takes no memory.
+///
+/// ```
+/// let mut cache = Cache::new(alloc, config()?)?;
+/// cache.add(&keys(alloc, "a", "c")?, Value::of(at(20), id('A')), at(20))?;
+/// let spans = [keys(alloc, "b", "")?, keys(alloc, "x", "")?];
+/// assert_eq!(rt; earliest_write(&cache, &spans, at(15), id('A')), Some(at(20)));
+/// assert_eq!(rt; earliest_write(&cache, &spans, at(15), id('B')), Timestamp::new(20, 1));
+/// ```
 pub fn earliest_write(cache: &Cache, spans: &[Span], at: Timestamp, by: Uuid) -> Option<Timestamp>
     ensures earliest { TellsEarliest (λ t. IsClearOfAnswers cache.now spans.now by t) at result }
     ensures reads { IfSome result (λ t. (settings : Settings) (h : History) →
@@ -76,6 +101,15 @@ pub fn earliest_write(cache: &Cache, spans: &[Span], at: Timestamp, by: Uuid) ->
 /// span they are all that it had seen before the call, or more.
 ///
 /// The call waits for nobody, takes no memory, and is never [`Gone`].
+///
+/// ```
+/// let (cache, mut seats) = SharedCache::open(alloc, config()?, 1, u64::MAX)?;
+/// let mut seat = seats.pop().ok_or("a seat")?;
+/// let key = keys(alloc, "b", "")?;
+/// cache.try_add(&mut seat, &key, Value::of(at(20), id('A')), at(20), 64)?;
+/// let told = earliest_write_at(&cache, &mut seat, slice::from_ref(&key), at(15), id('B'))?;
+/// assert_eq!(rt; told, Timestamp::new(20, 1));
+/// ```
 pub fn earliest_write_at(
     cache: &SharedCache,
     seat: &mut Seat,

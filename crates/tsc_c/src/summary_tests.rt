@@ -1,4 +1,4 @@
-//! What one cache tells of a read, and what another one does with that. `scripts/test-c-library`
+//! What one cache tells of a read, and what another one does with that. `scripts/test library`
 //! tests more of it, from C.
 
 use crate::cache_calls::{tsc_add, tsc_free, tsc_get_max, tsc_open};

@@ -1,4 +1,4 @@
-//! Each call once, with ample memory, and what it answers. `scripts/test-c-library` tests far more
+//! Each call once, with ample memory, and what it answers. `scripts/test library` tests far more
 //! of them, from C.
 
 use crate::cache_calls::{

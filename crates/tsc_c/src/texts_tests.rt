@@ -1,5 +1,5 @@
 //! What is said of bytes, with room for it and without, and what the buffer holds then.
-//! `scripts/test-c-library` tests more of it, from C.
+//! `scripts/test library` tests more of it, from C.
 
 use crate::texts::{tsc_check, tsc_replay};
 use crate::version::tsc_version;

@@ -77,6 +77,8 @@ impl<C: Clock> Progress for Meter<'_, C> {
 }
 
 impl<C: Clock> Gate for Meter<'_, C> {
+    ghost HasTold = { λ _ _. Unit {0} };
+
     fn start(&self, _thread: u32, _call: u32) {}
 
     fn done(&self, _thread: u32, _call: u32) {
@@ -95,6 +97,8 @@ impl Progress for NoMeter {
 }
 
 impl Gate for NoMeter {
+    ghost HasTold = { λ _ _. Unit {0} };
+
     fn start(&self, _thread: u32, _call: u32) {}
 
     fn done(&self, _thread: u32, _call: u32) {}

@@ -1,5 +1,5 @@
 -- What is closed at the place of a handle is closed at the handle.
-use Rattle.std.proofs.Common.{◌≡◌, refl, sym, ap, ◌∙◌, subst, inl, ℕ, List}
+use Rattle.std.proofs.Common.{◌≡◌, refl, sym, subst, inl, ℕ, List}
 use Rattle.std.specs.Prelude.{Option, Some, None, Result, Err, slice_get, slice_set}
 use Rattle.tsc_ffi_store.specs.declared.refusal.Refusal.{Refusal}
 use Rattle.tsc_ffi_store.specs.declared.refusal.Refusal.TheVariants as refusal

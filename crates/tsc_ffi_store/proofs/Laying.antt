@@ -1,5 +1,5 @@
 -- What is laid behind all that there is has the next handle.
-use Rattle.std.proofs.Common.{◌≡◌, ◌∙◌, refl, sym, ap, subst, ℕ, ◌+◌, List, [], ◌∷◌, ◌++◌, length}
+use Rattle.std.proofs.Common.{◌≡◌, ◌∙◌, refl, sym, ap, subst, ℕ, List, [], ◌∷◌, ◌++◌, length}
 use Rattle.std.proofs.lemmas.List.{append_assoc}
 use Rattle.tsc_ffi_store.specs.declared.store.Slot.{Slot}
 use Rattle.tsc_ffi_store.specs.OpenHandles.{named_by, AreOpen, Lays}

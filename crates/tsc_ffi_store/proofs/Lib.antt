@@ -9,6 +9,7 @@ mod GoingOn
 mod Handles
 mod Laying
 mod MarksMade
+mod NamedSpans
 mod MayWrite
 mod NewSeats
 mod NextHandle

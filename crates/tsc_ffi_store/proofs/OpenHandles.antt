@@ -1,7 +1,7 @@
 -- What handles name, as those that are open are looked up, changed, left out and given.
 use Rattle.std.proofs.Common.{◌≡◌, ◌≢◌, ◌⊎◌, ◌∙◌, inl, inr, refl, sym, ap, subst, Bool, true, false}
 use Rattle.std.proofs.Common.{ℕ, zero, suc, ◌+◌, ◌<◌, ◌≤◌, List, [], ◌∷◌, ◌++◌, length, get_or, set, arith}
-use Rattle.std.specs.Prelude.{◌==◌, Option, Some, None, Result, Ok, Err, slice_get, slice_set, if◌then◌else◌}
+use Rattle.std.specs.Prelude.{◌==◌, Some, None, Err, slice_get, slice_set, if◌then◌else◌}
 use Rattle.std.specs.List.{All, remove}
 use Rattle.std.specs.List.Sorted.{IsBinarySearchResult}
 use Rattle.std.specs.Ordering.{nat_cmp}
@@ -15,7 +15,7 @@ use Rattle.std.proofs.lemmas.Option.{slice_get-get_or, slice_get_past}
 use Rattle.std.proofs.Math.Seq.{get_or-append_seam}
 use Rattle.tsc_ffi_store.specs.declared.store.Slot.{Slot}
 use Rattle.tsc_ffi_store.specs.declared.store.Slot.TheVariants.{Closed}
-use Rattle.tsc_ffi_store.specs.OpenHandles.{names, named_by, Rises, AreOpen, StandsThere, IsNotOpen, IsPlaceOf}
+use Rattle.tsc_ffi_store.specs.OpenHandles.{names, named_by, Rises, AreOpen, StandsThere, IsNotOpen}
 
 -- ---- one number or another
 

@@ -1,6 +1,6 @@
 -- The steps at the slots in which seats are returned keep their rule.
 use Rattle.std.proofs.Common.{◌≡◌, ◌≢◌, ◌⊎◌, ◌∙◌, inl, inr, refl, sym, ap, subst, true, false, ℕ, zero, suc, ◌+◌, ◌<◌, List, [], ◌∷◌, ◌++◌, length, map, set, arith, slice_index, length-set, get_or-set_other, get_or-set_same, rules}
-use Rattle.std.specs.Prelude.{Option, Some, None, replicate}
+use Rattle.std.specs.Prelude.{Some, None, replicate}
 use mathlib.Core.Logic.{dite}
 use native.Mathlib.Decide.{ℕ_discrete}
 use mathlib.Core.Option as maybe

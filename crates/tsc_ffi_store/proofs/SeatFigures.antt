@@ -1,10 +1,6 @@
 -- The figures of a snapshot are those of what the seat has seen then.
-use Rattle.std.proofs.Common.{◌≡◌, ◌∙◌, ap, subst, ℕ, length}
-use Rattle.tsc_cache.specs.declared.figures.Figures.{Figures}
-use Rattle.tsc_cache.specs.Settings.{Settings}
-use Rattle.tsc_cache.specs.State.{CacheState}
+use Rattle.std.proofs.Common.{◌∙◌, ap}
 use Rattle.tsc_cache.specs.Counts.{figures_of}
-use Rattle.tsc_cache.specs.CacheView.{CacheView, RepresentsState}
 use Rattle.tsc_cache.specs.History.{state_of}
 use Rattle.tsc_cache.proofs.Beginnings.{begins_on}
 use Rattle.tsc_shared.specs.declared.answers.SeatFigures.{SeatFigures}

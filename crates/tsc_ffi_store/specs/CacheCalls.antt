@@ -1,5 +1,5 @@
 -- What a call makes of the cache that it names, and why it is refused.
-use Rattle.std.specs.Prelude.{◌≡◌, ◌⊎◌, ℕ, List, false, Option, Some, None, Result, Ok, IfOk, IfErr, IsOk, OnErr}
+use Rattle.std.specs.Prelude.{◌≡◌, ◌⊎◌, ℕ, List, true, false, Option, Some, None, Result, Ok, IfOk, IfErr, IsOk, OnErr}
 use Rattle.tsc_time.specs.Time.{Time}
 use Rattle.tsc_time.specs.OwnedTime.{OwnedTime}
 use Rattle.tsc_span.specs.Span.{Interval}
@@ -91,11 +91,19 @@ pub record IsTooLarge (why : Refusal) (cache : CacheView) (asked : AskedSpan) : 
   pub too_large : fits cache.settings span ≡ false
   pub told : why ≡ refusal.TooLarge
 
+-- A span that was named fits a page, but memory was refused for its Add.
+pub record LacksMemoryFor (why : Refusal) (cache : CacheView) (asked : AskedSpan) : Type 0 where
+  pub span : Interval
+  pub asked_for : add_span asked ≡ Some span
+  pub fit : fits cache.settings span ≡ true
+  pub told : why ≡ refusal.NoMemory
+
 -- Why a cache refused an Add.
 abbrev pub RefusesAdd : Refusal → CacheView → AskedAdd → Type 0
 RefusesAdd why cache asked =
     RefusesTime why asked.value.time ⊎ RefusesTime why asked.moment ⊎
-    RefusesAddSpan why asked.span ⊎ IsTooLarge why cache asked.span ⊎ (why ≡ refusal.NoMemory)
+    RefusesAddSpan why asked.span ⊎ IsTooLarge why cache asked.span ⊎
+    LacksMemoryFor why cache asked.span
 
 -- What an Add to a cache does.
 pub record AnswersAdd {A : Type 0} (asked : AskedAdd) (told : Added) (cache after : CacheView)
@@ -121,10 +129,18 @@ pub record AreTooLarge (why : Refusal) (cache : CacheView) (asked : AskedBatch) 
   pub too_large : all_fit cache.settings marks ≡ false
   pub told : why ≡ refusal.TooLarge
 
+-- The spans of all marks that were named fit a page, but memory was refused for their Add.
+pub record LackMemoryFor (why : Refusal) (cache : CacheView) (asked : AskedBatch) : Type 0 where
+  pub marks : List Mark
+  pub asked_for : AreMarks asked.keys asked.marks marks
+  pub fit : all_fit cache.settings marks ≡ true
+  pub told : why ≡ refusal.NoMemory
+
 -- Why a cache refused an Add of several marks.
 abbrev pub RefusesAddAll : Refusal → CacheView → AskedBatch → Type 0
 RefusesAddAll why cache asked = RefusesTime why asked.moment ⊎
-    RefusesMarks why asked.keys asked.marks ⊎ AreTooLarge why cache asked ⊎ (why ≡ refusal.NoMemory)
+    RefusesMarks why asked.keys asked.marks ⊎ AreTooLarge why cache asked ⊎
+    LackMemoryFor why cache asked
 
 -- What an Add of several marks to a cache does.
 pub record AnswersAddAll {A : Type 0} (asked : AskedBatch) (told : Added) (cache after : CacheView)

@@ -1,5 +1,5 @@
 -- What the arguments of a call from C ask for, and why they are refused.
-use Rattle.std.specs.Prelude.{◌≡◌, ◌⊎◌, ◌<◌, ◌==◌, ℕ, List, length, Bool, true, false, Option, Some, None, Result, Err, if◌then◌else◌}
+use Rattle.std.specs.Prelude.{◌≡◌, ◌⊎◌, ◌<◌, ◌≤◌, ◌==◌, ℕ, List, length, Bool, true, false, Option, Some, None, Result, Err, if◌then◌else◌}
 use Rattle.tsc_time.specs.Time.{Time, is_in_range}
 use Rattle.tsc_time.specs.OwnedTime.{OwnedTime, owner_of}
 use Rattle.tsc_span.specs.declared.span.Ends.{Ends}
@@ -169,31 +169,50 @@ RefusesTime why t = (why ≡ refusal.Time) × (is_in_range t ≡ false)
 abbrev pub RefusesEnds : Refusal → ℕ → Type 0
 RefusesEnds why ends = (why ≡ refusal.Ends) × (form_of ends ≡ None)
 
--- Why a key was refused.
+-- Why a key was refused: it is too long.
 abbrev pub RefusesKey : Refusal → KeyBytes → Type 0
-RefusesKey why key = ((why ≡ refusal.KeyTooLong) × (longest_key < length key)) ⊎
-    (why ≡ refusal.NoMemory)
+RefusesKey why key = (why ≡ refusal.KeyTooLong) × (longest_key < length key)
 
--- Why two keys were refused.
-abbrev pub RefusesKeys : Refusal → KeyBytes → KeyBytes → Type 0
-RefusesKeys why from to = RefusesKey why from ⊎ RefusesKey why to
+-- a key is not too long
+abbrev pub IsShort : KeyBytes → Type 0
+IsShort key = length key ≤ longest_key
 
--- Why two keys were refused for a range.
+-- Two keys name a range, and neither is too long.
+abbrev pub NamesRange : KeyBytes → KeyBytes → Ends → Type 0
+NamesRange from to ends = IsShort from × IsShort to ×
+    ((span : Interval) × (range from to ends.exclude_from ends.exclude_to ≡ Some span))
+
+-- Why two keys were refused for a range. No memory is asked for unless they name one.
 abbrev pub RefusesRange : Refusal → KeyBytes → KeyBytes → Ends → Type 0
-RefusesRange why from to ends = RefusesKeys why from to ⊎
-    ((why ≡ refusal.Inverted) × (range from to ends.exclude_from ends.exclude_to ≡ None))
+RefusesRange why from to ends = RefusesKey why from ⊎ RefusesKey why to ⊎
+    ((why ≡ refusal.Inverted) × (range from to ends.exclude_from ends.exclude_to ≡ None)) ⊎
+    ((why ≡ refusal.NoMemory) × NamesRange from to ends)
 
 -- Why a second key was refused, which only a range has.
 abbrev pub RefusesSecondKey : Refusal → KeyBytes → ℕ → Type 0
 RefusesSecondKey why to ends = (excluded : Ends) × (form_of ends ≡ Some (Range excluded)) ×
     RefusesKey why to
 
--- Why a call names no span to be added.
+-- the keys that a form has are not too long
+abbrev pub AreShort : KeyBytes → KeyBytes → Option Form → Type 0
+AreShort from to None = ⊥
+AreShort from to (Some Point) = IsShort from
+AreShort from to (Some (Range ends)) = IsShort from × IsShort to
+AreShort from to (Some (Onward excluded)) = IsShort from
+
+-- A call names a span that may be added, for a copy of which memory is asked.
+pub record NamesAddSpan (asked : AskedSpan) : Type 0 where
+  pub short : AreShort asked.from asked.to (form_of asked.ends)
+  pub span : Interval
+  pub named : add_span asked ≡ Some span
+
+-- Why a call names no span to be added, or why there is no copy of the span that it names.
 abbrev pub RefusesAddSpan : Refusal → AskedSpan → Type 0
 RefusesAddSpan why asked =
     RefusesEnds why asked.ends ⊎ RefusesKey why asked.from ⊎
     RefusesSecondKey why asked.to asked.ends ⊎
-    ((why ≡ refusal.Inverted) × (add_span asked ≡ None))
+    ((why ≡ refusal.Inverted) × (add_span asked ≡ None)) ⊎
+    ((why ≡ refusal.NoMemory) × NamesAddSpan asked)
 
 -- A call names a range from a key to a smaller one.
 abbrev pub IsInverted : AskedSpan → Type 0

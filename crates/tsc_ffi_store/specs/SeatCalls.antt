@@ -1,5 +1,5 @@
 -- What a call makes of a shared cache, or of the seat that it names, and why it is refused.
-use Rattle.std.specs.Prelude.{◌≡◌, ◌≢◌, ◌⊎◌, ◌++◌, ◌∷◌, ◌+◌, ℕ, List, [], map, length, slice_get, slice_set, true, false, Option, Some, None, Result, Ok, Err, IfOk, IfErr, IsOk, OnErr}
+use Rattle.std.specs.Prelude.{◌≡◌, ◌≢◌, ◌⊎◌, ◌++◌, ◌∷◌, ◌+◌, ◌<◌, ℕ, List, [], map, length, slice_get, slice_set, true, false, Option, Some, None, Result, Ok, Err, IfOk, IfErr, IsOk, OnErr}
 use Rattle.tsc_time.specs.Time.{Time}
 use Rattle.tsc_time.specs.OwnedTime.{OwnedTime}
 use Rattle.tsc_span.specs.Span.{Interval}
@@ -131,10 +131,22 @@ KeepsOnRefusal old new = (new ≡ old) ⊎ IsSpared old new
 abbrev pub IsFull : Refusal → SeatView → SeatView → Type 0
 IsFull why old new = (why ≡ refusal.Full) × (length new.seen ≡ old.cache.limit)
 
--- Why a cache refused an Add that fits a page of it: it did not wait for others, or it came to its
--- turn, and its history was full or memory was refused.
+-- The history of the seat's cache was not full when the seat looked.
+abbrev pub IsBelowLimit : SeatView → SeatView → Type 0
+IsBelowLimit old new = length new.seen < old.cache.limit
+
+-- Others were in the way at each try: another seat had the writer lock, and the seat is as it was;
+-- or a seat was inside a lookup, and the history was not full.
+abbrev pub IsBusy : Refusal → SeatView → SeatView → Type 0
+IsBusy why old new = (why ≡ refusal.Busy) × ((new ≡ old) ⊎ IsBelowLimit old new)
+
+-- Memory was refused, and the history was not full.
+abbrev pub LacksMemory : Refusal → SeatView → SeatView → Type 0
+LacksMemory why old new = (why ≡ refusal.NoMemory) × IsBelowLimit old new
+
+-- Why a cache refused an Add that fits a page of it.
 abbrev pub RefusesTried : Refusal → SeatView → SeatView → Type 0
-RefusesTried why old new = (why ≡ refusal.Busy) ⊎ IsFull why old new ⊎ (why ≡ refusal.NoMemory)
+RefusesTried why old new = IsBusy why old new ⊎ IsFull why old new ⊎ LacksMemory why old new
 
 -- what a cache says of an Add that it refused, and what C is told
 abbrev pub IsCodeOf : TryAddFault → Refusal → Type 0
@@ -152,12 +164,24 @@ pub record IsSeatTooLarge (why : Refusal) (old new : SeatView) (asked : AskedSpa
   pub told : why ≡ refusal.TooLarge
   pub same : new ≡ old
 
+-- A span that was named fits a page, and its Add was tried.
+pub record RefusesFitting (why : Refusal) (old new : SeatView) (asked : AskedSpan) : Type 0 where
+  pub span : Interval
+  pub asked_for : add_span asked ≡ Some span
+  pub fit : fits old.cache.config span ≡ true
+  pub told : RefusesTried why old new
+
+-- What a call says of an Add was refused before the seat was asked.
+abbrev pub RefusesNamed : Refusal → AskedAdd → Type 0
+RefusesNamed why asked =
+    RefusesTime why asked.value.time ⊎ RefusesTime why asked.moment ⊎
+    RefusesAddSpan why asked.span
+
 -- Why an Add at a seat was refused.
 abbrev pub RefusesSeatAdd : Refusal → SeatView → SeatView → AskedAdd → Type 0
 RefusesSeatAdd why old new asked =
-    RefusesTime why asked.value.time ⊎ RefusesTime why asked.moment ⊎
-    RefusesAddSpan why asked.span ⊎ IsSeatTooLarge why old new asked.span ⊎
-    RefusesTried why old new
+    (RefusesNamed why asked × (new ≡ old)) ⊎ IsSeatTooLarge why old new asked.span ⊎
+    RefusesFitting why old new asked.span
 
 -- What an Add at a seat does that may be tried.
 pub record AnswersTriedAdd {A : Type 0} (asked : AskedAdd) (place : ℕ) (told : Added)
@@ -187,11 +211,24 @@ pub record AreSeatTooLarge (why : Refusal) (old new : SeatView) (asked : AskedBa
   pub told : why ≡ refusal.TooLarge
   pub same : new ≡ old
 
+-- The spans of all marks that were named fit a page, and their Add was tried.
+pub record RefusesAllFitting (why : Refusal) (old new : SeatView) (asked : AskedBatch) : Type
+    0 where
+  pub marks : List Mark
+  pub asked_for : AreMarks asked.keys asked.marks marks
+  pub fit : all_fit old.cache.config marks ≡ true
+  pub told : RefusesTried why old new
+
+-- What a call says of several marks was refused before the seat was asked.
+abbrev pub RefusesBatch : Refusal → AskedBatch → Type 0
+RefusesBatch why asked =
+    RefusesTime why asked.moment ⊎ RefusesMarks why asked.keys asked.marks
+
 -- Why an Add of several marks at a seat was refused.
 abbrev pub RefusesSeatAddAll : Refusal → SeatView → SeatView → AskedBatch → Type 0
 RefusesSeatAddAll why old new asked =
-    RefusesTime why asked.moment ⊎ RefusesMarks why asked.keys asked.marks ⊎
-    AreSeatTooLarge why old new asked ⊎ RefusesTried why old new
+    (RefusesBatch why asked × (new ≡ old)) ⊎ AreSeatTooLarge why old new asked ⊎
+    RefusesAllFitting why old new asked
 
 -- What an Add of several marks at a seat does that may be tried.
 pub record AnswersTriedAddAll {A : Type 0} (asked : AskedBatch) (place : ℕ) (told : Added)

@@ -202,8 +202,10 @@ fn add_formed(
         result }
     ensures kept { OnErr result (out.new ≡ out.old) }
 {
+    let value = value(args.value)?;
+    let moment = time(args.moment)?;
     let span = added_span(alloc, &args.span)?;
-    match cache.add(&span, value(args.value)?, time(args.moment)?) {
+    match cache.add(&span, value, moment) {
         Ok(added) => {
             *out = words_of_added(added);
             Ok(())
@@ -239,8 +241,9 @@ fn add_all_to(
         result }
     ensures kept { OnErr result (out.new ≡ out.old) }
 {
+    let moment = time(args.moment)?;
     let marks = marks(alloc, args.keys, args.marks)?;
-    match cache.add_all(&marks, time(args.moment)?) {
+    match cache.add_all(&marks, moment) {
         Ok(added) => {
             *out = words_of_added(added);
             Ok(())

@@ -1,9 +1,9 @@
 //! What the arguments of a call ask for: its times, its owner, its span and its configuration.
 
 ghost use Rattle.std.specs.Prelude.{◌≡◌, IfOk, IfErr, Ok as Made, Some, true};
-ghost use Rattle.tsc_span.specs.Span.{range, is_inverted};
-ghost use Rattle.tsc_ffi_store.specs.Decode.{time_of, value_of, added_of, figures_told, form_of, asked_span, add_span, lookup_span, asked_config, settings_asked, RefusesTime, RefusesEnds, RefusesKey, RefusesRange, RefusesAddSpan, RefusesSettings, RefusesConfig, RefusesWrittenSpan};
-ghost use Rattle.tsc_ffi_store.specs.declared.refusal.Refusal.TheVariants.{Inverted};
+ghost use Rattle.tsc_span.specs.Span.{Interval, range, is_inverted};
+ghost use Rattle.tsc_ffi_store.specs.Decode.{time_of, value_of, added_of, figures_told, form_of, asked_span, add_span, lookup_span, asked_config, settings_asked, IsShort, RefusesTime, RefusesEnds, RefusesKey, RefusesRange, RefusesAddSpan, RefusesSettings, RefusesConfig, RefusesWrittenSpan};
+ghost use Rattle.tsc_ffi_store.specs.declared.refusal.Refusal.TheVariants.{Inverted, NoMemory};
 
 use crate::counts::Counts;
 use crate::ctypes::{ConfigArgs, SpanArgs, TscAdded, TscFigures, TscTime, TscValue};
@@ -11,7 +11,7 @@ use crate::refusal::Refusal;
 use std::alloc::Global;
 use std::cmp::Ordering;
 use tsc_cache::{Added, Config, ConfigFault, Figures};
-use tsc_span::{Ends, Key, Span, SpanFault, SpanRef};
+use tsc_span::{Ends, Key, KeyRef, Span, SpanRef};
 use tsc_time::{Timestamp, Value};
 use uuid::Uuid;
 
@@ -155,14 +155,25 @@ fn form_meant_by(ends: u32) -> Result<Form, Refusal>
     }))
 }
 
-/// The key of these bytes.
-pub(crate) fn key(alloc: Global, bytes: &[u8]) -> Result<Key, Refusal>
+/// The key of these bytes, over them where they lie.
+pub(crate) fn key(bytes: &[u8]) -> Result<KeyRef<'_>, Refusal>
     ensures value { IfOk result (λ key. key ≡ bytes.now) }
+    ensures short { IfOk result (λ _. IsShort bytes.now) }
     ensures refused { IfErr result (λ refusal. RefusesKey refusal bytes.now) }
 {
-    match Key::new(alloc, bytes) {
+    match KeyRef::new(bytes) {
         Ok(key) => Ok(key),
-        Err(SpanFault::KeyTooLong) => Err(Refusal::KeyTooLong),
+        Err(_) => Err(Refusal::KeyTooLong),
+    }
+}
+
+/// A copy of a key.
+fn copy_of(alloc: Global, key: &KeyRef<'_>) -> Result<Key, Refusal>
+    ensures value { IfOk result (λ copy. copy ≡ key.now) }
+    ensures refused { IfErr result (λ refusal. refusal ≡ NoMemory) }
+{
+    match key.to_key(alloc) {
+        Ok(copy) => Ok(copy),
         Err(_) => Err(Refusal::NoMemory),
     }
 }
@@ -173,23 +184,46 @@ pub fn added_span(alloc: Global, args: &SpanArgs<'_>) -> Result<Span, Refusal>
     ensures refused { IfErr result (λ refusal. RefusesAddSpan refusal (asked_span args.now)) }
 {
     match form_meant_by(args.ends)? {
-        Form::Point => Ok(Span::point(key(alloc, args.from)?)),
+        Form::Point => Ok(Span::point(copy_of(alloc, &key(args.from)?)?)),
         Form::Range(ends) => added_range(alloc, args.from, args.to, ends),
-        Form::Onward(excluded) => Ok(Span::onward(key(alloc, args.from)?, excluded)),
+        Form::Onward(excluded) => Ok(Span::onward(copy_of(alloc, &key(args.from)?)?, excluded)),
     }
 }
 
-/// The range between two keys that is to be added. An inverted one is refused.
+/// The range between two keys that is to be added. An inverted one is refused before a key is
+/// copied.
 fn added_range(alloc: Global, from: &[u8], to: &[u8], ends: Ends) -> Result<Span, Refusal>
     ensures value { IfOk result (λ span. range from.now to.now ends.exclude_from ends.exclude_to ≡
         Some span) }
     ensures refused { IfErr result (λ refusal. RefusesRange refusal from.now to.now ends) }
 {
-    let from = key(alloc, from)?;
-    let to = key(alloc, to)?;
+    let first = key(from)?;
+    let second = key(to)?;
+    match to.cmp(from) {
+        Ordering::Less => Err(Refusal::Inverted),
+        Ordering::Equal => copied_range(alloc, &first, &second, ends),
+        Ordering::Greater => copied_range(alloc, &first, &second, ends),
+    }
+}
+
+/// The range between two keys, which is not inverted, with copies of the keys.
+fn copied_range(
+    alloc: Global,
+    from: &KeyRef<'_>,
+    to: &KeyRef<'_>,
+    ends: Ends,
+) -> Result<Span, Refusal>
+    requires { (span : Interval) ×
+        (range from.now to.now ends.exclude_from ends.exclude_to ≡ Some span) }
+    ensures value { IfOk result (λ span. range from.now to.now ends.exclude_from ends.exclude_to ≡
+        Some span) }
+    ensures refused { IfErr result (λ refusal. refusal ≡ NoMemory) }
+{
+    let from = copy_of(alloc, from)?;
+    let to = copy_of(alloc, to)?;
     match Span::range(from, to, ends) {
         Ok(span) => Ok(span),
-        Err(_) => Err(Refusal::Inverted),
+        Err(_) => unreachable!(),
     }
 }
 

@@ -330,8 +330,10 @@ fn try_add_to_seat(
         seat.new result }
     ensures kept { OnErr result ((place.new ≡ place.old) × (out.new ≡ out.old)) }
 {
+    let value = value(args.value)?;
+    let moment = time(args.moment)?;
     let span = added_span(alloc, &args.span)?;
-    let receipt = seat.try_add(&span, value(args.value)?, time(args.moment)?, tries)?;
+    let receipt = seat.try_add(&span, value, moment, tries)?;
     *place = receipt.place;
     *out = words_of_added(receipt.added);
     Ok(())
@@ -388,8 +390,9 @@ fn try_add_all_to_seat(
         seat.old seat.new result }
     ensures kept { OnErr result ((place.new ≡ place.old) × (out.new ≡ out.old)) }
 {
+    let moment = time(args.moment)?;
     let marks = marks(alloc, args.keys, args.marks)?;
-    let receipt = seat.try_add_all(&marks, time(args.moment)?, tries)?;
+    let receipt = seat.try_add_all(&marks, moment, tries)?;
     *place = receipt.place;
     *out = words_of_added(receipt.added);
     Ok(())

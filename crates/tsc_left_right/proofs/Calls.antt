@@ -1,6 +1,6 @@
 -- The steps in the shape that the calls ask for.
 use Rattle.std.proofs.Common.{◌≡◌, ◌∙◌, refl, sym, ap, subst, ℕ, ◌+◌, ◌%◌, ◌^◌, [], ◌∷◌}
-use Rattle.std.specs.Prelude.{None, ◌==◌}
+use Rattle.std.specs.Prelude.{◌==◌}
 use prog.Atomic.{either}
 use Rattle.atomic_table.specs.Table.{Step, Allows, rest}
 use Rattle.atomic_table.specs.Seated.{TableId}
@@ -58,15 +58,12 @@ pinned_then me me' rested is = is ∙ (λ i. (
   (rested i).1,
 ))
 
-pub asks_nothing : (me : At) → IsAtRest me → (state_in me.0).request ≡ None
-asks_nothing me rested = ap (λ (m : At). (state_in m.0).request) rested
-
 pub read_head_at : (key : Setup) (slots : ℕ) (st : Step Slot) (id : ℕ) (v : Knowledge) (me : At)
-    → me ≡ (with_state v (staged (state_in v) 1), []) → (state_in v).request ≡ None
+    → me ≡ (with_state v (staged (state_in v) 1), [])
     → Allows (LeftRightRule key) slots id me 16 (λ n. n) (reads_head st me)
-read_head_at key slots st id v me is none = subst (λ (m : At). Allows (LeftRightRule key) slots id m
+read_head_at key slots st id v me is = subst (λ (m : At). Allows (LeftRightRule key) slots id m
     16 (λ n. n) (reads_head st m)) (sym is) (read_head_allowed key slots st id v.setup
-    (staged (state_in v) 1) [] refl none)
+    (staged (state_in v) 1) [] refl)
 
 -- what it has seen then, by what it knew before it was pinned
 pub seen_at : (st : Step Slot) (found number : ℕ) (v : Knowledge) (me me' : At)

@@ -1,6 +1,6 @@
 -- A writer clears the seats, in the shape that the calls ask for.
 use Rattle.std.proofs.Common.{◌≡◌, ◌∙◌, refl, sym, ap, subst, true, false, ℕ, suc, ◌+◌, ◌<◌}
-use Rattle.std.proofs.Common.{[], ◌∷◌, ◌++◌, append_assoc, arith}
+use Rattle.std.proofs.Common.{[], ◌∷◌, ◌++◌, arith}
 use Rattle.std.specs.Prelude.{Option, Some, None}
 use Rattle.atomic_table.specs.Table.{Step, Allows, rest, turned}
 use Rattle.tsc_left_right.specs.declared.table.Setup.{Setup}
@@ -13,7 +13,7 @@ use Rattle.tsc_left_right.specs.Rule.{side_slot}
 use Rattle.tsc_left_right.specs.Steps.{At, state_in, Acquires, clearing, has_left}
 use Rattle.tsc_left_right.specs.Steps.{clears, Anything}
 use Rattle.tsc_left_right.specs.Participating.{IsWriting, HasLock}
-use Rattle.tsc_left_right.specs.Participating.{cleared_in, slots_of}
+use Rattle.tsc_left_right.specs.Participating.{cleared_in}
 use Rattle.tsc_left_right.proofs.Hands.{Hand, filled_push}
 use Rattle.tsc_left_right.proofs.Clearing.{clear_allowed}
 
@@ -24,7 +24,7 @@ acquired_then v me state a unpinned hand = record {
   slots = [];
   is = (λ i. (a.after i, hand i)) ∙ (λ i. let w = sym a.after i in (
     cleared_in w 0 None,
-    slots_of (state_in w).collected ++ (0, Empty) ∷ [],
+    (0, Empty) ∷ [],
   ));
   filled = refl;
   holds = ap (λ (w : Knowledge). (state_in w).holds) a.after;
@@ -62,7 +62,7 @@ pub clear_at : (key : Setup) (slots : ℕ) (st : Step Slot) (id word : ℕ) (v :
     → cleared < v.setup.seats → word ≡ epoch_word cleared → Allows (LeftRightRule key) slots id me
     word (λ n. n) (clears st me)
 clear_at key slots st id word v me cleared watched h below at =
-    let hand : Hand = slots_of (state_in v).collected ++ (0, Empty) ∷ h.slots in
+    let hand : Hand = (0, Empty) ∷ h.slots in
     subst (λ (n : ℕ). Allows (LeftRightRule key) slots id me n (λ n. n) (clears st me)) (sym at)
     (subst (λ (m : At). Allows (LeftRightRule key) slots id m (epoch_word cleared) (λ n. n)
     (clears st m)) (sym h.is)
@@ -75,8 +75,7 @@ pub cleared_then : (st : Step Slot) (e : ℕ) (v : Knowledge) (me me' : At) (cle
     → has_left watched e ≡ true
     → (x : Slot) × (me' ≡ (
       cleared_in v (suc cleared) None,
-      (side_slot cleared (standby_side (state_in v).head), x) ∷ slots_of
-          (state_in v).collected ++ (0, Empty) ∷ h.slots,
+      (side_slot cleared (standby_side (state_in v).head), x) ∷ (0, Empty) ∷ h.slots,
     ))
 cleared_then st e v me me' cleared watched h step left =
     (subst (λ (m : At). clears st m e me') h.is step).0 left
@@ -103,24 +102,18 @@ pub cleared_more : (v : Knowledge) (me me₁ me₂ me₃ : At) (cleared slot : �
       (
         side_slot cleared (standby_side (state_in v).head),
         x,
-      ) ∷ slots_of (state_in v).collected ++ (0, Empty) ∷ h.slots,
+      ) ∷ (0, Empty) ∷ h.slots,
     )
     → slot ≡ side_slot cleared (standby_side (state_in v).head)
     → me₂ ≡ (me₁.0, (slot, Empty) ∷ rest me₁.1) → me₃ ≡ (me₂.0, turned me₂.1)
     → IsWriting v me₃ (cleared + 1) None
 cleared_more v me me₁ me₂ me₃ cleared slot watched x h is at emptied turned_is =
     let side : ℕ = standby_side (state_in v).head in
-    let requests : Hand = slots_of (state_in v).collected in
     subst (λ (n : ℕ). IsWriting v me₃ n None) (let g : suc cleared ≡ cleared + 1 = omega arith in g)
     (record {
       slots = h.slots ++ (side_slot cleared side, Empty) ∷ [];
       is = turned_is ∙ (λ i. ((emptied i).0, turned (emptied i).1))
-          ∙ (λ i. ((is i).0, turned ((at i, Empty) ∷ rest (is i).1)))
-          ∙ (λ i. (
-            cleared_in v (suc cleared) None,
-            append_assoc requests ((0, Empty) ∷ h.slots)
-                ((side_slot cleared side, Empty) ∷ []) i,
-          ));
+          ∙ (λ i. ((is i).0, turned ((at i, Empty) ∷ rest (is i).1)));
       filled = filled_push Anything side 0 h.slots cleared Empty h.filled tt;
       holds = h.holds;
       unpinned = h.unpinned;

@@ -11,18 +11,17 @@ use lib.Seq.{set-get_or}
 use Rattle.atomic_table.proofs.Lists.{set_else}
 use Rattle.atomic_table.specs.Table.{Step, Act, takes as act_takes, keeps as act_keeps, Allows}
 use Rattle.atomic_table.specs.Table.{Valid, stepped, carried_after}
-use Rattle.tsc_left_right.proofs.Requests.{some_same}
 use Rattle.tsc_left_right.specs.declared.table.Setup.{Setup}
 use Rattle.tsc_left_right.specs.declared.table.Slot.{Slot}
 use Rattle.tsc_left_right.specs.declared.table.SeatState.{SeatState}
 use Rattle.tsc_left_right.specs.declared.table.Knowledge.{Knowledge}
 use Rattle.tsc_left_right.specs.Rule.{keeping, SharedState, LeftRightRule, SeatFits, head_word}
-use Rattle.tsc_left_right.specs.Rule.{epoch_word, request_word, side_slot}
-use Rattle.tsc_left_right.specs.Rule.{request_slot, active_side, standby_side}
+use Rattle.tsc_left_right.specs.Rule.{epoch_word, side_slot, active_side, standby_side}
 use Rattle.tsc_left_right.specs.Steps.{clearing, has_left, clears}
 use Rattle.tsc_left_right.proofs.Hands.{Homes, Hand}
-use Rattle.tsc_left_right.proofs.Moves.{Board, not_holding, knows_all, moved_kept, of_one}
+use Rattle.tsc_left_right.proofs.Moves.{Board, knows_all, moved_kept, of_one, some_same}
 use Rattle.tsc_left_right.proofs.Moves.{same_number, none_is_no, false_is_no}
+use Rattle.tsc_left_right.proofs.Moves.{others_fit, writer_fits, writer_now}
 
 -- A seat whose epoch is odd, and is still the one that was watched, has not left.
 not_left : (watched : Option ℕ) (e : ℕ) → e % 2 ≡ 1 → ((w : ℕ) → watched ≡ Some w → e ≡ w)
@@ -70,88 +69,32 @@ module _ (setup : Setup) (slots : ℕ) (st : Step Slot) (id : ℕ) (t : Setup) (
         ap (λ (x : Setup). x.seats) all.same,
       ) in
       let cleared_is = all.cleared in
-      let head_is = all.side in
+      let head_is = all.head in
       let taken = all.taken in
       let here = k.seats p.cleared within in
       let moved : (c : ℕ) (wt : Option ℕ) (homes : Homes) → length homes ≡ length s.homes
-      → ((r : ℕ) → get_elem? homes (request_slot r) ≡ get_elem? s.homes (request_slot r))
-      → ((r : ℕ) → r < setup.seats → SeatFits setup (record {
-        history = g.history;
-        head = g.head;
-        word = g.word;
-        stage_of = g.stage_of;
-        toggle_of = g.toggle_of;
-        request_of = g.request_of;
-        cleared = c;
-        watched = wt;
-        collected = g.collected;
-        known = g.known;
-      }) words homes r)
+      → ((r : ℕ) → r < setup.seats → SeatFits setup (writer_now g g.word c wt) words homes r)
       → LeftRightRule setup (record {
         words = words;
         homes = homes;
-        views =
-            set s.views id (keeping t (clearing p c wt ∷ []));
+        views = set s.views id (keeping t (clearing p c wt ∷ []));
       })
-      = λ c wt homes as_deep slots_same seats. moved_kept setup s k id holder
-      (keeping t (clearing p c wt ∷ [])) (record {
-        history = g.history;
-        head = g.head;
-        word =
-            g.word;
-        stage_of = g.stage_of;
-        toggle_of = g.toggle_of;
-        request_of = g.request_of;
-        cleared = c;
-        watched = wt;
-        collected = g.collected;
-        known = g.known;
-      }) words homes
+      = λ c wt homes as_deep seats. moved_kept setup s k id holder
+      (keeping t (clearing p c wt ∷ [])) (writer_now g g.word c wt) words homes
       (record {
         at = at;
         legal = k.legal;
         limit = k.limit;
-        side = k.side;
         wide = length-set s.words i e ∙ k.wide;
         deep = as_deep ∙ k.deep;
         word_is = same 0 ∙ k.word_is;
         head_is = same head_word ∙ k.head_is;
         seats = seats;
-        requests = λ r low. let ok = k.requests r low in record {
-          toggle = same (request_word r)
-              ∙ ok.toggle;
-          small = ok.small;
-          says = rw (slots_same r) ok.says;
-        };
-        collected = k.collected;
-        fits = of_one t (clearing p c wt) all.same (record {
-          begins = all.mine.begins;
-          own = all.mine.own;
-          own_seen = all.mine.own_seen;
-          at_stage = all.mine.at_stage;
-          at_toggle = all.mine.at_toggle;
-          at_request = all.mine.at_request;
-          at_fetched = all.mine.at_fetched;
-          at_leaving = all.mine.at_leaving;
-          sees = all.mine.sees;
-          holding = λ _. (all.all, all.taken, refl, refl, all.collected, all.head);
-        });
-        others = λ other u apart z. let was = k.views other u z in record {
-          settled = was.settled;
-          states = λ n x d. let f = was.states n x d in record {
-            begins = f.begins;
-            own = f.own;
-            own_seen = f.own_seen;
-            at_stage = f.at_stage;
-            at_toggle = f.at_toggle;
-            at_request = f.at_request;
-            at_fetched = f.at_fetched;
-            at_leaving = f.at_leaving;
-            sees = f.sees;
-            holding = λ y. absurd (not_holding u n x (all.nobody other u apart z) d y);
-          };
-          front = was.front;
-        };
+        fits = of_one t (clearing p c wt) all.same
+            (writer_fits g p p.holds g.word p.head c wt c wt all.mine
+            (λ _. (all.all, all.taken, refl, refl, all.head)));
+        others = λ other u apart z. others_fit setup g g.word c wt u (all.nobody other u apart z)
+            (k.views other u z);
         each = λ _. refl;
         one = omega (arith, k.one);
         idle = λ z. absurd (omega (arith, z, taken));
@@ -166,9 +109,8 @@ module _ (setup : Setup) (slots : ℕ) (st : Step Slot) (id : ℕ) (t : Setup) (
         keeping t (clearing p (suc p.cleared) None ∷ []),
         act_takes j x.0,
         ap (λ (c : ℕ). get_elem? s.homes (side_slot p.cleared c)) (omega (arith, head_is)) ∙ x.1,
-        moved (suc p.cleared) None homes (length-set s.homes j maybe.none) (λ r. set_else s.homes j
-            (request_slot r) maybe.none (λ z. omega (arith, z))) (λ r low. let ok = k.seats r low in
-            record {
+        moved (suc p.cleared) None homes (length-set s.homes j maybe.none)
+            (λ r low. let ok = k.seats r low in record {
               unpinned = λ z. ap (λ (b : ℕ). b % 2) (same (epoch_word r)) ∙ ok.unpinned z;
               pinned = λ z. ap (λ (b : ℕ). b % 2) (same (epoch_word r)) ∙ ok.pinned z;
               active = λ n. let y = ok.active n in (
@@ -197,7 +139,7 @@ module _ (setup : Setup) (slots : ℕ) (st : Step Slot) (id : ℕ) (t : Setup) (
         keeping t (clearing p p.cleared (Some e) ∷ []),
         act_keeps,
         tt,
-        moved p.cleared (Some e) s.homes refl (λ _. refl) (λ r low. let ok = k.seats r low in
+        moved p.cleared (Some e) s.homes refl (λ r low. let ok = k.seats r low in
             record {
               unpinned = λ z. ap (λ (b : ℕ). b % 2) (same (epoch_word r)) ∙ ok.unpinned z;
               pinned = λ z. ap (λ (b : ℕ). b % 2) (same (epoch_word r)) ∙ ok.pinned z;

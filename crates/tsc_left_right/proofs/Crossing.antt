@@ -20,11 +20,8 @@ use Rattle.atomic_table.specs.contracts.send_lease.SendLease.{the_row as send_le
 use Rattle.tsc_left_right.specs.contracts.table.Setup.{the_row as setup}
 use Rattle.tsc_left_right.specs.contracts.table.MarkList.{the_row as marks}
 use Rattle.tsc_left_right.specs.contracts.table.UnappliedAdd.{the_row as unapplied}
-use Rattle.tsc_left_right.specs.contracts.table.MadeAdd.{the_row as made}
-use Rattle.tsc_left_right.specs.contracts.table.Lagging.{the_row as lagging}
 use Rattle.tsc_left_right.specs.contracts.table.WriterState.{the_row as writer}
 use Rattle.tsc_left_right.specs.contracts.table.ReadHandle.{the_row as handle}
-use Rattle.tsc_left_right.specs.contracts.table.Reply.{the_row as reply}
 use Rattle.tsc_left_right.specs.contracts.table.Slot.{the_row as slot_row}
 use Rattle.tsc_span.specs.contracts.key.Key.{the_row as key}
 use Rattle.tsc_span.specs.contracts.span.Shape.{the_row as shape_row}
@@ -60,14 +57,6 @@ marks_sends = search (sendable, crosses, variants_send, mark_sends) depth 20
 unapplied_sends : IsSend unapplied
 unapplied_sends = search (sendable, crosses, declared_send, timestamp_sends, marks_sends) depth 20
 
-made_sends : IsSend made
-made_sends = search (sendable, crosses, declared_send, as_row_send, unapplied_sends) depth 20
-
-lagging_sends : IsSend lagging
-lagging_sends =
-    search (sendable, crosses, declared_send, as_row_send, unapplied_sends, made_sends)
-    depth 20
-
 writer_sends : IsSend writer
 writer_sends =
     search (
@@ -77,16 +66,13 @@ writer_sends =
       as_row_send,
       cache_sends,
       cache_syncs,
-      lagging_sends,
+      unapplied_sends,
     )
     depth 20
 
 handle_sends : IsSend handle
 handle_sends = search (sendable, crosses, declared_send, as_row_send, cache_sends, cache_syncs)
     depth 20
-
-reply_sends : IsSend reply
-reply_sends = search (sendable, crosses, declared_send) depth 20
 
 pub slot_sends : IsSend slot_row
 slot_sends =
@@ -97,8 +83,6 @@ slot_sends =
       as_row_send,
       writer_sends,
       handle_sends,
-      unapplied_sends,
-      reply_sends,
     ) depth 20
 
 -- a table, over whatever its slots hold

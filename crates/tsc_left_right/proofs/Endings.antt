@@ -1,25 +1,22 @@
 -- The end: when one participant keeps the states of all seats, and none of them holds the lock.
 use Rattle.std.proofs.Common.{◌≡◌, ◌≢◌, ◌∙◌, inl, inr, refl, sym, ap, subst, Bool, true, false, ℕ}
 use Rattle.std.proofs.Common.{zero, suc, ◌+◌, ◌<◌, ◌≤◌, List, [], ◌∷◌, length, arith}
-use Rattle.std.specs.Prelude.{◌==◌, nat_lt, None}
+use Rattle.std.specs.Prelude.{◌==◌, nat_lt}
 use Rattle.std.specs.List.{sum_by}
 use mathlib.Core.Option as maybe
 use mathlib.Core.Option.{some-injective, some-ne-none}
 use lib.ListN.{get_elem?}
 use Rattle.std.proofs.lemmas.List.Sums.{sum_by-cons}
-use Rattle.tsc_cache.specs.History.{own_count}
 use Rattle.tsc_left_right.specs.declared.table.Setup.{Setup}
 use Rattle.tsc_left_right.specs.declared.table.Slot.{Slot}
-use Rattle.tsc_left_right.specs.declared.table.Slot.TheVariants.{Empty, Writer, Handle, Request}
-use Rattle.tsc_left_right.specs.declared.table.Slot.TheVariants.{Answer}
+use Rattle.tsc_left_right.specs.declared.table.Slot.TheVariants.{Empty, Writer, Handle}
 use Rattle.tsc_left_right.specs.declared.table.SeatState.{SeatState}
 use Rattle.tsc_left_right.specs.declared.table.Knowledge.{Knowledge}
-use Rattle.tsc_left_right.specs.Rule.{LaidState, LeftRightRule, SharedState, StateFits, one_if}
+use Rattle.tsc_left_right.specs.Rule.{LaidState, LeftRightRule, one_if}
 use Rattle.tsc_left_right.specs.Rule.{states_of, holders}
 use Rattle.tsc_left_right.specs.Closing.{IsEnd}
 use Rattle.tsc_left_right.proofs.Totals.{part, two_parts}
 use Rattle.tsc_left_right.proofs.Moves.{Board, low_number, same_number, at_most_one, busy_word}
-use Rattle.tsc_left_right.proofs.Owning.{quiet_none}
 use Rattle.tsc_left_right.proofs.Openings.{of_seat, other_number, same_or_not}
 
 -- f 0 + .. up to below n
@@ -169,15 +166,6 @@ nobody_holds setup s k id v at none long = by_word k.g.word refl
           at_most_one (nat_lt p.number setup.seats),
         ))
 
--- Of a seat that asks for nothing all Adds are counted.
-counted_all : (g : SharedState) (p : SeatState) → StateFits g p → p.request ≡ None
-    → own_count p.number g.history ≡ p.count
-counted_all g p fits none = omega (
-  arith,
-  fits.own,
-  quiet_none (g.request_of p.number) (fits.at_request ∙ none),
-)
-
 -- what lies in the writer's slot then
 pub home_at : (key : Setup) (s : Board) (k : LeftRightRule key s) (id : ℕ) (v : Knowledge)
     → get_elem? s.views id ≡ maybe.some v → holders v ≡ 0 → length v.states ≡ key.seats
@@ -194,13 +182,12 @@ home_at key s k id v at none long slots get x is =
       record {
         each = each_there key s k id v at long;
         history = k.g.history;
-        head = k.g.known;
+        head = k.g.head;
         legal = k.legal;
         is_after = here.2;
         fits = λ i p e. let f = (k.views id v at).states i p e in record {
           begins = f.begins;
-          own =
-              λ none. counted_all k.g p f none;
+          own = f.own;
         };
       },
     )
@@ -209,8 +196,6 @@ abbrev state_or : LaidState → Slot → LaidState
 state_or d Empty = d
 state_or d (Writer state) = state
 state_or d (Handle handle) = d
-state_or d (Request add) = d
-state_or d (Answer reply) = d
 
 pub end_of : (key : Setup) (ps : List SeatState) (x : Slot) (state other : LaidState)
     → x ≡ Writer state → IsEnd key ps state.value → x ≡ Writer other → IsEnd key ps other.value

@@ -1,5 +1,5 @@
 -- Participants that are divided and put together, in the shape that the calls ask for.
-use Rattle.std.proofs.Common.{◌≡◌, ◌∙◌, refl, sym, ap, subst, ℕ, ◌<◌, List, [], ◌∷◌, ◌++◌, length}
+use Rattle.std.proofs.Common.{◌≡◌, ◌∙◌, sym, ap, subst, ℕ, ◌<◌, List, [], ◌∷◌, ◌++◌, length}
 use Rattle.std.proofs.Common.{arith}
 use Rattle.atomic_table.specs.Table.{Step, Allows, Splits, Joins}
 use Rattle.tsc_cache.specs.History.{History}
@@ -15,8 +15,7 @@ use Rattle.tsc_left_right.specs.Participating.{IsAtRest, IsFront, KeepsStates, H
 use Rattle.tsc_left_right.specs.Participating.{SeesNewest}
 use Rattle.std.specs.Arc.{arc_value}
 use Rattle.atomic_table.specs.Table.{rest}
-use Rattle.tsc_left_right.specs.declared.table.Slot.TheVariants.{Empty, Writer, Handle, Request}
-use Rattle.tsc_left_right.specs.declared.table.Slot.TheVariants.{Answer}
+use Rattle.tsc_left_right.specs.declared.table.Slot.TheVariants.{Empty, Writer, Handle}
 use Rattle.tsc_left_right.specs.Rule.{Shows, side_slot}
 use Rattle.tsc_left_right.specs.Steps.{SeesAll, staged}
 use Rattle.tsc_left_right.specs.Participating.{HasHandle}
@@ -68,7 +67,7 @@ pub catch_up_at : (key : Setup) (slots : ℕ) (st : Step Slot) (id : ℕ) (me : 
     → Allows (LeftRightRule key) slots id me 0 (λ n. n) (catches_up st me)
 catch_up_at key slots st id me t number seen count other is =
     subst (λ (m : At). Allows (LeftRightRule key) slots id m 0 (λ n. n) (catches_up st m)) (sym is)
-    (catch_up_allowed key slots st id t (at_rest number seen count) other refl)
+    (catch_up_allowed key slots st id t (at_rest number seen count) other)
 
 -- It has caught up then,
 pub caught_up_then : (st : Step Slot) (found : ℕ) (me was me' : At) (other : History)
@@ -174,8 +173,6 @@ looked_length me me₁ me₂ head number side slot length_ x y rested hand sees 
         ≡ adds) → (cache : CacheView) × HasLooked me.0 me₂ length_ cache
     by_slot Empty shows has = absurd has
     by_slot (Writer state) shows has = absurd has
-    by_slot (Request add) shows has = absurd has
-    by_slot (Answer reply) shows has = absurd has
     by_slot (Handle handle) shows has = (
       arc_value handle.cache,
       record {

@@ -1,6 +1,6 @@
 -- A writer installs handles, in the shape that the calls ask for.
 use Rattle.std.proofs.Common.{◌≡◌, ◌∙◌, refl, sym, ap, subst, Bool, true, false, ℕ, suc, ◌+◌, ◌<◌}
-use Rattle.std.proofs.Common.{◌≤◌, [], ◌∷◌, ◌++◌, length, append_assoc, arith}
+use Rattle.std.proofs.Common.{◌≤◌, [], ◌∷◌, ◌++◌, append_assoc, arith}
 use Rattle.std.specs.Prelude.{None, ◌&&◌}
 use Rattle.atomic_table.specs.Table.{rest, turned}
 use Rattle.tsc_cache.specs.CacheView.{CacheView}
@@ -12,30 +12,10 @@ use Rattle.tsc_left_right.specs.Rule.{side_slot}
 use Rattle.tsc_left_right.specs.Steps.{At, state_in}
 use Rattle.tsc_left_right.specs.Steps.{Filled, Anything, IsHandleOn}
 use Rattle.tsc_left_right.specs.Participating.{IsWriting, HasInstalled}
-use Rattle.tsc_left_right.specs.Participating.{cleared_in, slots_of}
-use Rattle.tsc_left_right.specs.Writing.{LaidAs, rotated}
+use Rattle.tsc_left_right.specs.Participating.{cleared_in}
+use Rattle.tsc_left_right.specs.Writing.{LaidAs}
 use Rattle.tsc_left_right.proofs.Hands.{Hand, filled_le, filled_push, filled_weaker}
-use Rattle.tsc_left_right.proofs.HandsTurned.{rotated_by, slots_length}
 use Rattle.tsc_left_right.proofs.Calls.{first_in}
-
--- The slots of the standby side come first, and behind them those of requests and the writer's own.
-pub installs_first : (v : Knowledge) (me me' : At) (seats count : ℕ)
-    → (h : IsWriting v me seats None) → count ≡ length (state_in v).collected
-    → me' ≡ (me.0, turned (rotated count me.1))
-    → me' ≡ (
-      cleared_in v seats None,
-      h.slots ++ (slots_of (state_in v).collected ++ (
-        0,
-        Empty,
-      ) ∷ []),
-    )
-installs_first v me me' seats count h is turned_is =
-    let requests : Hand = slots_of (state_in v).collected in
-    turned_is ∙ (λ i. ((h.is i).0, turned (rotated count (h.is i).1)))
-    ∙ ap (λ (l : Hand). (cleared_in v seats None, turned l)) (rotated_by count requests
-    ((0, Empty) ∷ h.slots) (is ∙ sym (slots_length (state_in v).collected)))
-    ∙ ap (λ (l : Hand). (cleared_in v seats None, l)) (append_assoc h.slots requests
-    ((0, Empty) ∷ []))
 
 -- If one handle is missing, not all are there.
 fewer : (all laid : Bool) (cache : CacheView) (adds : ℕ) (x : Slot) → LaidAs all cache adds x
@@ -56,24 +36,20 @@ pub record Installs (v : Knowledge) (me : At) (cache : CacheView) (adds seat sea
   pub done : Hand
   pub is : me ≡ (
     cleared_in v seats None,
-    todo ++ (slots_of (state_in v).collected ++ (
-      0,
-      Empty,
-    ) ∷ done),
+    todo ++ (0, Empty) ∷ done,
   )
   pub left : Filled Anything (standby_side (state_in v).head) seat todo seats
   pub so_far : Filled (LaidAs all cache adds) (standby_side (state_in v).head) 0 done seat
   pub holds : (state_in v).holds ≡ true
   pub unpinned : (state_in v).stage ≡ 0
 
-pub installs_none : (v : Knowledge) (me me' : At) (cache : CacheView) (adds seats count : ℕ)
-    → (h : IsWriting v me seats None) → count ≡ length (state_in v).collected
-    → me' ≡ (me.0, turned (rotated count me.1))
+pub installs_none : (v : Knowledge) (me me' : At) (cache : CacheView) (adds seats : ℕ)
+    → (h : IsWriting v me seats None) → me' ≡ (me.0, turned me.1)
     → Installs v me' cache adds 0 seats true
-installs_none v me me' cache adds seats count h is turned_is = record {
+installs_none v me me' cache adds seats h turned_is = record {
   todo = h.slots;
   done = [];
-  is = installs_first v me me' seats count h is turned_is;
+  is = turned_is ∙ (λ i. ((h.is i).0, turned (h.is i).1));
   left = h.filled;
   so_far = refl;
   holds = h.holds;
@@ -93,15 +69,12 @@ installs_more v cache me me₁ me₂ adds seat seats slot all laid all' y h low 
     side : ℕ
     side = standby_side (state_in v).head
 
-    requests : Hand
-    requests = slots_of (state_in v).collected
-
     more : suc seat ≡ seat + 1
     more = omega arith
 
     by_todo : (todo : Hand) → me ≡ (
       cleared_in v seats None,
-      todo ++ (requests ++ (0, Empty) ∷ h.done),
+      todo ++ (0, Empty) ∷ h.done,
     ) → Filled Anything side seat todo seats
         → Installs v me₂ cache adds (seat + 1) seats all'
     by_todo [] is left = absurd (omega (arith, left, low))
@@ -111,9 +84,7 @@ installs_more v cache me me₁ me₂ adds seat seats slot all laid all' y h low 
       is = turned_is ∙ (λ i. ((laid_is i).0, turned (laid_is i).1))
           ∙ (λ i. ((is i).0, rest (is i).1 ++ (at i, y) ∷ []))
           ∙ ap (λ (l : Hand). (cleared_in v seats None, l))
-          (append_assoc todo (requests ++ (0, Empty) ∷ h.done) ((side_slot seat side, y) ∷ [])
-          ∙ ap (λ (l : Hand). todo ++ l) (append_assoc requests ((0, Empty) ∷ h.done)
-          ((side_slot seat side, y) ∷ [])));
+          (append_assoc todo ((0, Empty) ∷ h.done) ((side_slot seat side, y) ∷ []));
       left = subst (λ (n : ℕ). Filled Anything side n todo seats) more left.2;
       so_far = subst (λ (b : Bool). Filled (LaidAs b cache adds) side 0
           (h.done ++ (side_slot seat side, y) ∷ []) (seat + 1)) (sym both)
@@ -136,13 +107,13 @@ first_todo v cache me adds seat seats slot all h low at = by_todo h.todo h.is h.
   where
     by_todo : (todo : Hand) → me ≡ (
       cleared_in v seats None,
-      todo ++ (slots_of (state_in v).collected ++ (0, Empty) ∷ h.done),
+      todo ++ (0, Empty) ∷ h.done,
     )
         → Filled Anything (standby_side (state_in v).head) seat todo seats → (y : Slot)
         × (me.1 ≡ (slot, y) ∷ rest me.1)
     by_todo [] is left = absurd (omega (arith, left, low))
     by_todo (x ∷ todo) is left =
-        first_in me.1 (todo ++ (slots_of (state_in v).collected ++ (0, Empty) ∷ h.done)) slot x.0
+        first_in me.1 (todo ++ (0, Empty) ∷ h.done) slot x.0
         x.1 (ap (λ (m : At). m.1) is) (at ∙ sym left.0)
 
 -- All were installed, or some.
@@ -153,7 +124,7 @@ installed_some v cache me adds seat seats all h high = by_todo h.todo h.is h.lef
   where
     by_todo : (todo : Hand) → me ≡ (
       cleared_in v seats None,
-      todo ++ (slots_of (state_in v).collected ++ (0, Empty) ∷ h.done),
+      todo ++ (0, Empty) ∷ h.done,
     )
         → Filled Anything (standby_side (state_in v).head) seat todo seats
         → IsWriting v me seats None
@@ -181,7 +152,7 @@ installed_all v cache me adds seat seats all h high is_all = by_todo h.todo h.is
   where
     by_todo : (todo : Hand) → me ≡ (
       cleared_in v seats None,
-      todo ++ (slots_of (state_in v).collected ++ (0, Empty) ∷ h.done),
+      todo ++ (0, Empty) ∷ h.done,
     )
         → Filled Anything (standby_side (state_in v).head) seat todo seats
         → HasInstalled v me cache adds seats
@@ -201,8 +172,3 @@ installed_all v cache me adds seat seats all h high is_all = by_todo h.todo h.is
           filled_le Anything (standby_side (state_in v).head) (suc seat)
               todo seats left.2,
         ))
-
--- The first so many go behind the others, and then one more.
-pub turned_twice : (me me₁ me₂ : At) (count : ℕ) → me₁ ≡ (me.0, rotated count me.1)
-    → me₂ ≡ (me₁.0, turned me₁.1) → me₂ ≡ (me.0, turned (rotated count me.1))
-turned_twice me me₁ me₂ count is then_ = then_ ∙ (λ i. ((is i).0, turned (is i).1))

@@ -6,16 +6,15 @@ use mathlib.Core.Logic.{dite}
 use native.Mathlib.Decide.{ℕ_discrete}
 use mathlib.Core.Option as maybe
 use lib.ListN.{get_elem?}
-use Rattle.std.proofs.lemmas.List.{length-append, length_push, replicate-append-replicate}
+use Rattle.std.proofs.lemmas.List.{length-append, replicate-append-replicate}
 use Rattle.atomic_table.proofs.Lists.{at_longer}
 use Rattle.atomic_table.specs.Table.{opening}
 use Rattle.tsc_cache.specs.CacheView.{CacheView}
 use Rattle.tsc_left_right.specs.declared.table.Setup.{Setup}
 use Rattle.tsc_left_right.specs.declared.table.Slot.{Slot}
-use Rattle.tsc_left_right.specs.declared.table.Slot.TheVariants.{Empty, Writer, Handle, Request}
-use Rattle.tsc_left_right.specs.declared.table.Slot.TheVariants.{Answer}
+use Rattle.tsc_left_right.specs.declared.table.Slot.TheVariants.{Empty, Writer, Handle}
 use Rattle.tsc_left_right.specs.Rule.{LaidState, LeftRightRule, IsState, Shows, first_knowledge}
-use Rattle.tsc_left_right.specs.Rule.{side_slot, request_slot, word_count}
+use Rattle.tsc_left_right.specs.Rule.{side_slot, word_count}
 use Rattle.tsc_left_right.specs.Steps.{IsHandleOn}
 use Rattle.tsc_left_right.specs.Opening.{IsLaidOut, IsFirst, line_of}
 use Rattle.tsc_left_right.proofs.Openings.{opening_kept}
@@ -47,23 +46,17 @@ later : (xs ys more : List Slot) → ys ≡ xs ++ more → (i : ℕ) (x : Slot) 
 later xs ys more is i x e = subst (λ (l : List Slot). get_elem? l i ≡ maybe.some x) (sym is)
     (at_longer xs more i x e)
 
--- The slot of a line is behind all that was there, and the next one is empty.
+-- The slot of a line is behind all that was there.
 at_line : (xs ys : List Slot) (x : Slot) (i : ℕ) → ys ≡ xs ++ line_of x → length xs ≡ i
     → get_elem? ys i ≡ maybe.some x
 at_line xs ys x i is long = subst (λ (l : List Slot). get_elem? l i ≡ maybe.some x) (sym is)
     (at_next xs (replicate 7 Empty) x i long)
 
-beside_line : (xs ys : List Slot) (x : Slot) (i : ℕ) → ys ≡ xs ++ line_of x → length xs + 1 ≡ i
-    → get_elem? ys i ≡ maybe.some Empty
-beside_line xs ys x i is long = subst (λ (l : List Slot). get_elem? l i ≡ maybe.some Empty)
-    (append_assoc xs (x ∷ []) (replicate 7 Empty) ∙ sym is)
-    (at_next (xs ++ x ∷ []) (replicate 6 Empty) Empty i (omega (arith, length_push xs x, long)))
-
 line_length : (xs ys : List Slot) (x : Slot) (n : ℕ) → ys ≡ xs ++ line_of x → length xs ≡ n
     → length ys ≡ n + 8
 line_length xs ys x n is long = omega (arith, ap length is, length-append xs (line_of x), long)
 
--- a seat more: a handle on side 0, no request beside it, and nothing on side 1
+-- a seat more: a handle on side 0, and nothing on side 1
 pub laid_more : (state : LaidState) (n : ℕ) (xs ys zs : List Slot) (x : Slot)
     → IsLaidOut state n xs → ys ≡ xs ++ line_of x → zs ≡ ys ++ line_of Empty
     → IsHandleOn (arc_value state.value.active) 0 x → IsLaidOut state (n + 1) zs
@@ -91,11 +84,6 @@ laid_more state n xs ys zs x laid one two on =
       standby = λ seat low. dite (ℕ_discrete seat n)
           (λ is. at_line ys zs Empty (side_slot seat 1) two (omega (arith, long_y, is)))
           (λ isnt. from_x (side_slot seat 1) Empty (laid.standby seat (omega (arith, low, isnt))));
-      requests = λ seat low. dite (ℕ_discrete seat n)
-          (λ is. from_y (request_slot seat) Empty
-          (beside_line xs ys x (request_slot seat) one (omega (arith, deep, is))))
-          (λ isnt. from_x (request_slot seat) Empty
-          (laid.requests seat (omega (arith, low, isnt))));
     }
 
 -- no seat yet
@@ -107,7 +95,6 @@ laid_none state xs is = subst (IsLaidOut state 0) (sym is) (record {
   active = λ seat low. absurd (omega (arith, low));
   standby = λ seat low.
       absurd (omega (arith, low));
-  requests = λ seat low. absurd (omega (arith, low));
 })
 
 -- all seats
@@ -125,8 +112,6 @@ shows_first setup cache (Handle handle) stands on = (
   subst (IsState setup []) (sym on.0) stands,
   on.1,
 )
-shows_first setup cache (Request add) stands on = absurd on
-shows_first setup cache (Answer reply) stands on = absurd on
 
 -- the rule at the opening
 pub opens : (setup : Setup) (state : LaidState) (words : List ℕ) (slots : List Slot)
@@ -145,5 +130,4 @@ opens setup state words slots blank first laid = subst (λ (ws : List ℕ). Left
             x.2,
       );
       standby = λ r low. (Empty, laid.standby r low);
-      requests = λ r low. (Empty, laid.requests r low);
     }))

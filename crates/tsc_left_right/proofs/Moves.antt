@@ -1,7 +1,7 @@
 -- A step of one participant keeps the rule.
 use Rattle.std.proofs.Common.{◌≡◌, ◌≢◌, ◌∙◌, inl, inr, refl, sym, ap, subst, true, false, ℕ, zero}
 use Rattle.std.proofs.Common.{suc, ◌+◌, ◌<◌, ◌≤◌, List, [], ◌∷◌, length, set, arith}
-use Rattle.std.proofs.Common.{slice_index}
+use Rattle.std.proofs.Common.{slice_index, get_or-set_other, length-set, ◌%◌}
 use Rattle.std.specs.Prelude.{Option, Some, None, Bool, ◌==◌, nat_lt}
 use Rattle.std.specs.List.{sum_by}
 use mathlib.Core.Option as maybe
@@ -9,8 +9,10 @@ use mathlib.Core.Option.{some-injective, some-ne-none}
 use lib.ListN.{get_elem?}
 use Rattle.std.proofs.lemmas.Bool.{lt-ltb}
 use Rattle.std.proofs.lemmas.Bool.Decides.{nat_tests}
-use Rattle.atomic_table.specs.Table.{State}
-use Rattle.atomic_table.proofs.Lists.{at_set}
+use Rattle.atomic_table.specs.Table.{State, Me, Step, Allows, keeps as act_keeps}
+use Rattle.tsc_left_right.specs.Steps.{stays}
+use Rattle.atomic_table.proofs.Lists.{at_set, set_again}
+use lib.Seq.{set-get_or}
 use Rattle.tsc_cache.specs.History.{IsLegal}
 use Rattle.tsc_left_right.specs.declared.table.Setup.{Setup}
 use Rattle.tsc_left_right.specs.declared.table.Slot.{Slot}
@@ -18,8 +20,8 @@ use Rattle.tsc_left_right.specs.declared.table.Slot.TheVariants.{Writer}
 use Rattle.tsc_left_right.specs.declared.table.SeatState.{SeatState}
 use Rattle.tsc_left_right.specs.declared.table.Knowledge.{Knowledge}
 use Rattle.tsc_left_right.specs.Rule.{LaidState, keeping, one_if, SharedState, LeftRightRule}
-use Rattle.tsc_left_right.specs.Rule.{active_side}
-use Rattle.tsc_left_right.specs.Rule.{SeatFits, RequestFits, CollectedFits, KnowledgeFits}
+use Rattle.tsc_left_right.specs.Rule.{active_side, standby_side, epoch_word, side_slot}
+use Rattle.tsc_left_right.specs.Rule.{SeatFits, KnowledgeFits, WriterFits}
 use Rattle.tsc_left_right.specs.Rule.{StateFits, IsAfter, states_of, holders, head_word}
 use Rattle.tsc_left_right.specs.Rule.{word_count, slot_count}
 use Rattle.tsc_left_right.proofs.Prefixes.{begins_empty}
@@ -39,19 +41,16 @@ pub record Moved (setup : Setup) (s : Board) (k : LeftRightRule setup s) (id : �
   pub deep : length homes ≡ slot_count setup.seats
   pub word_is : slice_index words 0 ≡ g.word
   pub head_is : slice_index words head_word ≡ g.head
-  pub side : active_side g.known ≡ active_side g.head
   pub seats : (seat : ℕ) → seat < setup.seats → SeatFits setup g words homes seat
-  pub requests : (seat : ℕ) → seat < setup.seats → RequestFits setup g words homes seat
-  pub collected : CollectedFits setup.seats g.request_of g.collected
   pub fits : KnowledgeFits setup g w
   pub others : (other : ℕ) (u : Knowledge) → other ≢ id → get_elem? s.views other ≡ maybe.some u
       → KnowledgeFits setup g u
   pub each : (number : ℕ) → states_of number w ≡ states_of number v
   pub one : sum_by holders s.views + holders w ≡ one_if (nat_lt 0 g.word) + holders v
-  pub idle : g.word ≡ 0 → (g.cleared ≡ 0) × (g.collected ≡ [])
+  pub idle : g.word ≡ 0 → (g.cleared ≡ 0) × (g.watched ≡ None)
   pub free : g.word ≡ 0 → (state : LaidState)
       × (get_elem? homes 0 ≡ maybe.some (maybe.some (Writer state)))
-      × IsAfter setup g.history g.known state.value
+      × IsAfter setup g.history g.head state.value
 
 pub moved_kept : (setup : Setup) (s : Board) (k : LeftRightRule setup s) (id : ℕ) (v w : Knowledge)
     (g : SharedState) (words : List ℕ) (homes : Homes)
@@ -65,14 +64,11 @@ moved_kept setup s k id v w g words homes m = record {
   g = g;
   legal = m.legal;
   limit = m.limit;
-  side = m.side;
   wide = m.wide;
   deep = m.deep;
   word_is = m.word_is;
   head_is = m.head_is;
   seats = m.seats;
-  requests = m.requests;
-  collected = m.collected;
   views = λ other u e. elim (at_set s.views id other w u e) [
     | inl same ↦ subst (KnowledgeFits setup g) same.1 m.fits
     | inr apart ↦ m.others other u apart.0 apart.1
@@ -184,19 +180,15 @@ pub record KnowsAll (setup : Setup) (s : Board) (k : LeftRightRule setup s) (id 
     (p : SeatState) : Type 0 where
   pub same : t ≡ setup
   pub mine : StateFits k.g p
-  pub all : p.history ≡ k.g.history
+  pub all : p.seen ≡ k.g.history
   pub taken : k.g.word ≡ suc p.number
   pub cleared : p.cleared ≡ k.g.cleared
   pub watched : p.watched ≡ k.g.watched
-  pub collected : p.collected ≡ k.g.collected
-  pub head : p.head ≡ k.g.known
-  pub side : active_side p.head ≡ active_side k.g.head
+  pub head : p.head ≡ k.g.head
   pub low : p.number < setup.seats
   pub one : sum_by holders s.views ≡ 1
   pub nobody : (other : ℕ) (u : Knowledge) → other ≢ id → get_elem? s.views other ≡ maybe.some u
       → holders u ≡ 0
-  pub no_state : (other : ℕ) (u : Knowledge) → other ≢ id → get_elem? s.views other ≡ maybe.some u
-      → states_of p.number u ≡ 0
 
 pub knows_all : (setup : Setup) (s : Board) (k : LeftRightRule setup s) (id : ℕ) (t : Setup)
     (p : SeatState) → p.holds ≡ true
@@ -215,9 +207,7 @@ knows_all setup s k id t p holding at =
       taken = is_taken;
       cleared = knows.2;
       watched = knows.3;
-      collected = knows.4;
-      head = knows.5;
-      side = ap active_side knows.5 ∙ k.side;
+      head = knows.4;
       low = low_number setup s k v id at 0 p refl;
       one = total;
       nobody = λ other u apart e. omega (
@@ -227,6 +217,146 @@ knows_all setup s k id t p holding at =
         two_parts holders s.views id other
             v u (λ is. apart (sym is)) at e,
       );
-      no_state = λ other u apart e. no_other setup s k id other p.number v u apart at e
-          (omega (arith, ap one_if (same_number p.number p.number refl)));
     }
+
+-- Nothing changes by a step that leaves its word as it is.
+pub unmoved : (setup : Setup) (s : Board) (k : LeftRightRule setup s) (id : ℕ) (v : Knowledge)
+    (i : ℕ) → get_elem? s.views id ≡ maybe.some v
+    → LeftRightRule setup (record {
+      words = set s.words i (slice_index s.words i);
+      homes = s.homes;
+      views = set s.views id v;
+    })
+unmoved setup s k id v i at = subst (λ (vs : List Knowledge). LeftRightRule setup
+    (record { words = set s.words i (slice_index s.words i); homes = s.homes; views = vs }))
+    (sym (set_again s.views id v at))
+    (subst (λ (ws : List ℕ). LeftRightRule setup (record {
+      words = ws;
+      homes = s.homes;
+      views = s.views;
+    })) (sym (set-get_or s.words i 0)) k)
+
+pub some_same : {A : Type 0} (a b : A) → Some a ≡ Some b → a ≡ b
+some_same {A} a b e = ap (λ (o : Option A). or_else o) e
+  where
+    or_else : Option A → A
+    or_else None = a
+    or_else (Some x) = x
+
+-- The epochs stay where another word changes,
+pub epoch_same : (words : List ℕ) (i y r : ℕ) → i < 32
+    → slice_index (set words i y) (epoch_word r) ≡ slice_index words (epoch_word r)
+epoch_same words i y r low = get_or-set_other words i (epoch_word r) y 0 (λ z. omega (
+  arith,
+  z,
+  low,
+))
+
+-- and a seat fits as before where its epoch and its side slots stay.
+pub seat_same : (setup : Setup) (g g' : SharedState) (words words' : List ℕ) (homes homes' : Homes)
+    (r : ℕ)
+    → g'.history ≡ g.history → g'.head ≡ g.head → g'.stage_of r ≡ g.stage_of r
+    → g'.cleared ≡ g.cleared → g'.watched ≡ g.watched
+    → slice_index words' (epoch_word r) ≡ slice_index words (epoch_word r)
+    → ((side : ℕ) → side < 2 → get_elem? homes' (side_slot r side) ≡ get_elem? homes
+    (side_slot r side))
+    → SeatFits setup g words homes r → SeatFits setup g' words' homes' r
+seat_same setup g g' words words' homes homes' r history head stage cleared watched epoch sides
+    ok = record {
+      unpinned = λ z. ap (λ (e : ℕ). e % 2) epoch ∙ ok.unpinned (sym stage ∙ z);
+      pinned = λ z. ap (λ (e : ℕ). e % 2) epoch ∙ ok.pinned (omega (arith, z, stage));
+      active = λ n. let x = ok.active (λ z. n (omega (arith, z, stage, head))) in (
+        x.0,
+        ap (λ (c : ℕ). get_elem? homes' (side_slot r (active_side c))) head
+            ∙ sides (active_side g.head) (omega arith) ∙ x.1,
+        rw history x.2,
+      );
+      standby = λ c n. let x = ok.standby (omega (arith, c, cleared))
+          (λ z. n (omega (arith, z, stage, head))) in (
+            x.0,
+            ap (λ (c : ℕ). get_elem? homes' (side_slot r (standby_side c))) head
+                ∙ sides (standby_side g.head) (omega arith) ∙ x.1,
+          );
+      left = λ c z. ok.left (omega (arith, c, cleared)) (omega (arith, z, stage, head));
+      late = λ e a b c. epoch ∙ ok.late e (omega (arith, a, cleared)) (sym watched ∙ b)
+          (omega (arith, c, stage, head));
+    }
+
+-- the lock and what is the writer's change
+abbrev pub writer_now : SharedState → ℕ → ℕ → Option ℕ → SharedState
+writer_now g word cleared watched = record {
+  history = g.history;
+  head = g.head;
+  word = word;
+  stage_of = g.stage_of;
+  cleared = cleared;
+  watched = watched;
+}
+
+-- What a participant knows that does not hold the lock fits as before,
+pub others_fit : (setup : Setup) (g : SharedState) (word cleared : ℕ) (watched : Option ℕ)
+    (u : Knowledge) → holders u ≡ 0 → KnowledgeFits setup g u
+    → KnowledgeFits setup (writer_now g word cleared watched) u
+others_fit setup g word cleared watched u none was = record {
+  settled = was.settled;
+  states = λ i x d. let f = was.states i x d in record {
+    begins = f.begins;
+    own = f.own;
+    own_seen = f.own_seen;
+    at_stage = f.at_stage;
+    sees = f.sees;
+    holding = λ y. absurd (not_holding u i x none d y);
+  };
+  front = was.front;
+}
+
+-- and so does a state by which its seat has seen as much.
+pub writer_fits : (g : SharedState) (p : SeatState) (holds : Bool) (word head cleared : ℕ)
+    (watched : Option ℕ) (cleared' : ℕ) (watched' : Option ℕ) → StateFits g p
+    → (holds ≡ true → WriterFits (writer_now g word cleared' watched')
+    (record p { holds = holds; head = head; cleared = cleared; watched = watched }))
+    → StateFits (writer_now g word cleared' watched')
+    (record p { holds = holds; head = head; cleared = cleared; watched = watched })
+writer_fits g p holds word head cleared watched cleared' watched' mine knows = record {
+  begins = mine.begins;
+  own = mine.own;
+  own_seen = mine.own_seen;
+  at_stage = mine.at_stage;
+  sees = mine.sees;
+  holding = knows;
+}
+
+-- A step at the word of the seat that goes first changes nothing that the rule says.
+pub line_kept : (setup : Setup) (s : Board) → LeftRightRule setup s → (y : ℕ)
+    → LeftRightRule setup (record { words = set s.words 1 y; homes = s.homes; views = s.views })
+line_kept setup s k y = record {
+  g = k.g;
+  legal = k.legal;
+  limit = k.limit;
+  wide = length-set s.words 1 y ∙ k.wide;
+  deep = k.deep;
+  word_is = get_or-set_other s.words 1 0 y 0 (λ z. omega (arith, z)) ∙ k.word_is;
+  head_is = get_or-set_other s.words 1 head_word y 0 (λ z. omega (arith, z)) ∙ k.head_is;
+  seats = λ r low. seat_same setup k.g k.g s.words (set s.words 1 y) s.homes s.homes r refl refl
+      refl refl refl (epoch_same s.words 1 y r (omega arith)) (λ _ _. refl) (k.seats r low);
+  views = k.views;
+  each = k.each;
+  one = k.one;
+  idle = k.idle;
+  free = k.free;
+}
+
+pub line_allowed : (setup : Setup) (slots : ℕ) (st : Step Slot) (id : ℕ) (me : Me Slot Knowledge)
+    (f : ℕ → ℕ) → Allows (LeftRightRule setup) slots id me 1 f (stays st me)
+line_allowed setup slots st id me f s k deep at small = (
+  me.0,
+  act_keeps,
+  tt,
+  subst (λ (vs : List Knowledge). LeftRightRule setup (record {
+    words = set s.words 1 (f (slice_index s.words 1));
+    homes = s.homes;
+    views = vs;
+  })) (sym (set_again s.views id me.0 at))
+      (line_kept setup s k (f (slice_index s.words 1))),
+  refl,
+)

@@ -8,7 +8,6 @@ use mathlib.Core.Option.{some-injective, some-ne-none}
 use lib.ListN.{get_elem?, length-map, length-replicate}
 use Rattle.std.proofs.lemmas.Bool.Decides.{nat_tests}
 use Rattle.std.proofs.lemmas.List.Sums.{sum_by-cons}
-use Rattle.std.proofs.lemmas.Nat.Bits.{bit_at-zero}
 use Rattle.atomic_table.specs.Table.{opening}
 use Rattle.tsc_left_right.specs.declared.table.Setup.{Setup}
 use Rattle.tsc_left_right.specs.declared.table.Slot.{Slot}
@@ -17,9 +16,9 @@ use Rattle.tsc_left_right.specs.declared.table.SeatState.{SeatState}
 use Rattle.tsc_left_right.specs.declared.table.Knowledge.{Knowledge}
 use Rattle.atomic_table.proofs.Lists.{at_map}
 use Rattle.tsc_left_right.specs.Rule.{LaidState, at_rest, IsAfter, Shows, epoch_word, side_slot}
-use Rattle.tsc_left_right.specs.Rule.{request_slot, one_if, SharedState, Idle}
+use Rattle.tsc_left_right.specs.Rule.{one_if, SharedState}
 use Rattle.tsc_left_right.specs.Rule.{LeftRightRule, KnowledgeFits, StateFits, states_of, holders}
-use Rattle.tsc_left_right.specs.Rule.{first_knowledge, fresh_states, request_word}
+use Rattle.tsc_left_right.specs.Rule.{first_knowledge, fresh_states}
 use Rattle.tsc_left_right.specs.Rule.{word_count, slot_count}
 use Rattle.tsc_left_right.proofs.Prefixes.{begins_empty, legal_empty}
 use Rattle.tsc_left_right.proofs.Moves.{same_number, false_is_no, none_is_no}
@@ -106,7 +105,7 @@ blank_at (suc n) zero = refl
 blank_at (suc n) (suc i) = blank_at n i
 
 -- The slots at the opening: the writer's, and of each seat a handle that shows the empty history on
--- side 0, something on side 1, and something for its request.
+-- side 0, and something on side 1.
 pub record IsOpening (setup : Setup) (state : LaidState) (slots : List Slot) : Type 0 where
   pub deep : length slots ≡ slot_count setup.seats
   pub writer : get_elem? slots 0 ≡ maybe.some (Writer state)
@@ -114,21 +113,15 @@ pub record IsOpening (setup : Setup) (state : LaidState) (slots : List Slot) : T
       ≡ maybe.some x) × Shows setup [] x
   pub standby : (r : ℕ) → r < setup.seats → (x : Slot) × (get_elem? slots (side_slot r 1)
       ≡ maybe.some x)
-  pub requests : (r : ℕ) → r < setup.seats → (x : Slot) × (get_elem? slots (request_slot r)
-      ≡ maybe.some x)
 
 first_shared : SharedState
 first_shared = record {
   history = [];
   head = 0;
-  known = 0;
   word = 0;
   stage_of = λ _. 0;
-  toggle_of = λ _. 0;
-  request_of = λ _. Idle;
   cleared = 0;
   watched = None;
-  collected = [];
 }
 
 pub opening_kept : (setup : Setup) (state : LaidState) (slots : List Slot)
@@ -142,7 +135,6 @@ opening_kept setup state slots after laid =
       g = first_shared;
       legal = legal_empty setup.config setup.seats;
       limit = omega arith;
-      side = refl;
       wide = length-replicate (word_count setup.seats) 0;
       deep = length-map slots (λ (x : Slot). maybe.some x) ∙ laid.deep;
       word_is = blank 0;
@@ -155,16 +147,6 @@ opening_kept setup state slots after laid =
         left = λ z. absurd (omega (arith, z));
         late = λ e _ z. absurd (none_is_no e z);
       };
-      requests = λ r low. let x = laid.requests r low in record {
-        toggle = blank (request_word r);
-        small = omega arith;
-        says = (
-          (x.0, at_map maybe.some slots (request_slot r) x.0 x.1),
-          bit_at-zero (r + 1),
-          bit_at-zero (r + 1),
-        );
-      };
-      collected = record { listed = λ i x e. absurd (some-ne-none x (sym e)); each = λ _. refl };
       views = at;
       each = λ number. omega (
         arith,
@@ -191,10 +173,6 @@ opening_kept setup state slots after laid =
                 own = refl;
                 own_seen = refl;
                 at_stage = refl;
-                at_toggle = refl;
-                at_request = refl;
-                at_fetched = refl;
-                at_leaving = refl;
                 sees =
                     λ f. absurd (omega (arith, f));
                 holding = λ f. absurd (false_is_no f);

@@ -2,7 +2,7 @@
 use Rattle.std.proofs.Common.{◌≡◌, ◌≢◌, ◌∙◌, refl, sym, ap, subst, ℕ, ◌+◌, ◌%◌, ◌^◌, ◌<◌, List, []}
 use Rattle.std.proofs.Common.{◌∷◌, length, set, arith, slice_index, length-set, get_or-set_other}
 use Rattle.std.proofs.Common.{get_or-set_same}
-use Rattle.std.specs.Prelude.{None, ◌==◌}
+use Rattle.std.specs.Prelude.{◌==◌}
 use mathlib.Core.Logic.{dite}
 use native.Mathlib.Decide.{ℕ_discrete}
 use mathlib.Core.Option as maybe
@@ -11,23 +11,21 @@ use lib.Seq.{set-get_or}
 use Rattle.atomic_table.proofs.Lists.{set_here, set_else}
 use Rattle.atomic_table.specs.Table.{Step, takes as act_takes, keeps as act_keeps}
 use Rattle.atomic_table.specs.Table.{gives as act_gives, Allows}
-use Rattle.tsc_left_right.proofs.Owning.{quiet_none}
-use Rattle.tsc_left_right.proofs.Requests.{seat_same}
-use Rattle.tsc_cache.specs.History.{History, own_count}
+use Rattle.tsc_cache.specs.History.{History}
 use Rattle.tsc_left_right.specs.declared.table.Setup.{Setup}
 use Rattle.tsc_left_right.specs.declared.table.Slot.{Slot}
 use Rattle.tsc_left_right.specs.declared.table.SeatState.{SeatState}
 use Rattle.tsc_left_right.specs.declared.table.Knowledge.{Knowledge}
 use Rattle.tsc_left_right.specs.Rule.{keeping, one_if, SharedState, LeftRightRule, SeatFits, Shows}
 use Rattle.tsc_left_right.specs.Rule.{IsHome, StateFits, states_of, head_word}
-use Rattle.tsc_left_right.specs.Rule.{epoch_word, request_word, side_slot, request_slot}
+use Rattle.tsc_left_right.specs.Rule.{epoch_word, side_slot}
 use Rattle.tsc_left_right.specs.Rule.{active_side, standby_side}
 use Rattle.tsc_left_right.specs.Steps.{staged, pins, reads_head, unpins}
 use Rattle.tsc_cache.proofs.Beginnings.{begins_itself}
 use Rattle.tsc_left_right.proofs.Updates.{put, put_here, put_else}
 use Rattle.tsc_left_right.proofs.Hands.{Homes, Hand}
 use Rattle.tsc_left_right.proofs.Moves.{Board, moved_kept, of_one, only_fits, low_number, not_its}
-use Rattle.tsc_left_right.proofs.Moves.{no_other, same_number}
+use Rattle.tsc_left_right.proofs.Moves.{no_other, same_number, seat_same}
 
 abbrev pub stage_now : SharedState → ℕ → ℕ → SharedState
 stage_now g n stage = record {
@@ -36,12 +34,8 @@ stage_now g n stage = record {
   word = g.word;
   stage_of =
       put g.stage_of n stage;
-  toggle_of = g.toggle_of;
-  request_of = g.request_of;
   cleared = g.cleared;
   watched = g.watched;
-  collected = g.collected;
-  known = g.known;
 }
 
 -- A seat goes to another stage. Its own epoch and side slots alone change.
@@ -52,8 +46,6 @@ pub record Stepped (setup : Setup) (s : Board) (k : LeftRightRule setup s) (p q 
   pub word_same : slice_index words 0 ≡ slice_index s.words 0
   pub head_same : slice_index words head_word ≡ slice_index s.words head_word
   pub lock_slot_same : get_elem? homes 0 ≡ get_elem? s.homes 0
-  pub requests : (r : ℕ) → (slice_index words (request_word r) ≡ slice_index s.words
-      (request_word r)) × (get_elem? homes (request_slot r) ≡ get_elem? s.homes (request_slot r))
   pub others : (r : ℕ) → r ≢ p.number → (slice_index words (epoch_word r) ≡ slice_index s.words
       (epoch_word r)) × ((side : ℕ) → side < 2 → get_elem? homes (side_slot r side)
       ≡ get_elem? s.homes (side_slot r side))
@@ -83,7 +75,6 @@ stage_kept setup s k id t p q stage words homes at m =
       at = at;
       legal = k.legal;
       limit = k.limit;
-      side = k.side;
       wide = m.wide ∙ k.wide;
       deep = m.deep ∙ k.deep;
       word_is = m.word_same ∙ k.word_is;
@@ -92,12 +83,6 @@ stage_kept setup s k id t p q stage words homes at m =
           (λ is. subst (SeatFits setup g' words homes) (sym is) m.here)
           (λ isnt. let o = m.others r isnt in seat_same setup g g' s.words words s.homes homes r
           refl refl (put_else g.stage_of n stage r isnt) refl refl o.0 o.1 (k.seats r low));
-      requests = λ r low. let ok = k.requests r low in let o = m.requests r in record {
-        toggle = o.0 ∙ ok.toggle;
-        small = ok.small;
-        says = rw o.1 ok.says;
-      };
-      collected = k.collected;
       fits = of_one t q ((k.views id v at).settled refl) m.fits;
       others = λ other u apart e. let was = k.views other u e in record {
         settled = was.settled;
@@ -107,10 +92,6 @@ stage_kept setup s k id t p q stage words homes at m =
               own = f.own;
               own_seen = f.own_seen;
               at_stage = put_else g.stage_of n stage x.number isnt ∙ f.at_stage;
-              at_toggle = f.at_toggle;
-              at_request = f.at_request;
-              at_fetched = f.at_fetched;
-              at_leaving = f.at_leaving;
               sees = f.sees;
               holding = f.holding;
             };
@@ -153,10 +134,6 @@ module _ (setup : Setup) (slots : ℕ) (st : Step Slot) (id : ℕ) (t : Setup) (
           word_same = get_or-set_other s.words i 0 y 0 (λ z. omega (arith, z));
           head_same = get_or-set_other s.words i head_word y 0 (λ z. omega (arith, z));
           lock_slot_same = refl;
-          requests = λ r. (
-            get_or-set_other s.words i (request_word r) y 0 (λ z. omega (arith, z)),
-            refl,
-          );
           others = λ r isnt. (
             get_or-set_other s.words i (epoch_word r) y 0
                 (λ z. isnt (omega (arith, z))),
@@ -178,10 +155,6 @@ module _ (setup : Setup) (slots : ℕ) (st : Step Slot) (id : ℕ) (t : Setup) (
             own = mine.own;
             own_seen = mine.own_seen;
             at_stage = stage;
-            at_toggle = mine.at_toggle;
-            at_request = mine.at_request;
-            at_fetched = mine.at_fetched;
-            at_leaving = mine.at_leaving;
             sees = λ z. absurd (omega (arith, z));
             holding = mine.holding;
           };
@@ -189,10 +162,10 @@ module _ (setup : Setup) (slots : ℕ) (st : Step Slot) (id : ℕ) (t : Setup) (
         refl,
       )
 
-  -- It has its slot of the active side, where it asks for nothing.
-  pub read_head_allowed : p.stage ≡ 1 → p.request ≡ None
+  -- It has its slot of the active side.
+  pub read_head_allowed : p.stage ≡ 1
       → Allows (LeftRightRule setup) slots id (v, hand) head_word (λ n. n) (reads_head st (v, hand))
-  read_head_allowed pinned none s k deep at small =
+  read_head_allowed pinned s k deep at small =
       let g : SharedState = k.g in
       let h : History = g.history in
       let n : ℕ = p.number in
@@ -211,11 +184,6 @@ module _ (setup : Setup) (slots : ℕ) (st : Step Slot) (id : ℕ) (t : Setup) (
       λ q. ap (λ (ws : List ℕ). slice_index ws q) (set-get_or s.words head_word 0) in
       let x = subst (λ (f : ℕ). IsHome s.homes (side_slot n (active_side f)) (Shows setup h))
       (sym head) (ok.active (λ z. omega (arith, z, is))) in
-      let own_all : own_count n h ≡ p.count = omega (
-        arith,
-        mine.own,
-        quiet_none (g.request_of n) (mine.at_request ∙ none),
-      ) in
       let stage = put_here g.stage_of n (side + 2) in
       let q : SeatState = record p { seen = h; stage = side + 2 } in (
         keeping t (q ∷ []),
@@ -227,11 +195,6 @@ module _ (setup : Setup) (slots : ℕ) (st : Step Slot) (id : ℕ) (t : Setup) (
           word_same = same 0;
           head_same = same head_word;
           lock_slot_same = set_else s.homes j 0 maybe.none (λ z. omega (arith, z));
-          requests = λ r. (
-            same (request_word r),
-            set_else s.homes j (request_slot r) maybe.none
-                (λ z. omega (arith, z)),
-          );
           others = λ r isnt. (
             same (epoch_word r),
             λ c less. set_else s.homes j (side_slot r c)
@@ -255,14 +218,11 @@ module _ (setup : Setup) (slots : ℕ) (st : Step Slot) (id : ℕ) (t : Setup) (
           fits = record {
             begins = begins_itself h;
             own = mine.own;
-            own_seen = own_all;
+            own_seen = mine.own;
             at_stage = stage;
-            at_toggle = mine.at_toggle;
-            at_request = mine.at_request;
-            at_fetched = mine.at_fetched;
-            at_leaving = mine.at_leaving;
             sees = λ _. refl;
-            holding = mine.holding;
+            holding = λ z. let knows = mine.holding z in
+                (refl, knows.1, knows.2, knows.3, knows.4);
           };
         }),
         (
@@ -274,7 +234,7 @@ module _ (setup : Setup) (slots : ℕ) (st : Step Slot) (id : ℕ) (t : Setup) (
             begins = mine.begins;
             legal =
                 rw setup_same k.legal;
-            own = own_all;
+            own = mine.own;
             limit = rw setup_same k.limit;
             shows =
                 subst (λ (y : Setup). Shows y h x.0) (sym setup_same) x.2;
@@ -323,12 +283,6 @@ module _ (setup : Setup) (slots : ℕ) (st : Step Slot) (id : ℕ) (t : Setup) (
             word_same = get_or-set_other s.words i 0 y 0 (λ z. omega (arith, z));
             head_same = get_or-set_other s.words i head_word y 0 (λ z. omega (arith, z));
             lock_slot_same = set_else s.homes j 0 (maybe.some x) (λ z. omega (arith, z));
-            requests = λ r. (
-              get_or-set_other s.words i (request_word r) y 0
-                  (λ z. omega (arith, z)),
-              set_else s.homes j (request_slot r) (maybe.some x)
-                  (λ z. omega (arith, z, small_side)),
-            );
             others = λ r isnt. (
               get_or-set_other s.words i (epoch_word r) y 0
                   (λ z. isnt (omega (arith, z))),
@@ -363,10 +317,6 @@ module _ (setup : Setup) (slots : ℕ) (st : Step Slot) (id : ℕ) (t : Setup) (
               own = mine.own;
               own_seen = mine.own_seen;
               at_stage = stage;
-              at_toggle = mine.at_toggle;
-              at_request = mine.at_request;
-              at_fetched = mine.at_fetched;
-              at_leaving = mine.at_leaving;
               sees = λ z. absurd (omega (arith, z));
               holding = mine.holding;
             };

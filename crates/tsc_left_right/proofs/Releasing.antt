@@ -1,8 +1,8 @@
 -- A writer releases the lock.
-use Rattle.std.proofs.Common.{◌≡◌, ◌≢◌, ◌∙◌, refl, sym, ap, subst, true, ℕ, ◌%◌}
+use Rattle.std.proofs.Common.{◌≡◌, ◌∙◌, refl, sym, ap, subst, true, ℕ, ◌%◌}
 use Rattle.std.proofs.Common.{List, [], ◌∷◌, ◌++◌, set, arith, length-set}
 use Rattle.std.proofs.Common.{get_or-set_other, get_or-set_same}
-use Rattle.std.specs.Prelude.{None}
+use Rattle.std.specs.Prelude.{None, false}
 use mathlib.Core.Logic.{dite}
 use native.Mathlib.Decide.{dec_le}
 use mathlib.Core.Option as maybe
@@ -17,13 +17,12 @@ use Rattle.tsc_left_right.specs.declared.table.SeatState.{SeatState}
 use Rattle.tsc_left_right.specs.declared.table.Knowledge.{Knowledge}
 use Rattle.tsc_left_right.specs.Rule.{keeping, one_if, LaidState, SharedState, LeftRightRule}
 use Rattle.tsc_left_right.specs.Rule.{IsAfter}
-use Rattle.tsc_left_right.specs.Rule.{head_word, epoch_word, request_word, side_slot}
-use Rattle.tsc_left_right.specs.Rule.{request_slot, active_side, standby_side}
+use Rattle.tsc_left_right.specs.Rule.{head_word, side_slot, active_side, standby_side}
 use Rattle.tsc_left_right.specs.Steps.{Filled, Anything, released}
 use Rattle.tsc_left_right.proofs.Hands.{Homes, Hand, put_all, give_all, given_homes, given_none}
 use Rattle.tsc_left_right.proofs.Hands.{given_valid, put_length, put_apart, put_among}
-use Rattle.tsc_left_right.proofs.Moves.{Moved, moved_kept, of_one, not_holding}
-use Rattle.tsc_left_right.proofs.Moves.{knows_all, none_is_no, false_is_no}
+use Rattle.tsc_left_right.proofs.Moves.{Moved, moved_kept, of_one, knows_all, none_is_no}
+use Rattle.tsc_left_right.proofs.Moves.{false_is_no, epoch_same, others_fit, writer_fits, writer_now}
 
 module _ (setup : Setup) (slots : ℕ) (id : ℕ) (t : Setup) (p : SeatState) (state : LaidState)
     (sides : Hand) where
@@ -33,12 +32,12 @@ module _ (setup : Setup) (slots : ℕ) (id : ℕ) (t : Setup) (p : SeatState) (s
   abbrev hand : Hand
   hand = sides ++ (0, Writer state) ∷ []
 
-  pub release_allowed : p.holds ≡ true → p.collected ≡ []
+  pub release_allowed : p.holds ≡ true
       → Filled Anything (standby_side p.head) 0 sides p.cleared
-      → IsAfter t p.history p.head state.value
+      → IsAfter t p.seen p.head state.value
       → Allows (LeftRightRule setup) slots id (releaser, hand) 0 (λ _. 0)
       (λ _ me'. me' ≡ (keeping t (released p ∷ []), []))
-  release_allowed holds none filled after s k deep at small =
+  release_allowed holds filled after s k deep at small =
       let all = knows_all setup s k id t p holds at in
       let g : SharedState = k.g in
       let w : Knowledge = keeping t (released p ∷ []) in
@@ -49,43 +48,27 @@ module _ (setup : Setup) (slots : ℕ) (id : ℕ) (t : Setup) (p : SeatState) (s
       let wide = k.wide in
       let one = all.one in
       let cleared_is = all.cleared in
-      let head_is = all.side in
-      let side_same : standby_side g.head ≡ standby_side p.head = omega (arith, head_is) in
-      let apart : (i : ℕ) → ((r : ℕ) → i ≢ side_slot r (standby_side p.head)) → i ≢ 0
-      → get_elem? homes i ≡ get_elem? s.homes i = λ i no zero. set_else put 0 i
-      (maybe.some (Writer state)) zero ∙ put_apart Anything (standby_side p.head) s.homes 0
-      sides p.cleared i filled (λ r _ _. no r) in
-      let g' : SharedState = record {
-        history = g.history;
-        head = g.head;
-        known = g.known;
-        word = 0;
-        stage_of =
-            g.stage_of;
-        toggle_of = g.toggle_of;
-        request_of = g.request_of;
-        cleared = 0;
-        watched =
-            None;
-        collected = g.collected;
-      } in
+      let head_is = all.head in
+      let g' : SharedState = writer_now g 0 0 None in
       let moved : Moved setup s k id releaser w g' words homes = record {
         at = at;
         legal = k.legal;
         limit = k.limit;
-        side = k.side;
         wide = length-set s.words 0 0 ∙ k.wide;
         deep = length-set put 0 (maybe.some (Writer state)) ∙ put_length s.homes sides ∙ k.deep;
         word_is = get_or-set_same s.words 0 0 0 (omega (arith, wide));
         head_is = get_or-set_other s.words 0 head_word 0 0 (λ z. omega (arith, z)) ∙ k.head_is;
-        seats = λ r low. let ok = k.seats r low in let epoch = get_or-set_other s.words 0
-            (epoch_word r) 0 0 (λ z. omega (arith, z)) in record {
+        seats = λ r low. let ok = k.seats r low in
+            let epoch = epoch_same s.words 0 0 r (omega arith) in record {
               unpinned = λ z. ap (λ (e : ℕ). e % 2) epoch ∙ ok.unpinned z;
               pinned = λ z. ap (λ (e : ℕ). e % 2) epoch ∙ ok.pinned z;
               active = λ n. let x = ok.active n in (
                 x.0,
-                apart (side_slot r (active_side g.head))
-                    (λ q z. omega (arith, z, head_is)) (λ z. omega (arith, z)) ∙ x.1,
+                set_else put 0 (side_slot r (active_side g.head)) (maybe.some (Writer state))
+                    (λ z. omega (arith, z))
+                    ∙ put_apart Anything (standby_side p.head) s.homes 0 sides p.cleared
+                    (side_slot r (active_side g.head)) filled (λ q _ _ z. omega (arith, z, head_is))
+                    ∙ x.1,
                 x.2,
               );
               standby = λ _ n. dite (dec_le p.cleared r)
@@ -106,7 +89,7 @@ module _ (setup : Setup) (slots : ℕ) (id : ℕ) (t : Setup) (p : SeatState) (s
                   p.cleared
                   r filled (omega arith) (omega (arith, below)) (omega (arith, tall, low)) in (
                     x.0,
-                    ap (λ (c : ℕ). get_elem? homes (side_slot r c)) side_same
+                    ap (λ (c : ℕ). get_elem? homes (side_slot r (standby_side c))) (sym head_is)
                         ∙ set_else put 0 (side_slot r (standby_side p.head))
                         (maybe.some (Writer state))
                         (λ z. omega (arith, z)) ∙ x.1,
@@ -114,52 +97,18 @@ module _ (setup : Setup) (slots : ℕ) (id : ℕ) (t : Setup) (p : SeatState) (s
               left = λ z. absurd (omega (arith, z));
               late = λ e _ z. absurd (none_is_no e z);
             };
-        requests = λ r low. let ok = k.requests r low in record {
-          toggle = get_or-set_other s.words 0 (request_word r) 0 0 (λ z. omega (arith, z))
-              ∙ ok.toggle;
-          small = ok.small;
-          says = rw (apart (request_slot r) (λ q z. omega (arith, z)) (λ z. omega (arith, z)))
-              ok.says;
-        };
-        collected = k.collected;
-        fits = of_one t (released p) all.same (record {
-          begins = all.mine.begins;
-          own =
-              all.mine.own;
-          own_seen = all.mine.own_seen;
-          at_stage = all.mine.at_stage;
-          at_toggle =
-              all.mine.at_toggle;
-          at_request = all.mine.at_request;
-          at_fetched = all.mine.at_fetched;
-          at_leaving = all.mine.at_leaving;
-          sees = all.mine.sees;
-          holding = λ f. absurd (false_is_no f);
-        });
-        others = λ other u no e. let was = k.views other u e in record {
-          settled = was.settled;
-          states = λ i x d. let f = was.states i x d in record {
-            begins = f.begins;
-            own = f.own;
-            own_seen = f.own_seen;
-            at_stage = f.at_stage;
-            at_toggle = f.at_toggle;
-            at_request = f.at_request;
-            at_fetched = f.at_fetched;
-            at_leaving = f.at_leaving;
-            sees = f.sees;
-            holding = λ y. absurd (not_holding u i x (all.nobody other u no e) d y);
-          };
-          front = was.front;
-        };
+        fits = of_one t (released p) all.same (writer_fits g p false 0 0 0 None 0 None all.mine
+            (λ f. absurd (false_is_no f)));
+        others = λ other u apart e. others_fit setup g 0 0 None u (all.nobody other u apart e)
+            (k.views other u e);
         each = λ _. refl;
         one = omega (arith, one, ap one_if holds);
-        idle = λ _. (refl, sym all.collected ∙ none);
+        idle = λ _. (refl, refl);
         free = λ _. (
           state,
           set_here put 0 (maybe.some (Writer state))
               (omega (arith, put_length s.homes sides, tall)),
-          subst (λ (x : Setup). IsAfter x g.history g.known state.value) all.same
+          subst (λ (x : Setup). IsAfter x g.history g.head state.value) all.same
               (subst (λ (c : ℕ). IsAfter t g.history c state.value) all.head
               (subst (λ (y : History). IsAfter t y p.head state.value) all.all after)),
         );

@@ -18,10 +18,9 @@ use Rattle.tsc_left_right.specs.declared.table.SeatState.{SeatState}
 use Rattle.tsc_left_right.specs.declared.table.Knowledge.{Knowledge}
 use Rattle.tsc_left_right.specs.Rule.{keeping, one_if, LeftRightRule, KnowledgeFits, states_of}
 use Rattle.tsc_left_right.specs.Rule.{holders}
-use Rattle.std.specs.Prelude.{nat_le, true, None}
+use Rattle.std.specs.Prelude.{nat_le, true}
 use Rattle.std.proofs.Common.{Bool, ◌≤◌, ap}
 use Rattle.std.proofs.lemmas.Bool.Decides.{nat_tests}
-use Rattle.tsc_left_right.proofs.Owning.{quiet_none}
 use Rattle.tsc_left_right.specs.Steps.{front_of, spent, longer, catches_up}
 use Rattle.tsc_cache.proofs.Beginnings.{begins_itself, legal_beginning}
 use Rattle.tsc_left_right.proofs.Prefixes.{begins_empty, begins_length, own_between, begins_shorter}
@@ -59,14 +58,11 @@ viewed setup s k views fits each one = record {
   g = k.g;
   legal = k.legal;
   limit = k.limit;
-  side = k.side;
   wide = k.wide;
   deep = k.deep;
   word_is = k.word_is;
   head_is = k.head_is;
   seats = k.seats;
-  requests = k.requests;
-  collected = k.collected;
   views = fits;
   each = λ number. each number ∙ k.each number;
   one = one ∙ k.one;
@@ -214,12 +210,12 @@ front_joins setup id t p other u seen s k at apart at_other =
     })
     (λ n. omega arith) (omega arith)
 
--- That one has then seen the longer of both, if it asks for nothing.
+-- That one has then seen the longer of both.
 pub catch_up_allowed : (setup : Setup) (slots : ℕ) (st : Step Slot) (id : ℕ) (t : Setup)
-    (p : SeatState) (seen : History) → p.request ≡ None
+    (p : SeatState) (seen : History)
     → Allows (LeftRightRule setup) slots id (with_front t p seen, []) 0 (λ n. n)
     (catches_up st (with_front t p seen, []))
-catch_up_allowed setup slots st id t p seen none s k deep at small =
+catch_up_allowed setup slots st id t p seen s k deep at small =
     let v : Knowledge = with_front t p seen in
     let fits = k.views id v at in
     let mine = fits.states 0 p refl in
@@ -228,13 +224,8 @@ catch_up_allowed setup slots st id t p seen none s k deep at small =
     let long = longer_begins h p.seen seen mine.begins fits.front in
     let is_legal : IsLegal setup.config setup.seats (longer p.seen seen) =
     legal_beginning setup.config setup.seats h (longer p.seen seen) k.legal long.2 in
-    let own_all : own_count p.number h ≡ p.count = omega (
-      arith,
-      mine.own,
-      quiet_none (k.g.request_of p.number) (mine.at_request ∙ none),
-    ) in
     let own : own_count p.number (longer p.seen seen) ≡ p.count = own_between p.number p.count h
-    (longer p.seen seen) p.seen long.2 long.0 own_all mine.own_seen in
+    (longer p.seen seen) p.seen long.2 long.0 mine.own mine.own_seen in
     let q : SeatState = record p { seen = longer p.seen seen } in
     let w : Knowledge = keeping t (q ∷ []) in
     let words : List ℕ = set s.words 0 (slice_index s.words 0) in
@@ -246,14 +237,9 @@ catch_up_allowed setup slots st id t p seen none s k deep at small =
       own = mine.own;
       own_seen = own;
       at_stage = mine.at_stage;
-      at_toggle = mine.at_toggle;
-      at_request =
-          mine.at_request;
-      at_fetched = mine.at_fetched;
-      at_leaving = mine.at_leaving;
       sees = λ e. all_seen (mine.sees e);
-      holding =
-          mine.holding;
+      holding = λ e. let knows = mine.holding e in
+          (all_seen knows.0, knows.1, knows.2, knows.3, knows.4);
     }) in (
       w,
       act_keeps,

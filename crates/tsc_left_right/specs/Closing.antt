@@ -1,5 +1,5 @@
 -- The end of the table: what lay there is after one history, which fits all seats.
-use Rattle.std.specs.Prelude.{◌≡◌, ◌<◌, ◌==◌, ℕ, List, None}
+use Rattle.std.specs.Prelude.{◌≡◌, ◌<◌, ◌==◌, ℕ, List}
 use Rattle.std.specs.List.{sum_by}
 use mathlib.Core.Option as maybe
 use lib.ListN.{get_elem?}
@@ -9,10 +9,10 @@ use Rattle.tsc_left_right.specs.declared.table.WriterState.{WriterState}
 use Rattle.tsc_left_right.specs.declared.table.SeatState.{SeatState}
 use Rattle.tsc_left_right.specs.Rule.{one_if, IsAfter}
 
--- What a seat has seen fits the history, which has all Adds of a seat that asks for nothing.
+-- What a seat has seen fits the history, which has all its Adds.
 pub record EndFits (h : History) (p : SeatState) : Type 0 where
   pub begins : BeginsWith h p.seen
-  pub own : p.request ≡ None → own_count p.number h ≡ p.count
+  pub own : own_count p.number h ≡ p.count
 
 -- At the end each seat has one of these states, and what lay there is after one history, which fits
 -- them all.

@@ -1,8 +1,11 @@
 pub mod Rule
 pub mod Steps
-pub mod RequestSteps
 pub mod Participating
-pub mod Requesting
 pub mod Writing
 pub mod Opening
 pub mod Closing
+pub mod Waiting
+pub mod Copying
+pub mod Context
+pub mod Adding
+pub mod Round

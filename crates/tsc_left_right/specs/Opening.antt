@@ -7,15 +7,15 @@ use Rattle.tsc_left_right.specs.declared.table.Slot.{Slot}
 use Rattle.tsc_left_right.specs.declared.table.Slot.TheVariants.{Empty, Writer}
 use Rattle.tsc_left_right.specs.declared.table.Setup.{Setup}
 use Rattle.tsc_left_right.specs.declared.table.WriterState.{WriterState}
-use Rattle.tsc_left_right.specs.Rule.{LaidState, IsAfter, side_slot, request_slot, slot_count}
+use Rattle.tsc_left_right.specs.Rule.{LaidState, IsAfter, side_slot, slot_count}
 use Rattle.tsc_left_right.specs.Steps.{IsHandleOn}
 
 -- a slot with seven empty ones behind it
 abbrev pub line_of : Slot → List Slot
 line_of x = x ∷ replicate 7 Empty
 
--- The writer's slot has this, and each seat has a handle on the active copy on side 0, nothing on
--- side 1, and no request.
+-- The writer's slot has this, and each seat has a handle on the active copy on side 0, and nothing
+-- on side 1.
 pub record IsLaidOut (state : LaidState) (seats : ℕ) (slots : List Slot) : Type 0 where
   pub deep : length slots ≡ slot_count seats
   pub writer : get_elem? slots 0 ≡ maybe.some (Writer state)
@@ -23,7 +23,6 @@ pub record IsLaidOut (state : LaidState) (seats : ℕ) (slots : List Slot) : Typ
       × (get_elem? slots (side_slot seat 0) ≡ maybe.some x)
       × IsHandleOn (arc_value state.value.active) 0 x
   pub standby : (seat : ℕ) → seat < seats → get_elem? slots (side_slot seat 1) ≡ maybe.some Empty
-  pub requests : (seat : ℕ) → seat < seats → get_elem? slots (request_slot seat) ≡ maybe.some Empty
 
 -- the writer's state before the first Add
 pub record IsFirst (setup : Setup) (state : WriterState) : Type 0 where

@@ -1,32 +1,27 @@
 -- A participant, and what it has in hand: what the functions that read and write ask for, and
 -- leave.
-use Rattle.std.specs.Prelude.{◌≡◌, ◌<◌, ◌≤◌, ℕ, ◌+◌, length, List, [], ◌∷◌, ◌++◌, true, false}
+use Rattle.std.specs.Prelude.{◌≡◌, ◌<◌, ◌≤◌, ℕ, ◌+◌, length, List, [], ◌∷◌, true, false}
 use Rattle.std.specs.Prelude.{Option, Some, None}
 use Rattle.std.specs.Arc.{arc_value}
 use Rattle.atomic_table.specs.Seated.{TableId}
 use Rattle.atomic_table.specs.declared.shared.Seat.{Seat as TableSeat}
 use Rattle.tsc_cache.specs.Settings.{Settings}
-use Rattle.tsc_cache.specs.State.{CacheState, step_all}
+use Rattle.tsc_cache.specs.State.{CacheState}
 use Rattle.tsc_cache.specs.CacheView.{CacheView, RepresentsState}
-use Rattle.tsc_cache.specs.History.{History, own_count, state_of, BeginsWith, IsLegal}
+use Rattle.tsc_cache.specs.History.{History, own_count, BeginsWith, IsLegal}
 use Rattle.tsc_left_right.specs.declared.table.UnappliedAdd.{UnappliedAdd}
 use Rattle.tsc_left_right.specs.declared.table.WriterState.{WriterState}
-use Rattle.tsc_left_right.specs.declared.table.MadeAdd.{MadeAdd}
-use Rattle.tsc_left_right.specs.declared.table.SeatState.{SeatState}
-use Rattle.tsc_left_right.specs.declared.table.Collected.{Collected}
 use Rattle.tsc_left_right.specs.declared.table.Slot.{Slot}
-use Rattle.tsc_left_right.specs.declared.table.Slot.TheVariants.{Empty, Writer, Handle, Request}
-use Rattle.tsc_left_right.specs.declared.table.Slot.TheVariants.{Answer}
+use Rattle.tsc_left_right.specs.declared.table.Slot.TheVariants.{Empty, Writer, Handle}
 use Rattle.tsc_left_right.specs.declared.table.Knowledge.{Knowledge}
 use Rattle.tsc_left_right.specs.declared.table.Setup.{Setup}
 use Rattle.tsc_left_right.specs.Rule.{word_count, slot_count}
-use Rattle.tsc_left_right.specs.Rule.{keeping, side_slot, request_slot, standby_side, IsState}
-use Rattle.tsc_left_right.specs.Rule.{Shows, CanBe, IsAfter, marks_in}
+use Rattle.tsc_left_right.specs.Rule.{keeping, side_slot, standby_side, IsState}
+use Rattle.tsc_left_right.specs.Rule.{Shows, CanBe, IsAfter}
 use Rattle.tsc_left_right.specs.Steps.{first_state, Acquires, flipped, released, staged}
 use Rattle.tsc_left_right.specs.Steps.{At, state_in, with_state, seated, number_of, seen_of}
 use Rattle.tsc_left_right.specs.Steps.{count_of, clearing, Filled, Anything, IsHandleOn, front_of}
-use Rattle.tsc_left_right.specs.Steps.{own_of, published, with_own, grown}
-use Rattle.tsc_left_right.specs.RequestSteps.{serving}
+use Rattle.tsc_left_right.specs.Steps.{published}
 
 abbrev pub Participant : Type 0
 Participant = TableSeat Slot Knowledge
@@ -65,21 +60,12 @@ IsFirstOf v me = me ≡ (keeping v.setup (first_state v.states ∷ []), [])
 abbrev pub IsFront : At → Type 0
 IsFront me = me ≡ (front_of me.0.setup me.0.front, [])
 
--- a seat that may acquire the writer lock: it has nothing in hand, and may have asked for an Add
+-- a seat that may acquire the writer lock: it has nothing in hand
 pub record IsFree (me : At) : Type 0 where
   pub one : KeepsOne me.0
   pub hand : me.1 ≡ []
   pub holds : (state_in me.0).holds ≡ false
   pub unpinned : (state_in me.0).stage ≡ 0
-
--- the slots of collected requests, each empty
-abbrev pub slots_of : List Collected → List (ℕ × Slot)
-slots_of [] = []
-slots_of (x ∷ xs) = (request_slot x.seat, Empty) ∷ slots_of xs
-
--- what a writer has in hand: those, its own slot, which is empty, and then others
-abbrev pub hand_of : List Collected → List (ℕ × Slot) → List (ℕ × Slot)
-hand_of collected others = slots_of collected ++ (0, Empty) ∷ others
 
 -- what a seat knows once it is unpinned
 abbrev pub unpinned_in : Knowledge → Knowledge
@@ -87,7 +73,7 @@ unpinned_in v = with_state v (staged (state_in v) 0)
 
 -- what a writer knows once it has published, and once it has released the lock
 abbrev pub published_in : Knowledge → Option UnappliedAdd → Knowledge
-published_in v own = with_state v (flipped (state_in v) own)
+published_in v add = with_state v (flipped (state_in v) add)
 
 abbrev pub released_in : Knowledge → Knowledge
 released_in v = with_state v (released (state_in v))
@@ -97,10 +83,10 @@ abbrev pub cleared_in : Knowledge → ℕ → Option ℕ → Knowledge
 cleared_in v cleared watched = with_state v (clearing (state_in v) cleared watched)
 
 -- The writer, as it is in v, has cleared `cleared` seats, and may have watched the next one. In
--- hand are the slots of what it has collected, its own, and those of the seats that it has cleared.
+-- hand are its own slot, which is empty, and those of the seats that it has cleared.
 pub record IsWriting (v : Knowledge) (me : At) (cleared : ℕ) (watched : Option ℕ) : Type 0 where
   pub slots : List (ℕ × Slot)
-  pub is : me ≡ (cleared_in v cleared watched, hand_of (state_in v).collected slots)
+  pub is : me ≡ (cleared_in v cleared watched, (0, Empty) ∷ slots)
   pub filled : Filled Anything (standby_side (state_in v).head) 0 slots cleared
   pub holds : (state_in v).holds ≡ true
   pub unpinned : (state_in v).stage ≡ 0
@@ -114,7 +100,7 @@ HasLock me = (cleared : ℕ) × (watched : Option ℕ) × IsWriting me.0 me clea
 pub record HasInstalled (v : Knowledge) (me : At) (cache : CacheView) (adds cleared : ℕ)
     : Type 0 where
   pub slots : List (ℕ × Slot)
-  pub is : me ≡ (cleared_in v cleared None, hand_of (state_in v).collected slots)
+  pub is : me ≡ (cleared_in v cleared None, (0, Empty) ∷ slots)
   pub filled : Filled (IsHandleOn cache adds) (standby_side (state_in v).head) 0 slots cleared
   pub holds : (state_in v).holds ≡ true
   pub unpinned : (state_in v).stage ≡ 0
@@ -131,61 +117,28 @@ IsNext v seat standby = (seat < v.setup.seats) × (standby ≡ standby_side (sta
 abbrev pub AreSides : Knowledge → ℕ → ℕ → Type 0
 AreSides v seats standby = (seats ≡ v.setup.seats) × (standby ≡ standby_side (state_in v).head)
 
--- A writer that has no request in hand may release the lock, with a state that is as it knows.
+-- A writer may release the lock, with a state that is as it knows.
 pub record MayRelease (me : At) (state : WriterState) : Type 0 where
   pub lock : HasLock me
-  pub none : (state_in me.0).collected ≡ []
-  pub is_after : IsAfter me.0.setup (state_in me.0).history (state_in me.0).head state
+  pub is_after : IsAfter me.0.setup (seen_of me.0) (state_in me.0).head state
 
--- The writer makes an Add of its own only where it asks for nothing.
-abbrev pub MayOwn : Setup → SeatState → Option UnappliedAdd → Type 0
-MayOwn setup p None = Unit {0}
-MayOwn setup p (Some add) = CanBe setup add × (p.request ≡ None)
+-- an Add that a caller can make, if there is one
+abbrev pub CanAdd : Setup → Option UnappliedAdd → Type 0
+CanAdd setup None = Unit {0}
+CanAdd setup (Some add) = CanBe setup add
 
--- A collected Add was made after a history, and is not published.
-pub record IsMadeFor (t : Setup) (h : History) (x : Collected) (made : MadeAdd) : Type 0 where
-  pub seat : made.seat ≡ x.seat
-  pub small : x.seat < 63
-  pub add : made.add.value ≡ x.add
-  pub added : (step_all t.config (state_of t.config h) (marks_in x.add.marks) x.add.moment).added
-      ≡ record { kept = made.kept; rotated = false; evicted = 0 }
-
--- All that was collected was made, each after those before it. The last that was collected comes
--- first, and was made last.
-abbrev pub AreMade : Setup → History → List Collected → List MadeAdd → Type 0
-AreMade t h [] items = items ≡ []
-AreMade t h (x ∷ xs) items =
-    (front : List MadeAdd) × (made : MadeAdd) × (items ≡ front ++ made ∷ [])
-    × IsMadeFor t (grown h xs) x made × AreMade t h xs front
-
--- What the writer has prepared can be published: its own Add, if there is one, and then all that it
--- has collected. The limit allows all, and the state says what is known of HEAD.
+-- What the writer has prepared can be published: its Add, which the limit allows. The state says
+-- what HEAD is until then.
 pub record IsReady (v : Knowledge) (state : WriterState) : Type 0 where
-  pub own : MayOwn v.setup (state_in v) (own_of state)
-  pub made : AreMade v.setup (with_own (state_in v) (own_of state)) (state_in v).collected
-      state.lagging.others.items
-  pub limit : length (published (state_in v) (own_of state)) ≤ v.setup.limit
-  pub is_after : IsAfter v.setup (published (state_in v) (own_of state)) (state_in v).head state
-
--- The writer of v could not publish, since some seat has left. All that it had collected is back.
--- What the writer works with is as before, without the Adds of others, and with what it knows of
--- HEAD.
-pub record IsCalledOff (v : Knowledge) (old : WriterState) (me : At) (new : WriterState)
-    : Type 0 where
-  pub is : me.0 ≡ with_state v (serving (state_in v) [] new.head)
-  pub side : standby_side new.head ≡ standby_side (state_in v).head
-  pub writing : IsWriting me.0 me v.setup.seats None
-  pub copies : (new.active ≡ old.active) × (new.standby ≡ old.standby)
-  pub length : new.length ≡ old.length
-  pub lagging : (new.lagging.own ≡ old.lagging.own) × (new.lagging.others.items ≡ [])
+  pub can : CanAdd v.setup state.lagging
+  pub limit : length (published (state_in v) state.lagging) ≤ v.setup.limit
+  pub is_after : IsAfter v.setup (published (state_in v) state.lagging) (state_in v).head state
 
 -- a slot has a handle that meets P
 abbrev pub HasHandle : Slot → (CacheView → ℕ → Type 0) → Type 0
 HasHandle Empty P = ⊥
 HasHandle (Writer state) P = ⊥
 HasHandle (Handle handle) P = P (arc_value handle.cache) handle.length
-HasHandle (Request add) P = ⊥
-HasHandle (Answer reply) P = ⊥
 
 abbrev pub IsHandle : Slot → Type 0
 IsHandle x = HasHandle x (λ cache length. Unit {0})

@@ -1,25 +1,22 @@
 -- What each step says to the one who takes it.
 use Rattle.std.specs.Prelude.{◌≡◌, ◌≢◌, ℕ, suc, ◌+◌, ◌%◌, ◌≤◌, ◌==◌, ◌||◌, not}
 use Rattle.std.specs.Prelude.{nat_le, List, [], ◌∷◌, ◌++◌, length, Bool, true, false}
-use Rattle.std.specs.Prelude.{Option, Some, None, if◌then◌else◌, bit_xor}
+use Rattle.std.specs.Prelude.{Option, Some, None, if◌then◌else◌}
 use Rattle.std.specs.Arc.{arc_value}
 use Rattle.atomic_table.specs.Table.{Me, Step, rest}
 use Rattle.tsc_time.specs.Time.{zero_time}
 use Rattle.tsc_cache.specs.CacheView.{CacheView}
-use Rattle.tsc_cache.specs.declared.history.Entry.{Entry}
 use Rattle.tsc_cache.specs.History.{History, own_count, BeginsWith, IsLegal}
 use Rattle.tsc_left_right.specs.declared.table.Setup.{Setup}
 use Rattle.tsc_left_right.specs.declared.table.UnappliedAdd.{UnappliedAdd}
 use Rattle.tsc_left_right.specs.declared.table.WriterState.{WriterState}
 use Rattle.tsc_left_right.specs.declared.table.SeatState.{SeatState}
-use Rattle.tsc_left_right.specs.declared.table.Collected.{Collected}
 use Rattle.tsc_left_right.specs.declared.table.Knowledge.{Knowledge}
 use Rattle.tsc_left_right.specs.declared.table.Slot.{Slot}
-use Rattle.tsc_left_right.specs.declared.table.Slot.TheVariants.{Empty, Writer, Handle, Request}
-use Rattle.tsc_left_right.specs.declared.table.Slot.TheVariants.{Answer}
+use Rattle.tsc_left_right.specs.declared.table.Slot.TheVariants.{Empty, Writer, Handle}
 use Rattle.tsc_left_right.specs.Rule.{at_rest, keeping, entry_of, side_slot}
 use Rattle.tsc_left_right.specs.Rule.{active_side, standby_side, Shows}
-use Rattle.tsc_left_right.specs.Rule.{LaidState, IsAfter, turned_answer}
+use Rattle.tsc_left_right.specs.Rule.{LaidState, IsAfter}
 
 -- what a participant knows, and what it has in hand
 abbrev pub At : Type 0
@@ -96,24 +93,11 @@ abbrev pub IsHandleOn : CacheView → ℕ → Slot → Type 0
 IsHandleOn cache adds Empty = ⊥
 IsHandleOn cache adds (Writer state) = ⊥
 IsHandleOn cache adds (Handle handle) = (arc_value handle.cache ≡ cache) × (handle.length ≡ adds)
-IsHandleOn cache adds (Request add) = ⊥
-IsHandleOn cache adds (Answer reply) = ⊥
 
--- A seat that asks for nothing sees the whole history when it acquires the lock.
-abbrev pub seen_then : Option UnappliedAdd → History → History → History
-seen_then None seen h = h
-seen_then (Some add) seen h = seen
-
+-- A seat sees the whole history when it acquires the lock.
 abbrev pub acquired : SeatState → History → ℕ → SeatState
-acquired p h head = record p {
-  holds = true;
-  seen = seen_then p.request p.seen h;
-  history = h;
-  head = head;
-  collected = [];
-  cleared = 0;
-  watched = None;
-}
+acquired p h head =
+    record p { holds = true; seen = h; head = head; cleared = 0; watched = None }
 
 -- The seat of v holds the lock, and knows all: the history, and the state that lies there.
 pub record Acquires (v w : Knowledge) (state : WriterState) : Type 0 where
@@ -122,8 +106,7 @@ pub record Acquires (v w : Knowledge) (state : WriterState) : Type 0 where
   pub after : w ≡ with_state v (acquired (state_in v) history head)
   pub begins : BeginsWith history (state_in v).seen
   pub legal : IsLegal v.setup.config v.setup.seats history
-  pub own : own_count (state_in v).number (seen_then (state_in v).request (state_in v).seen history)
-      ≡ (state_in v).count
+  pub own : own_count (state_in v).number history ≡ (state_in v).count
   pub limit : length history ≤ v.setup.limit
   pub is_after : IsAfter v.setup history head state
 
@@ -136,17 +119,14 @@ acquires st me found me' =
 
 -- The lock is released, and nothing is in hand.
 abbrev pub released : SeatState → SeatState
-released p = record p {
-  holds = false;
-  history = [];
-  head = 0;
-  collected = [];
-  cleared = 0;
-  watched = None;
-}
+released p = record p { holds = false; head = 0; cleared = 0; watched = None }
 
 abbrev pub releases : Step Slot → At → ℕ → At → Type 0
 releases st me stored me' = me' ≡ (with_state me.0 (released (state_in me.0)), [])
+
+-- Nobody knows more or less.
+abbrev pub stays : Step Slot → At → ℕ → At → Type 0
+stays st me found me' = me' ≡ me
 
 -- the writer, when `cleared` seats are cleared, and the next one was watched
 abbrev pub clearing : SeatState → ℕ → Option ℕ → SeatState
@@ -168,91 +148,47 @@ clears st me e me' = let p = state_in me.0 in
     )))
     × (has_left p.watched e ≡ false → me' ≡ (with_state me.0 (clearing p p.cleared (Some e)), me.1))
 
--- the next entry of a seat
-abbrev pub next_of : History → Collected → Entry
-next_of h x = entry_of x.seat (own_count x.seat h) x.add
-
--- a history with the Adds of some requests, of which the last was collected first
-abbrev pub grown : History → List Collected → History
-grown h [] = h
-grown h (x ∷ xs) = grown h xs ++ next_of (grown h xs) x ∷ []
-
--- HEAD once these requests are answered
-abbrev pub answered_head : ℕ → List Collected → ℕ
-answered_head head [] = head
-answered_head head (x ∷ xs) = answered_head (turned_answer head x.seat) xs
-
--- HEAD once the writer has published
-abbrev pub flipped_head : ℕ → List Collected → ℕ
-flipped_head head xs = bit_xor (answered_head head xs) 1
-
--- a history with the writer's own Add, where it makes one
-abbrev pub with_own : SeatState → Option UnappliedAdd → History
-with_own p None = p.history
-with_own p (Some add) = p.history ++ entry_of p.number p.count add ∷ []
-
--- what the writer has seen then, and its count
-abbrev pub seen_own : SeatState → Option UnappliedAdd → History
-seen_own p None = p.seen
-seen_own p (Some add) = p.history ++ entry_of p.number p.count add ∷ []
-
-abbrev pub count_own : SeatState → Option UnappliedAdd → ℕ
-count_own p None = p.count
-count_own p (Some add) = p.count + 1
-
--- the history once the writer has published
+-- the history once the writer has published its Add, if it makes one, and how many of these are its
+-- own
 abbrev pub published : SeatState → Option UnappliedAdd → History
-published p own = grown (with_own p own) p.collected
+published p None = p.seen
+published p (Some add) = p.seen ++ entry_of p.number p.count add ∷ []
+
+abbrev pub counted : SeatState → Option UnappliedAdd → ℕ
+counted p None = p.count
+counted p (Some add) = p.count + 1
 
 -- the writer then
 abbrev pub flipped : SeatState → Option UnappliedAdd → SeatState
-flipped p own = record p {
-  seen = seen_own p own;
-  count = count_own p own;
-  history = published p own;
-  head = flipped_head p.head p.collected;
+flipped p add = record p {
+  seen = published p add;
+  count = counted p add;
+  head = standby_side p.head;
   cleared = 0;
   watched = None;
-  collected = [];
 }
 
--- the writer's own Add, where its state says that it makes one
-abbrev pub own_of : WriterState → Option UnappliedAdd
-own_of state = state.lagging.own
+-- the Add that the standby copy lacks then, as what is in hand says it
+abbrev pub lagging_in : List (ℕ × Slot) → Option UnappliedAdd
+lagging_in [] = None
+lagging_in ((k, Empty) ∷ xs) = lagging_in xs
+lagging_in ((k, Writer state) ∷ xs) = state.value.lagging
+lagging_in ((k, Handle handle) ∷ xs) = lagging_in xs
 
--- as what is in hand says it
-abbrev pub own_in : List (ℕ × Slot) → Option UnappliedAdd
-own_in [] = None
-own_in ((k, Empty) ∷ xs) = own_in xs
-own_in ((k, Writer state) ∷ xs) = own_of state.value
-own_in ((k, Handle handle) ∷ xs) = own_in xs
-own_in ((k, Request add) ∷ xs) = own_in xs
-own_in ((k, Answer reply) ∷ xs) = own_in xs
+-- what is in hand behind the handles
+abbrev pub behind_handles : List (ℕ × Slot) → List (ℕ × Slot)
+behind_handles [] = []
+behind_handles ((k, Empty) ∷ xs) = (k, Empty) ∷ xs
+behind_handles ((k, Writer state) ∷ xs) = (k, Writer state) ∷ xs
+behind_handles ((k, Handle handle) ∷ xs) = behind_handles xs
 
--- what is in hand behind the handles and the replies
-abbrev pub behind_replies : List (ℕ × Slot) → List (ℕ × Slot)
-behind_replies [] = []
-behind_replies ((k, Empty) ∷ xs) = (k, Empty) ∷ xs
-behind_replies ((k, Writer state) ∷ xs) = (k, Writer state) ∷ xs
-behind_replies ((k, Handle handle) ∷ xs) = behind_replies xs
-behind_replies ((k, Request add) ∷ xs) = (k, Request add) ∷ xs
-behind_replies ((k, Answer reply) ∷ xs) = behind_replies xs
-
--- the writer once it has published: the handles and the replies are at home, and its own slot is
--- in its hand
-abbrev pub after_flip : At → At
-after_flip me = (with_state me.0 (flipped (state_in me.0) (own_in me.1)), behind_replies me.1)
-
--- Where HEAD is what the writer knows, its own Add and all that it has collected come into the
--- history, and on the active copy. Else nothing changes: a seat has left.
+-- The writer's Add comes into the history, and on the active copy. The handles are at home, and the
+-- writer's own slot is in its hand.
 abbrev pub publishes : Step Slot → At → ℕ → At → Type 0
-publishes st me found me' =
-    (found ≡ (state_in me.0).head → me' ≡ after_flip me)
-    × (found ≢ (state_in me.0).head → me' ≡ me)
-
--- A writer that has collected nothing always publishes its own Add.
-abbrev pub publishes_alone : Step Slot → At → ℕ → At → Type 0
-publishes_alone st me found me' = me' ≡ after_flip me
+publishes st me stored me' = me' ≡ (
+  with_state me.0 (flipped (state_in me.0) (lagging_in me.1)),
+  behind_handles me.1,
+)
 
 -- a seat at a stage
 abbrev pub staged : SeatState → ℕ → SeatState
@@ -283,7 +219,7 @@ reads_head st me found me' = (x : Slot)
 abbrev pub unpins : Step Slot → At → ℕ → At → Type 0
 unpins st me e me' = me' ≡ (with_state me.0 (staged (state_in me.0) 0), rest me.1)
 
--- A seat that asks for nothing has seen the longer of what it and another had seen.
+-- A seat has seen the longer of what it and another had seen.
 pub record CatchesUp (me me' : At) (other : History) : Type 0 where
   pub history : History
   pub is_longer : history ≡ longer (state_in me.0).seen other

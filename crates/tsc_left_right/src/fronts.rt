@@ -4,7 +4,7 @@ ghost use Rattle.tsc_left_right.specs.Steps.{CatchesUp, front_of, seen_of};
 ghost use Rattle.tsc_left_right.specs.Participating.{IsOf, IsAtRest, IsNumber, IsFront, SeesNewest};
 
 use crate::places::side_slot;
-use crate::reading::{length_by, pin, unpin};
+use crate::reader::{length_by, pin, unpin};
 use crate::steps::{CatchUp, JoinFront, SplitFront};
 use crate::table::{Participant, SharedReplicas};
 

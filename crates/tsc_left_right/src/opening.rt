@@ -10,16 +10,14 @@ ghost use Rattle.tsc_left_right.specs.Participating.{IsOf, IsSized, KeepsStates,
 
 use crate::places::{slot_count, word_count};
 use crate::steps::SplitOff;
-use crate::table::{
-    Lagging, Participant, ReadHandle, Replicas, Setup, SharedReplicas, Slot, WriterState,
-};
+use crate::table::{Participant, ReadHandle, Replicas, Setup, SharedReplicas, Slot, WriterState};
 use atomic_table::Table;
 use std::alloc::Global;
 use std::sync::Arc;
 use tsc_cache::{Cache, TimestampCache};
 use tsc_time::NoMemory;
 
-/// The words: that of the writer lock, HEAD, and two of each seat.
+/// The words: that of the writer lock, HEAD, and the epoch of each seat.
 fn blank_words(alloc: Global, seats: u32) -> Result<Vec<u64>, NoMemory>
     ensures { IfOk result (λ words. words.items ≡ replicate (word_count seats) 0) }
 {
@@ -67,11 +65,10 @@ fn new_state(alloc: Global, setup: &Setup) -> Result<Box<WriterState>, NoMemory>
 {
     let active = empty_cache(alloc, setup)?;
     let standby = empty_cache(alloc, setup)?;
-    let others = Vec::with_capacity(alloc, setup.seats as usize)?;
     let state = WriterState {
         active,
         standby: Some(standby),
-        lagging: Lagging { own: None, others },
+        lagging: None,
         length: 0,
         head: 0,
     };

@@ -20,6 +20,15 @@ impl Play<Slot, Knowledge> for Release {
     ghost then = { releases };
 }
 
+/// Looks which seat goes first, or says so: nobody knows more or less then.
+pub(crate) struct Line;
+
+impl Play<Slot, Knowledge> for Line {
+    ghost use Rattle.tsc_left_right.specs.Steps.{stays};
+
+    ghost then = { stays };
+}
+
 /// The writer finds out whether the next seat has left the standby side, and then takes its slot.
 pub(crate) struct Clear;
 
@@ -29,24 +38,13 @@ impl Play<Slot, Knowledge> for Clear {
     ghost then = { clears };
 }
 
-/// The writer makes its own Add and those that it has collected, the copies are swapped, and each
-/// seat whose Add was made has its reply: unless some seat has left that the writer does not know
-/// of.
+/// The writer's Add comes into the history, and the copies are swapped.
 pub(crate) struct Publish;
 
 impl Play<Slot, Knowledge> for Publish {
     ghost use Rattle.tsc_left_right.specs.Steps.{publishes};
 
     ghost then = { publishes };
-}
-
-/// The writer makes its own Add, and the copies are swapped.
-pub(crate) struct PublishAlone;
-
-impl Play<Slot, Knowledge> for PublishAlone {
-    ghost use Rattle.tsc_left_right.specs.Steps.{publishes_alone};
-
-    ghost then = { publishes_alone };
 }
 
 /// A seat is pinned.
@@ -83,96 +81,6 @@ impl Play<Slot, Knowledge> for CatchUp {
     ghost use Rattle.tsc_left_right.specs.Steps.{catches_up};
 
     ghost then = { catches_up };
-}
-
-/// A seat takes its request slot, unless it has left a request that is still to be cleared.
-pub(crate) struct Fetch;
-
-impl Play<Slot, Knowledge> for Fetch {
-    ghost use Rattle.tsc_left_right.specs.RequestSteps.{fetches};
-
-    ghost then = { fetches };
-}
-
-/// A seat lays its request slot back, and asks for nothing.
-pub(crate) struct Rest;
-
-impl Play<Slot, Knowledge> for Rest {
-    ghost use Rattle.tsc_left_right.specs.RequestSteps.{rests};
-
-    ghost then = { rests };
-}
-
-/// A seat lays its request slot back, and asks for the Add in it.
-pub(crate) struct Post;
-
-impl Play<Slot, Knowledge> for Post {
-    ghost use Rattle.tsc_left_right.specs.RequestSteps.{posts};
-
-    ghost then = { posts };
-}
-
-/// The writer takes back its own request.
-pub(crate) struct Withdraw;
-
-impl Play<Slot, Knowledge> for Withdraw {
-    ghost use Rattle.tsc_left_right.specs.RequestSteps.{withdraws};
-
-    ghost then = { withdraws };
-}
-
-/// A seat finds out whether its request was answered, and then takes its slot.
-pub(crate) struct Hear;
-
-impl Play<Slot, Knowledge> for Hear {
-    ghost use Rattle.tsc_left_right.specs.RequestSteps.{hears};
-
-    ghost then = { hears };
-}
-
-/// The writer finds out whether a seat asks for something, and then takes its slot.
-pub(crate) struct Collect;
-
-impl Play<Slot, Knowledge> for Collect {
-    ghost use Rattle.tsc_left_right.specs.RequestSteps.{collects};
-
-    ghost then = { collects };
-}
-
-/// The writer lets a seat ask again that had left.
-pub(crate) struct Readmit;
-
-impl Play<Slot, Knowledge> for Readmit {
-    ghost use Rattle.tsc_left_right.specs.RequestSteps.{readmits};
-
-    ghost then = { readmits };
-}
-
-/// The writer lays back the slot of a request, and its seat hears that.
-pub(crate) struct PutBack;
-
-impl Play<Slot, Knowledge> for PutBack {
-    ghost use Rattle.tsc_left_right.specs.RequestSteps.{puts_back};
-
-    ghost then = { puts_back };
-}
-
-/// A seat withdraws its request, unless it was answered.
-pub(crate) struct Leave;
-
-impl Play<Slot, Knowledge> for Leave {
-    ghost use Rattle.tsc_left_right.specs.RequestSteps.{leaves};
-
-    ghost then = { leaves };
-}
-
-/// A seat that has left says that its request slot may be in a writer's hand.
-pub(crate) struct Flag;
-
-impl Play<Slot, Knowledge> for Flag {
-    ghost use Rattle.tsc_left_right.specs.RequestSteps.{flags};
-
-    ghost then = { flags };
 }
 
 /// The first state goes to a participant of its own.

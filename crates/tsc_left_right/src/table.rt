@@ -24,28 +24,11 @@ pub enum MarkList {
     Many(Vec<Mark>),
 }
 
-/// An Add that the standby copy has not had yet, or that a seat asks the writer for.
+/// An Add that the standby copy has not had yet.
 #[derive(Drop)]
 pub struct UnappliedAdd {
     pub marks: MarkList,
     pub moment: Timestamp,
-}
-
-/// An Add that the writer has made for another seat, and whether it was kept on its page.
-#[derive(Drop)]
-pub struct MadeAdd {
-    pub seat: u32,
-    pub kept: bool,
-    pub add: Box<UnappliedAdd>,
-}
-
-/// The Adds of the last batch, which the standby copy has not had yet.
-#[derive(Drop)]
-pub struct Lagging {
-    /// The writer's own, which comes first.
-    pub own: Option<UnappliedAdd>,
-    /// The Adds that the writer made for other seats. There is room for one of each seat.
-    pub others: Vec<MadeAdd>,
 }
 
 /// What the writer works with.
@@ -53,22 +36,14 @@ pub struct Lagging {
 pub struct WriterState {
     /// The copy that lookups read, which is after all Adds.
     pub active: Arc<Cache>,
-    /// The standby copy, if it is there, which is after all Adds but those of `lagging`.
+    /// The standby copy, if it is there, which is after all Adds but the one of `lagging`.
     pub standby: Option<Arc<Cache>>,
-    pub lagging: Lagging,
+    /// The last Add, if the standby copy has not had it yet.
+    pub lagging: Option<UnappliedAdd>,
     /// How many Adds there were.
     pub length: u64,
-    /// What writers know of HEAD, which may lack the bits by which seats have left.
+    /// What HEAD says: the side of the active copy.
     pub head: u64,
-}
-
-/// What the writer answers a seat whose Add it has made.
-#[derive(Clone, Copy)]
-pub struct Reply {
-    /// How many Adds stand before it.
-    pub place: u64,
-    /// Whether the Add was kept on its page.
-    pub kept: bool,
 }
 
 /// A handle on a copy, which has had the first `length` Adds.
@@ -78,20 +53,12 @@ pub struct ReadHandle {
     pub length: u64,
 }
 
-/// What a slot has: the writer's state, a handle on a copy, a request, a reply, or nothing.
+/// What a slot has: the writer's state, a handle on a copy, or nothing.
 #[derive(Drop)]
 pub enum Slot {
     Empty,
     Writer(Box<WriterState>),
     Handle(ReadHandle),
-    Request(Box<UnappliedAdd>),
-    Answer(Reply),
-}
-
-/// A request that the writer has collected. No value of it is made.
-pub struct Collected {
-    pub seat: u32,
-    pub add: UnappliedAdd,
 }
 
 /// What is known of a seat. No value of it is made.
@@ -104,21 +71,12 @@ pub struct SeatState {
     pub holds: bool,
     /// 0 unpinned, 1 pinned, and 2 more than a side while it has its slot of that side in hand.
     pub stage: u64,
-    /// The toggle of the seat, what the seat asks for, and whether its request slot is in its hand.
-    /// `leaving` says whether it has withdrawn what it asked for and is to flag its request word.
-    pub toggle: u64,
-    pub request: Option<UnappliedAdd>,
-    pub fetched: bool,
-    pub leaving: bool,
     /// Of the writer: how many seats it has cleared, and the epoch at which it watched the next
     /// one.
     pub cleared: u64,
     pub watched: Option<u64>,
-    /// Of the writer: the whole history, what it knows of HEAD, and which requests it has
-    /// collected.
-    pub history: LinkedList<Entry>,
+    /// Of the writer: the side of the active copy.
     pub head: u64,
-    pub collected: LinkedList<Collected>,
 }
 
 /// What a participant knows: the states of the seats that it keeps, and the history that its front
@@ -145,15 +103,11 @@ impl TableRule<Slot, Knowledge, Setup> for LeftRight {
 /// Both copies, with the words and slots by which seats reach them.
 ///
 /// Word 0 is 0 where the writer lock is free, and else one more than the number of the seat that
-/// holds it. Word 16 is HEAD. Then come, for each eight seats, their request words, side by side,
-/// and their epochs, each with a line of its own. Slot 0 is the writer's. Slot 16 * s + 8 * k + 8
-/// is that of seat s on side k, and slot 16 * s + 9 is that of its request. Sixteen words are 128
-/// bytes, and eight slots of sixteen bytes or more are at least that (`places.rt`).
-///
-/// The lowest bit of HEAD is the side of the active copy, and bit s + 1 is the toggle of seat s
-/// once its request is answered. A seat withdraws its request by that bit. A request word is the
-/// toggle of its seat, and 2 more is the flag of a seat that has left: its request slot may be in a
-/// writer's hand.
+/// holds it. Word 1 is in the same way that of a seat that has waited long for it, and serves
+/// courtesy alone: it may be any number. Word 16 is HEAD, the side of the active copy. Then comes
+/// the epoch of each seat. Slot 0 is the writer's, and slot 16 * s + 8 * k + 8 is that of seat s on
+/// side k. The lock, HEAD, each epoch and each slot has a line of 128 bytes of its own: sixteen
+/// words, or eight slots of sixteen bytes or more (`places.rt`).
 pub type Replicas = Table<Slot, Knowledge, Setup, LeftRight, Global>;
 
 /// The replicas as threads share them.

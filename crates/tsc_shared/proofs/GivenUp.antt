@@ -18,7 +18,7 @@ Tried = Result Receipt TryAddFault
 abbrev Waited : Type 0
 Waited = Result Receipt AddFault
 
-waited_ok : (P : Receipt → Type 0) (tried : Tried) (result : Waited) → IsWaited tried result →
+pub waited_ok : (P : Receipt → Type 0) (tried : Tried) (result : Waited) → IsWaited tried result →
     IfOk tried P → IfOk result P
 waited_ok P (Ok receipt) result is p = subst (λ (x : Waited). IfOk x P) (sym is) p
 waited_ok P (Err DeskBusy) result is p = absurd is

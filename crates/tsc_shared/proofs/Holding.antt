@@ -1,22 +1,24 @@
 -- What a seat is told of its Add, by what became of it.
 use Rattle.std.proofs.Common.{refl, ◌≡◌, ◌∙◌, sym, ap, subst, true, false, true≢false, ℕ, length, arith}
-use Rattle.std.specs.Prelude.{Bool, Option, Ok, Err, Result}
+use Rattle.std.specs.Prelude.{Bool, Option, Err, Result, List}
 use Rattle.atomic_table.specs.Seated.{TableId}
-use Rattle.tsc_time.specs.declared.memory.NoMemory.{NoMemory}
+use Rattle.tsc_time.specs.Time.{Time}
+use Rattle.tsc_page_nodes.specs.Page.{Mark}
 use Rattle.tsc_left_right.specs.declared.table.Knowledge.{Knowledge}
 use Rattle.tsc_left_right.specs.declared.table.UnappliedAdd.{UnappliedAdd}
 use Rattle.tsc_left_right.specs.Rule.{marks_in}
+use Rattle.tsc_left_right.specs.Copying.{IsCopyOf}
 use Rattle.tsc_left_right.specs.Steps.{At, seen_of}
 use Rattle.tsc_left_right.specs.Participating.{Participant, IsSized, IsOf}
-use Rattle.tsc_combining.specs.Writing.{IsAdded, IsNotAdded}
-use Rattle.tsc_combining.specs.declared.preparing.NotAdded.{NotAdded}
-use Rattle.tsc_combining.specs.declared.preparing.NotAdded.TheVariants.{HistoryFull, SeatInside}
-use Rattle.tsc_combining.specs.declared.preparing.NotAdded.TheVariants as not_added
+use Rattle.tsc_left_right.specs.Round.{IsAdded, IsNotAdded}
+use Rattle.tsc_left_right.specs.declared.preparing.NotAdded.{NotAdded}
+use Rattle.tsc_left_right.specs.declared.preparing.NotAdded.TheVariants.{HistoryFull, SeatInside}
+use Rattle.tsc_left_right.specs.declared.preparing.NotAdded.TheVariants as not_added
 use Rattle.tsc_shared.specs.declared.answers.AddFault.TheVariants.{TooLarge}
 use Rattle.tsc_shared.specs.declared.answers.Receipt.{Receipt}
 use Rattle.tsc_shared.specs.declared.answers.TryAddFault.{TryAddFault}
 use Rattle.tsc_shared.specs.declared.answers.TryAddFault.TheVariants.{Refused}
-use Rattle.tsc_shared.specs.Adding.{AcceptsCopy, GivesUp, fault_for}
+use Rattle.tsc_shared.specs.Adding.{GivesUp, fault_for}
 use Rattle.tsc_shared.specs.Answers.{Accepts, TryRefusedFor}
 use Rattle.tsc_shared.specs.Seats.{SharedView, SeatView, FrontView, IsSeat}
 use Rattle.tsc_shared.specs.Keeping.{cache_of, seat_view}
@@ -30,19 +32,19 @@ of_table p table is sized = record {
   sized = subst (λ (x : TableId). IsSized x p.me.0.setup.seats) is sized;
 }
 
--- what was copied was accepted
-pub accepts_made : (old new : Participant) (copied : Result UnappliedAdd NoMemory)
-    (add : UnappliedAdd) (receipt : Receipt) (s s' : SeatView) → seat_view old ≡ s →
-    s' ≡ seat_view new → IsSeat (seat_view old)
-    → new.table_id ≡ old.table_id → copied ≡ Ok add →
-    IsAdded old.me.0 new.me add receipt.place receipt.added
-    → receipt.front ≡ record { cache = cache_of new; seen = seen_of new.me.0 } →
-    AcceptsCopy copied s s' receipt
-accepts_made old new copied add receipt s s' is is' seat table copy a front =
-    subst (λ (x : Result UnappliedAdd NoMemory). AcceptsCopy x s s' receipt) (sym copy)
+-- Where a copy of the marks was added, they were accepted.
+pub accepts_made : (old new : Participant) (ms : List Mark) (now : Time) (add : UnappliedAdd)
+    (receipt : Receipt) (s s' : SeatView) → seat_view old ≡ s → s' ≡ seat_view new
+    → IsSeat (seat_view old) → new.table_id ≡ old.table_id → IsCopyOf ms now add
+    → IsAdded old.me.0 new.me add receipt.place receipt.added
+    → receipt.front ≡ record { cache = cache_of new; seen = seen_of new.me.0 }
+    → Accepts s s' ms now receipt
+accepts_made old new ms now add receipt s s' is is' seat table copy a front =
+    subst (λ (x : List Mark). Accepts s s' x now receipt) copy.0
+    (subst (λ (x : Time). Accepts s s' (marks_in add.marks) x receipt) copy.1
     (subst (λ (x : SeatView). Accepts x s' (marks_in add.marks) add.moment receipt) is
     (subst (λ (x : SeatView). Accepts (seat_view old) x (marks_in add.marks) add.moment receipt)
-    (sym is') (accepted old new add receipt seat table a front)))
+    (sym is') (accepted old new add receipt seat table a front))))
 
 -- Why none was made is why it is refused.
 refused_for : (old new : Participant) (tries : Option ℕ) (seen : ℕ) (why : NotAdded) →

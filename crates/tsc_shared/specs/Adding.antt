@@ -1,14 +1,15 @@
--- What becomes of a copy of some marks, and when an Add is given up. (For private contracts.)
+-- What an Add that fits answers, and when it is given up. (For private contracts.)
 use Rattle.std.specs.Prelude.{◌≡◌, ℕ, List, Bool, Option, Some, Result, Ok, Err, is_ok}
-use Rattle.std.specs.Prelude.{IfOk, IfErr, OnErr, IsErrOf}
+use Rattle.std.specs.Prelude.{IfOk, OnOk, IfErr, OnErr, IsErrOf}
 use Rattle.tsc_time.specs.Time.{Time}
-use Rattle.tsc_time.specs.declared.memory.NoMemory.{NoMemory}
 use Rattle.tsc_page_nodes.specs.Page.{Mark}
-use Rattle.tsc_left_right.specs.declared.table.UnappliedAdd.{UnappliedAdd}
-use Rattle.tsc_left_right.specs.Rule.{marks_in}
-use Rattle.tsc_combining.specs.Waiting.{HasEnd}
-use Rattle.tsc_combining.specs.declared.preparing.NotAdded.{NotAdded}
-use Rattle.tsc_combining.specs.declared.preparing.NotAdded.TheVariants as not_added
+use Rattle.tsc_cache.specs.Settings.{Settings, fits}
+use Rattle.tsc_cache.specs.Batch.{all_fit}
+use Rattle.tsc_left_right.specs.declared.copies.MarksRef.{MarksRef}
+use Rattle.tsc_left_right.specs.declared.copies.MarksRef.TheVariants.{One, Many}
+use Rattle.tsc_left_right.specs.Waiting.{HasEnd}
+use Rattle.tsc_left_right.specs.declared.preparing.NotAdded.{NotAdded}
+use Rattle.tsc_left_right.specs.declared.preparing.NotAdded.TheVariants as not_added
 use Rattle.tsc_shared.specs.declared.answers.Receipt.{Receipt}
 use Rattle.tsc_shared.specs.declared.answers.AddFault.{AddFault}
 use Rattle.tsc_shared.specs.declared.answers.AddFault.TheVariants as fault
@@ -17,14 +18,10 @@ use Rattle.tsc_shared.specs.declared.answers.TryAddFault.TheVariants.{DeskBusy, 
 use Rattle.tsc_shared.specs.Seats.{SeatView, FrontView}
 use Rattle.tsc_shared.specs.Answers.{Accepts, GoesOn, Refuses, TryRefusedFor}
 
--- A copy of some marks, with the moment at which they are added.
-abbrev pub IsCopyOf : List Mark → Time → UnappliedAdd → Type 0
-IsCopyOf ms now add = (marks_in add.marks ≡ ms) × (add.moment ≡ now)
-
--- What was copied was accepted, and it was copied.
-abbrev pub AcceptsCopy : Result UnappliedAdd NoMemory → SeatView → SeatView → Receipt → Type 0
-AcceptsCopy (Ok add) old new receipt = Accepts old new (marks_in add.marks) add.moment receipt
-AcceptsCopy (Err refused) old new receipt = ⊥
+-- whether the span of each mark that a caller asks to add fits the largest page
+abbrev pub fits_asked : Settings → MarksRef → Bool
+fits_asked settings (One span value) = fits settings span.now
+fits_asked settings (Many marks) = all_fit settings marks.now
 
 -- An Add is given up only where the tries have an end.
 abbrev pub GivesUp : Option ℕ → TryAddFault → Type 0
@@ -32,13 +29,14 @@ GivesUp tries DeskBusy = HasEnd tries
 GivesUp tries SeatInside = HasEnd tries
 GivesUp tries (Refused fault) = Unit {0}
 
--- What the Add of a copy answers after some tries, and whether it reaches the gate. It is accepted,
--- or refused for one of the reasons, but not as too large. Without a try it reports that the lock
--- is busy.
-pub record AnswersCopy (copied : Result UnappliedAdd NoMemory) (tries : Option ℕ)
-    (old new : SeatView) (told : Bool) (result : Result Receipt TryAddFault) : Type 0 where
+-- What an Add that fits answers after some tries, and whether it reaches the gate, which has heard
+-- it then. It is accepted, or refused for one of the reasons, but not as too large. Without a try
+-- it reports that the lock is busy.
+pub record AnswersFitting (ms : List Mark) (now : Time) (tries : Option ℕ) (old new : SeatView)
+    (told : Bool) (HasHeard : Type 0) (result : Result Receipt TryAddFault) : Type 0 where
   pub told_is : told ≡ is_ok result
-  pub accepted : IfOk result (λ receipt. AcceptsCopy copied old new receipt)
+  pub gate : OnOk result HasHeard
+  pub accepted : IfOk result (λ receipt. Accepts old new ms now receipt)
   pub seat : GoesOn old new
   pub refused : OnErr result (Refuses old new)
   pub why : IfErr result (λ fault. TryRefusedFor old new fault)

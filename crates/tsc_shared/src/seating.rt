@@ -33,7 +33,6 @@ pub(crate) fn seat_all(
             number,
             count: 0,
             seen: 0,
-            is_eager: false,
         })?;
     }
     Ok(seats)

@@ -36,6 +36,10 @@ pub a_span_without_end_lies_in_the_last_stripe :
     piece_of below_m_and_on 1 (onward (codes "z") false) ≡ between (before (codes "z")) last
 a_span_without_end_lies_in_the_last_stripe = refl
 
+pub nothing_lies_in_a_stripe_that_there_is_not :
+    piece_of below_m_and_on 2 (point (codes "z")) ≡ nothing
+nothing_lies_in_a_stripe_that_there_is_not = refl
+
 pub without_bounds_all_lies_in_one_stripe : piece_of [] 0 (onward [] false) ≡ onward [] false
 without_bounds_all_lies_in_one_stripe = refl
 

@@ -12,7 +12,7 @@ use Rattle.tsc_span.specs.Span.{KeyBytes}
 use Rattle.tsc_cache.specs.State.{CacheState}
 use Rattle.tsc_cache.specs.CacheView.{RepresentsState}
 use Rattle.tsc_cache.specs.declared.history.Entry.{Entry}
-use Rattle.tsc_cache.specs.History.{History, own_count, state_of, IsLegal, CanBeAdded}
+use Rattle.tsc_cache.specs.History.{History, own_count, state_of, IsLegal, IsMadeEntry}
 use Rattle.tsc_cache.proofs.Beginnings.{begins_itself, begins_on}
 use Rattle.tsc_stripe_table.specs.declared.table.SeatState.{SeatState}
 use Rattle.tsc_stripe_table.specs.declared.table.Knowledge.{Knowledge}
@@ -22,8 +22,9 @@ use Rattle.tsc_stripe_table.specs.Rule.{states_of, StateFits, KnowledgeFits, Str
 use Rattle.tsc_stripe_table.specs.Steps.{At, state_in, with_state, holds_of, reached_of, earlier}
 use Rattle.tsc_stripe_table.specs.Steps.{reached_with, released, released_seen, committed}
 use Rattle.tsc_stripe_table.specs.Steps.{releases, releases_seen, commits, Commits, AgreeOn}
-use Rattle.tsc_stripe_table.specs.Steps.{IsCovered, mark_of, entry_of, made_in}
+use Rattle.tsc_stripe_table.specs.Steps.{IsCovered, entry_of, entry_of_batch, commits_batch}
 use Rattle.tsc_stripe_table.specs.Participating.{HasStripe, CanRelease, CanCommit}
+use Rattle.tsc_stripe_table.specs.Participating.{CanCommitBatch}
 use Rattle.tsc_stripe_table.proofs.Prefixes.{begins_more, legal_push, own_append, own_of_one}
 use Rattle.tsc_stripe_table.proofs.Prefixes.{own_of_other}
 use Rattle.tsc_stripe_table.proofs.Totals.{part}
@@ -311,17 +312,14 @@ module _ (setup : Terms) (id : ℕ) (t : Terms) (p : SeatState) (stripe : ℕ) (
           refl,
         )
 
-    abbrev e : Entry
-    e = entry_of (holding p stripe others) x.value.pending
-
-    -- the seat's Add comes into the history
-    pub commit_allowed : stripe < stripe_count t.bounds
-        → CanBeAdded t.config (mark_of x.value.pending) x.value.pending.moment.value
+    -- an entry of the seat comes into the history
+    pub commit_allowed : (e : Entry) → e.seat ≡ p.number → e.number ≡ p.count
+        → stripe < stripe_count t.bounds → IsMadeEntry t.config e
         → IsCovered t.bounds (stripe ∷ others) e
         → IsStateOn t stripe (p.reached ++ e ∷ []) x.value.cache
         → Allows (StripesRule setup) slots id me (lock_word stripe) (λ _. 0)
-        (λ _. commits st me 0)
-    commit_allowed low made covered_there stands s k deep at small =
+        (λ _ me'. Commits me.0 me'.0 (e ∷ []) × (me'.1 ≡ rest me.1))
+    commit_allowed e seat_is number_is low made covered_there stands s k deep at small =
         let fits = k.views id v at in
         let mine = only_fits setup k.history t (holding p stripe others) fits in
         let same : t ≡ setup = fits.settled refl in
@@ -334,15 +332,16 @@ module _ (setup : Terms) (id : ℕ) (t : Terms) (p : SeatState) (stripe : ℕ) (
         let own : own_count p.number g ≡ suc p.count = omega (
           arith,
           own_append p.number h (e ∷ []),
-          own_of_one p.number e refl,
+          own_of_one p.number e seat_is,
           mine.own,
         ) in
         let legal : IsLegal setup.config setup.seats g =
         legal_push setup.config setup.seats h e k.legal (record {
-          seat = low_number setup s k v id at 0 (holding p stripe others) refl;
-          number = sym mine.own;
-          made = subst (λ (y : Terms). CanBeAdded y.config (mark_of x.value.pending)
-              x.value.pending.moment.value) same made p.number p.count;
+          seat = subst (λ (n : ℕ). n < setup.seats) (sym seat_is)
+              (low_number setup s k v id at 0 (holding p stripe others) refl);
+          number = number_is ∙ sym mine.own
+              ∙ ap (λ (n : ℕ). own_count n h) (sym seat_is);
+          made = subst (λ (y : Terms). IsMadeEntry y.config e) same made;
         }) in
         let its_own : states_of p.number v ≡ 1 =
         omega (arith, ap one_if (same_number p.number p.number refl)) in
@@ -360,7 +359,8 @@ module _ (setup : Terms) (id : ℕ) (t : Terms) (p : SeatState) (stripe : ℕ) (
             fits = of_one t q same
                 (committed_fits setup.bounds h g p stripe others mine own);
             others_fit = λ other u apart is. more_of_another setup h e u
-                (no_other setup s k id other p.number v u apart at is its_own)
+                (subst (λ (n : ℕ). states_of n u ≡ 0) (sym seat_is)
+                (no_other setup s k id other p.number v u apart at is its_own))
                 (λ j some. elim (covered j) [
                   | inl none ↦ none
                   | inr mine_ ↦ absurd (omega (
@@ -440,6 +440,20 @@ commit_at key slots st id me stripe word is x can =
     (subst (λ (m : At). Allows (StripesRule key) slots id m (lock_word stripe) (λ _. 0)
     (λ _. commits st m 0)) (sym (whole me stripe x can.has))
     (commit_allowed key id me.0.setup (state_in me.0) stripe (earlier (holds_of me.0)) x slots st
-    (rest me.1) can.has.is_stripe can.made
+    (rest me.1) e refl refl can.has.is_stripe (can.made e.seat e.number)
+    (subst (λ (hs : List ℕ). IsCovered me.0.setup.bounds hs e) can.has.holds can.covered)
+    can.stands))
+
+pub commit_batch_at : (key : Terms) (slots : ℕ) (st : Step LaidStripe) (id : ℕ) (me : At)
+    (stripe word : ℕ) → word ≡ lock_word stripe → (x : LaidStripe) → CanCommitBatch me stripe x
+    → Allows (StripesRule key) slots id me word (λ _. 0) (λ _. commits_batch st me 0)
+commit_batch_at key slots st id me stripe word is x can =
+    let e : Entry = entry_of_batch (state_in me.0) x.value.batch in
+    subst (λ (i : ℕ). Allows (StripesRule key) slots id me i (λ _. 0)
+    (λ _. commits_batch st me 0)) (sym is)
+    (subst (λ (m : At). Allows (StripesRule key) slots id m (lock_word stripe) (λ _. 0)
+    (λ _. commits_batch st m 0)) (sym (whole me stripe x can.has))
+    (commit_allowed key id me.0.setup (state_in me.0) stripe (earlier (holds_of me.0)) x slots st
+    (rest me.1) e refl refl can.has.is_stripe (can.made e.seat e.number)
     (subst (λ (hs : List ℕ). IsCovered me.0.setup.bounds hs e) can.has.holds can.covered)
     can.stands))

@@ -4,13 +4,14 @@ use Rattle.atomic_table.specs.Seated.{TableId}
 use Rattle.atomic_table.specs.Table.{rest}
 use Rattle.atomic_table.specs.declared.shared.Seat.{Seat as TableSeat}
 use Rattle.tsc_span.specs.Span.{KeyBytes}
-use Rattle.tsc_cache.specs.History.{CanBeAdded}
+use Rattle.tsc_cache.specs.History.{CanBeAdded, CanAllBeAdded}
 use Rattle.tsc_stripe_table.specs.declared.table.Knowledge.{Knowledge}
 use Rattle.tsc_stripe_table.specs.Stripes.{stripe_count, IsStateOn}
 use Rattle.tsc_stripe_table.specs.Rule.{LaidStripe, word_count, keeping, Descends}
 use Rattle.tsc_stripe_table.specs.Steps.{At, state_in, with_state, number_of, seen_of, count_of}
 use Rattle.tsc_stripe_table.specs.Steps.{holds_of, reached_of, seated, front_of, earlier}
-use Rattle.tsc_stripe_table.specs.Steps.{first_state, mark_of, entry_of, IsCovered}
+use Rattle.tsc_stripe_table.specs.Steps.{first_state, mark_of, entry_of, entry_of_batch}
+use Rattle.tsc_stripe_table.specs.Steps.{IsCovered}
 
 abbrev pub Participant : Type 0
 Participant = TableSeat LaidStripe Knowledge
@@ -76,3 +77,13 @@ pub record CanCommit (me : At) (stripe : ℕ) (x : LaidStripe) : Type 0 where
       (entry_of (state_in me.0) x.value.pending)
   pub stands : IsStateOn me.0.setup stripe
       (reached_of me.0 ++ entry_of (state_in me.0) x.value.pending ∷ []) x.value.cache
+
+-- The same, for a batch that was made there.
+pub record CanCommitBatch (me : At) (stripe : ℕ) (x : LaidStripe) : Type 0 where
+  pub has : HasStripe me stripe x
+  pub made : CanAllBeAdded me.0.setup.config x.value.batch.marks.value.items
+      x.value.batch.moment.value
+  pub covered : IsCovered me.0.setup.bounds (holds_of me.0)
+      (entry_of_batch (state_in me.0) x.value.batch)
+  pub stands : IsStateOn me.0.setup stripe
+      (reached_of me.0 ++ entry_of_batch (state_in me.0) x.value.batch ∷ []) x.value.cache

@@ -9,6 +9,7 @@ use Rattle.tsc_cache.specs.CacheView.{CacheView}
 use Rattle.tsc_cache.specs.declared.history.Entry.{Entry}
 use Rattle.tsc_cache.specs.History.{History, own_count, entry_of_mark, BeginsWith, IsLegal}
 use Rattle.tsc_stripe_table.specs.declared.stripe.PendingAdd.{PendingAdd}
+use Rattle.tsc_stripe_table.specs.declared.stripe.PendingBatch.{PendingBatch}
 use Rattle.tsc_stripe_table.specs.declared.table.SeatState.{SeatState}
 use Rattle.tsc_stripe_table.specs.declared.table.Knowledge.{Knowledge}
 use Rattle.tsc_stripe_table.specs.Stripes.{Terms, part_of, entry_in, IsStateOn}
@@ -165,6 +166,20 @@ abbrev pub made_in : SeatState → List (ℕ × LaidStripe) → History
 made_in p [] = []
 made_in p ((k, x) ∷ others) = entry_of p x.value.pending ∷ []
 
+-- the next entry of a seat for a batch
+abbrev pub entry_of_batch : SeatState → PendingBatch → Entry
+entry_of_batch p batch = record {
+  seat = p.number;
+  number = p.count;
+  marks = batch.marks.value.items;
+  now = batch.moment.value;
+}
+
+-- the entry of the batch that was made last on what is in hand
+abbrev pub batch_in : SeatState → List (ℕ × LaidStripe) → History
+batch_in p [] = []
+batch_in p ((k, x) ∷ others) = entry_of_batch p x.value.batch ∷ []
+
 -- An Add of a seat has become the last entry of the history, which begins with all that the seat
 -- had seen. The stripes that it held had no Add since it reached its history.
 pub record Commits (v w : Knowledge) (made : History) : Type 0 where
@@ -178,6 +193,11 @@ pub record Commits (v w : Knowledge) (made : History) : Type 0 where
 -- The Add on what is in hand is committed, and the lock that was acquired last is released.
 abbrev pub commits : Step LaidStripe → At → ℕ → At → Type 0
 commits st me stored me' = Commits me.0 me'.0 (made_in (state_in me.0) me.1)
+    × (me'.1 ≡ rest me.1)
+
+-- The batch on what is in hand is committed, and the lock that was acquired last is released.
+abbrev pub commits_batch : Step LaidStripe → At → ℕ → At → Type 0
+commits_batch st me stored me' = Commits me.0 me'.0 (batch_in (state_in me.0) me.1)
     × (me'.1 ≡ rest me.1)
 
 -- An entry lies on stripes that are held, and on no others.

@@ -1,6 +1,6 @@
 -- Which keys a stripe has, and what of a history lies there.
 use Rattle.std.specs.Prelude.{ℕ, zero, suc, ◌≡◌, List, [], ◌∷◌, length, Option, Some, None}
-use Rattle.std.specs.Prelude.{if◌then◌else◌, slice_get, slice_index_or}
+use Rattle.std.specs.Prelude.{if◌then◌else◌, slice_get}
 use Rattle.std.specs.List.{flat_map}
 use Rattle.tsc_span.specs.Span.{KeyBytes, Cut, before, last, is_below, greater_cut, smaller_cut}
 use Rattle.tsc_span.specs.Span.{Interval, nothing, between}
@@ -21,18 +21,19 @@ pub record Terms : Type 0 where
 abbrev pub stripe_count : List KeyBytes → ℕ
 stripe_count bounds = suc (length bounds)
 
--- where a stripe starts: the first one before all keys
+-- the place before a bound; where there is none, the place above all keys
+abbrev pub at_bound : Option KeyBytes → Cut
+at_bound None = last
+at_bound (Some k) = before k
+
+-- where a stripe starts: the first one before all keys, and one that there is not above them
 abbrev pub stripe_start : List KeyBytes → ℕ → Cut
 stripe_start bounds zero = before []
-stripe_start bounds (suc i) = before (slice_index_or bounds i [])
+stripe_start bounds (suc i) = at_bound (slice_get bounds i)
 
 -- where a stripe stops: the last one above all keys
 abbrev pub stripe_end : List KeyBytes → ℕ → Cut
-stripe_end bounds i = end_before (slice_get bounds i)
-  where
-    end_before : Option KeyBytes → Cut
-    end_before None = last
-    end_before (Some k) = before k
+stripe_end bounds i = at_bound (slice_get bounds i)
 
 -- what lies of a span between two cuts
 abbrev pub piece_between : Cut → Cut → Interval → Interval

@@ -22,10 +22,13 @@
 //! - [`try_acquire`] acquires the lock of a stripe where it is free, and [`is_free`] looks whether
 //!   it is. A seat that holds several locks acquires them in ascending order.
 //! - [`Participant::slot_mut`](atomic_table::Seat::slot_mut) lends what is in hand. By
-//!   [`Stripe::add`] the seat adds there.
-//! - Each of three calls releases the lock that was acquired last. After [`commit`] the Add is the
-//!   last entry of the history, and the seat has seen it all. After [`release_seen`] the seat has
-//!   seen the history that it reached, and [`release`] leaves it as it was.
+//!   [`Stripe::add`] the seat adds there in place, and by [`Stripe::replace`] the next version of
+//!   the cache takes its place.
+//! - Each of four calls releases the lock that was acquired last. After [`commit`] the Add is the
+//!   last entry of the history, and the seat has seen it all. After [`commit_batch`] a batch of
+//!   marks is one entry, also one that lies on several stripes, all of which are held then. After
+//!   [`release_seen`] the seat has seen the history that it reached, and [`release`] leaves it as
+//!   it was.
 //! - [`new_front`] says what a seat has seen, and by [`see_front`] and [`catch_up`] another one
 //!   sees that too.
 #![tactic(auto)]
@@ -41,7 +44,7 @@ mod table;
 
 pub use closing::{close, merge};
 pub use fronts::{catch_up, new_front, see_front};
-pub use locking::{commit, is_free, release, release_seen, try_acquire};
+pub use locking::{commit, commit_batch, is_free, release, release_seen, try_acquire};
 pub use opening::{deal, new_table};
-pub use stripe::{PendingAdd, Stripe};
+pub use stripe::{PendingAdd, PendingBatch, Stripe};
 pub use table::{Knowledge, OneHistory, Participant, SeatState, Setup, SharedStripes, StripeTable};

@@ -3,11 +3,12 @@ ghost use Rattle.std.specs.Prelude.{◌≡◌, ◌∷◌, ◌<◌, true, false};
 ghost use Rattle.atomic_table.specs.Table.{rest};
 ghost use Rattle.tsc_stripe_table.specs.Rule.{LaidStripe, lock_word};
 ghost use Rattle.tsc_stripe_table.specs.Steps.{Acquires, Commits, state_in, with_state};
-ghost use Rattle.tsc_stripe_table.specs.Steps.{released, released_seen, made_in};
+ghost use Rattle.tsc_stripe_table.specs.Steps.{released, released_seen, made_in, batch_in};
 ghost use Rattle.tsc_stripe_table.specs.Participating.{IsOf, CanAcquire, CanRelease, CanCommit};
+ghost use Rattle.tsc_stripe_table.specs.Participating.{CanCommitBatch};
 
 use crate::places::lock_word;
-use crate::steps::{Acquire, Commit, Release, ReleaseSeen};
+use crate::steps::{Acquire, Commit, CommitBatch, Release, ReleaseSeen};
 use crate::table::{Participant, SharedStripes};
 
 /// Acquires the lock of a stripe if it is free: the stripe is then in hand. Else nothing changes.
@@ -68,4 +69,16 @@ pub fn commit(shared: &SharedStripes, who: &mut Participant, stripe: u32)
     ensures hand { who.new.me.1 ≡ rest who.old.me.1 }
 {
     shared.store::<Commit>(who, lock_word(stripe), 0);
+}
+
+/// The same, for the batch that was made on its stripe: it becomes one entry.
+pub fn commit_batch(shared: &SharedStripes, who: &mut Participant, stripe: u32)
+    requires of { IsOf who.old shared.now.table_id }
+    requires can { (x : LaidStripe) × CanCommitBatch who.old.me stripe x }
+    ensures table { who.new.table_id ≡ who.old.table_id }
+    ensures committed { Commits who.old.me.0 who.new.me.0
+        (batch_in (state_in who.old.me.0) who.old.me.1) }
+    ensures hand { who.new.me.1 ≡ rest who.old.me.1 }
+{
+    shared.store::<CommitBatch>(who, lock_word(stripe), 0);
 }

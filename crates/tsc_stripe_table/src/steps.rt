@@ -39,6 +39,15 @@ impl Play<Box<Stripe>, Knowledge> for Commit {
     ghost then = { commits };
 }
 
+/// The same, for a batch.
+pub(crate) struct CommitBatch;
+
+impl Play<Box<Stripe>, Knowledge> for CommitBatch {
+    ghost use Rattle.tsc_stripe_table.specs.Steps.{commits_batch};
+
+    ghost then = { commits_batch };
+}
+
 /// A seat has seen what its front says, where that is longer.
 pub(crate) struct CatchUp;
 

@@ -1,24 +1,22 @@
--- Proves the contract of `Served::commit`. Commits a transaction, as `Range::commit` does.
-use Rattle.std.proofs.Common.{subst, List}
+-- Proves the contract of `Served::commit`. A commit that is not refused is refused for no reason.
+use Rattle.std.proofs.Common.{ap, inr}
 use Rattle.mvcc_range.specs.Serial.{Transaction}
-use Rattle.mvcc_shared.specs.Served.{IsLogged}
-use Rattle.mvcc_shared.proofs.Serving.{served, was_ended, was_same}
+use Rattle.mvcc_range.specs.declared.error.RangeError.TheVariants.{OutOfRange, TooEarly, TooLarge}
+use Rattle.mvcc_shared.specs.History.{has_ended}
+use Rattle.mvcc_shared.proofs.Refusing.{still_not}
 use Rattle.mvcc_shared.proofs.served.Served.commit.Goals as goal
 
-pub invariant_of-self-in-Ok : goal.invariant_of-self-in-Ok
-invariant_of-self-in-Ok c =
-    let log = c.record_end.new.log.items in
-    was_ended (served c.self.inside.range c.self.inside.log.items) (served c.commit.new.self log)
-    c.args.transaction c.args.now c.in-Ok.outcome c.self.invariant (record {
-      ends = c.in-Ok.ensures.ok;
-      log = subst (λ (l : List Transaction). IsLogged l log c.args.transaction c.in-Ok.outcome)
-          c.reserve.ensures.items c.record_end.ensures;
-    })
-
-pub invariant_of-self-in-Err : goal.invariant_of-self-in-Err
-invariant_of-self-in-Err c =
-    was_same (served c.self.inside.range c.self.inside.log.items)
-    (served c.commit.new.self c.reserve.new.self.items) c.self.invariant (record {
-      range = c.in-Err.ensures.err;
-      log = c.reserve.ensures.items;
-    })
+pub returns-in-Ok-clause-ends : goal.returns-in-Ok-clause-ends
+returns-in-Ok-clause-ends c = record {
+  ok = (
+    ap (λ (t : Transaction). has_ended t c.args.now c.in-Ok.outcome) c.of-ended.ensures,
+    c.in-Ok.ensures.ok,
+  );
+  err = tt;
+  again = tt;
+  why = inr (record {
+    out_of_range = still_not c.in-Ok.outcome OutOfRange c.in-Ok.ensures.out_of_range;
+    too_early = still_not c.in-Ok.outcome TooEarly c.in-Ok.ensures.too_early;
+    too_large = still_not c.in-Ok.outcome TooLarge c.in-Ok.ensures.too_large;
+  });
+}

@@ -1,9 +1,6 @@
 -- A closed slot is left out with its handle, which names nothing as before.
-use Rattle.std.proofs.Common.{◌≡◌, ◌<◌, ◌∙◌, subst, ℕ, List, length, get_or, arith, rules}
-use Rattle.std.specs.List.{remove}
-use Rattle.tsc_ffi_store.specs.declared.store.Slot.{Slot}
+use Rattle.std.proofs.Common.{◌≡◌, ◌<◌, ◌∙◌, length, get_or, arith, rules}
 use Rattle.tsc_ffi_store.specs.declared.store.Slot.TheVariants.{Closed}
-use Rattle.tsc_ffi_store.specs.OpenHandles.{AreOpen, named_by}
 use Rattle.tsc_ffi_store.proofs.OpenHandles.{open_left_out, named_left_out}
 use Rattle.tsc_ffi_store.proofs.store.Store.forget.Goals as goal
 

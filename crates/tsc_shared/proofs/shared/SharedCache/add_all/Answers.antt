@@ -4,4 +4,4 @@ use Rattle.tsc_shared.proofs.GivenUp.{waited_answers}
 use Rattle.tsc_shared.proofs.shared.SharedCache.add_all.Goals as goal
 
 pub returns : goal.returns
-returns g c = waited_answers _ _ _ _ _ _ _ _ c.waited.ensures c.add_marks.ensures.answers
+returns g c = waited_answers _ _ _ _ _ _ _ _ c.waited.ensures c.add_ref.ensures.answers

@@ -1,0 +1,173 @@
+//! Each public call with ample memory, in rows of it: this finds one that is refused memory
+//! without need. And why a cache is not opened, with the text of each fault.
+use crate::seats::{Seats, config, keys};
+use std::alloc::Global;
+use std::sync::Wait;
+use std::test::Fail;
+use test_support::rows::{Refusal, Told, span, span_bytes};
+use test_support::{marks, told, told_added, told_value, written};
+use tsc_span::Key;
+use tsc_striped::{AddFault, Busy, OpenFault, StripedCache, TryAddFault};
+
+/// Calls on three stripes. After each Add the other seat makes the next call.
+const CALLS: &str = "add [a] 20.0 A = 1 0 0
+get [a] = 20.0 A
+get [b] = 5.0 -
+add [a,d) 21.0 B = 1 0 0
+get (b,c) = 21.0 B
+get [d..] = 5.0 -
+batch [a] 22.0 A [d] 22.0 A = 1 0 0
+batch = 0 0 0
+get [a..] = 22.0 A
+tries 9 = done
+add [c] 23.0 B = 1 0 0
+batch [c] 23.0 A [e] 4.0 A = 1 0 0
+get [c] = 23.0 -
+get [c,z) = 23.0 -
+tries 0 = done
+add [c] 24.0 B = busy
+add [a,z) 24.0 B = busy
+batch = busy
+get [c] = busy
+get [a..] = busy
+stripe 2 = busy
+snapshot [a..] = busy
+tries 9 = done
+stripe 2 = 5.0 1 0 1 33
+snapshot [b,d] = 2
+tries all = done
+stripe 1 = 5.0 1 0 3 99
+snapshot [a..] = 3
+hand_over [b,z) = 2
+get [c] = 23.0 -
+gated [c,z) 24.0 A [a] 25.0 B = 1 0 0
+get [d] = 24.0 A
+meet = 10";
+
+/// Bounds, and what an opening with pages of so many bytes answers.
+const OPENINGS: &str = "8256 b = done
+8256 %00 = done
+8256 d b = the bounds are out of order
+8256 b b = the bounds are out of order
+8255 d b = the bounds are out of order
+8255 b d = the largest page has fewer than 8256";
+
+/// Plays the words of a row.
+fn answer<R: Wait>(seats: &mut Seats<'_, R>, words: &[&str]) -> Told<String> {
+    let alloc = seats.alloc;
+    match *words {
+        ["add", ref mark @ ..] => {
+            let marks = marks(alloc, mark)?;
+            let mark = marks.first().ok_or(Refusal::NoRow)?;
+            told_added(alloc, seats.add(mark)?)
+        }
+        ["batch", ref all @ ..] => told_added(alloc, seats.add_all(&marks(alloc, all)?)?),
+        ["get", text] => told_value(alloc, seats.get(&span_bytes(alloc, text)?)?),
+        ["tries", count] => {
+            seats.tries = count.parse().ok();
+            told(alloc, "done")
+        }
+        ["stripe", number] => {
+            let (low, all) = seats.stripe(number.parse()?)?;
+            let (low, logical) = (low.wall(), low.logical());
+            let (pages, rotations, nodes) = (all.pages, all.rotations, all.nodes);
+            let bytes = all.bytes;
+            written(
+                alloc,
+                format_args!("{low}.{logical} {pages} {rotations} {nodes} {bytes}"),
+            )
+        }
+        ["gated", ref all @ ..] => told_added(alloc, seats.add_gated(&marks(alloc, all)?)?),
+        ["hand_over", text] => written(alloc, seats.hand_over(&span(alloc, text)?)?),
+        ["snapshot", text] => written(alloc, seats.snapshot(&span(alloc, text)?)?),
+        ["meet"] => written(alloc, seats.meet()),
+        _ => Err(Refusal::NoRow),
+    }
+}
+
+/// Whether a row holds: a call, and what it answers. Where that is refused memory nothing has
+/// changed, and the call is made once more.
+fn holds<R: Wait>(seats: &mut Seats<'_, R>, row: &str) -> Result<bool, Fail> {
+    let (call, wanted) = row.split_once(" = ").ok_or("no row")?;
+    let mut words = Vec::new(seats.alloc);
+    for word in call.split(' ') {
+        words.push(word)?;
+    }
+    let before = seats.seen();
+    let mut told = answer(seats, &words);
+    if matches!(told, Err(Refusal::Memory)) && seats.seen() == before {
+        told = answer(seats, &words);
+    }
+    match told {
+        Ok(told) => Ok(told.as_str() == wanted),
+        Err(Refusal::NoMemory) => Err(Refusal::NoMemory.into()),
+        Err(refusal) => Ok(refusal.name() == wanted),
+    }
+}
+
+/// `scripts/refuse growth tests test_striped calls::` refuses each growth of it in turn.
+#[test]
+fn each_call_has_ample_memory(rt: HostRuntime) -> Result<(), Fail> {
+    let bounds = keys(rt.alloc(), "b d")?;
+    let mut seats = Seats::open(&rt, rt.alloc(), 8256, bounds)?;
+    for row in CALLS.lines() {
+        assert!(rt; holds(&mut seats, row)?, "{row}");
+    }
+    assert_eq!(rt; seats.close()?, 3);
+    Ok(())
+}
+
+/// Whether an opening answers as a row says.
+fn opens(alloc: Global, row: &str) -> Result<bool, Fail> {
+    let (size, row) = row.split_once(' ').ok_or("no size")?;
+    let (bounds, wanted) = row.split_once(" = ").ok_or("no row")?;
+    let text = match StripedCache::open(alloc, config(size.parse()?)?, keys(alloc, bounds)?, 2) {
+        Ok(_) => told(alloc, "done")?,
+        Err(fault) => written(alloc, fault)?,
+    };
+    Ok(text.as_str() == wanted)
+}
+
+#[test]
+fn bounds_are_tested(rt: HostRuntime) -> Result<(), Fail> {
+    for row in OPENINGS.lines() {
+        assert!(rt; opens(rt.alloc(), row)?, "{row}");
+    }
+    Ok(())
+}
+
+/// A cache whose bounds are so many numbers, and how many stripes it has.
+fn numbered(alloc: Global, count: u32) -> Result<Result<u32, OpenFault>, Fail> {
+    let mut bounds = Vec::new(alloc);
+    for number in 0..count {
+        bounds.push(Key::new(alloc, &u32::to_be_bytes(number))?)?;
+    }
+    let opened = StripedCache::open(alloc, config(8256)?, bounds, 0);
+    Ok(opened.map(|opened| opened.0.stripes()))
+}
+
+#[test]
+fn there_are_at_most_1024_stripes(rt: HostRuntime) -> Result<(), Fail> {
+    assert_eq!(rt; numbered(rt.alloc(), 1023)?, Ok(1024));
+    assert_eq!(rt; numbered(rt.alloc(), 1024)?, Err(OpenFault::TooManyStripes));
+    Ok(())
+}
+
+#[test]
+fn texts_of_faults(rt: HostRuntime) -> Result<(), Fail> {
+    let texts = format!(in rt.alloc();
+        "{}\n{}\n{}\n{}\n{}\n{}",
+        OpenFault::TooManyStripes,
+        OpenFault::NoMemory,
+        AddFault::SeatFull,
+        TryAddFault::Busy,
+        TryAddFault::Refused(AddFault::NoMemory),
+        Busy
+    )?;
+    assert_eq!(rt;
+        texts.as_str(),
+        "stripes are 1 to 1024\nout of memory\nthe seat can count no more \
+        Adds\na stripe is busy\nout of memory\na stripe is busy"
+    );
+    Ok(())
+}

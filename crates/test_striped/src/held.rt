@@ -1,0 +1,148 @@
+//! An Add that is held up with the lock of its stripe. Calls in other stripes go on meanwhile, and
+//! those that touch this one find it busy.
+//!
+//! No contract speaks of progress: this finds a call that waits for the lock of a stripe which it
+//! does not touch, and a gate that is called once others can see the Add.
+ghost use Rattle.std.specs.Prelude.{◌≡◌, All, IfOk};
+
+use crate::seats::{config, keys};
+use std::alloc::Global;
+use std::sync::Wait;
+use std::sync::atomic::AtomicBool;
+use std::sync::atomic::Ordering::SeqCst;
+use std::test::Fail;
+use std::thread::{self, Threads};
+use test_support::at;
+use test_support::rows::{Refusal, Told, span};
+use tsc_span::Span;
+use tsc_striped::{Gate, Seat, StripedCache, TryAddFault};
+use tsc_time::Value;
+
+/// How often a thread looks whether another has come so far.
+const TURNS: u32 = 10_000_000;
+
+/// A gate that holds an Add up until another seat has made its calls.
+#[derive(Drop)]
+pub struct Hold {
+    is_held: AtomicBool,
+    is_over: AtomicBool,
+}
+
+/// Waits until a flag is set, and tells whether it was.
+fn is_set(flag: &AtomicBool) -> bool {
+    for _ in 0..TURNS {
+        if flag.load(SeqCst) {
+            return true;
+        }
+        thread::yield_now();
+    }
+    false
+}
+
+impl Gate for Hold {
+    ghost HasTold = { λ _ _. Unit {0} };
+
+    fn start(&self, _thread: u32, _call: u32) {}
+
+    fn done(&self, _thread: u32, _call: u32) {}
+
+    fn publish(&self, _seat: u32) {
+        self.is_held.store(true, SeqCst);
+        is_set(&self.is_over);
+    }
+}
+
+/// Makes the calls of a seat while an Add in the first span is held up. Those of the second span
+/// are answered, and those that touch the first one are not.
+fn call_beside<R: Wait>(
+    rt: &R,
+    striped: &StripedCache,
+    seat: &mut Seat,
+    own: &Span,
+    other: &Span,
+) -> bool
+    requires { seat.old.cache ≡ striped.now }
+{
+    let (value, now) = (Value::unowned(at(30, 0)), at(20, 0));
+    let is_added = striped.add(rt, seat, other, value, now).is_ok();
+    let is_seen = striped.get_max(rt, seat, other) == value;
+    let added = striped.try_add(seat, own, value, now, 3);
+    let is_busy = matches!(added, Err(TryAddFault::Busy));
+    let is_hidden = striped.try_get_max(seat, own, 3).is_err();
+    is_added && is_seen && is_busy && is_hidden
+}
+
+/// The first seat adds, and is held up. The second one makes its calls meanwhile. Whether all came
+/// as it should.
+fn take_part<R: Wait>(
+    rt: &R,
+    striped: &StripedCache,
+    seat: Seat,
+    hold: &Hold,
+    spans: &[Span],
+) -> bool
+    requires { seat.cache ≡ striped.now }
+{
+    let (mut seat, value, now) = (seat, Value::unowned(at(20, 0)), at(20, 0));
+    let (Some(own), Some(other)) = (spans.first(), spans.get(1)) else {
+        return false;
+    };
+    if seat.number() == 0 {
+        let added = striped.add_gated(rt, &mut seat, own, value, now, hold);
+        return added.is_ok() && striped.get_max(rt, &mut seat, own) == value;
+    }
+    let is_right = is_set(&hold.is_held) && call_beside(rt, striped, &mut seat, own, other);
+    hold.is_over.store(true, SeqCst);
+    is_right
+}
+
+/// A cache with three stripes, and two seats.
+fn open(alloc: Global) -> Told<(StripedCache, Vec<Seat>)>
+    ensures { IfOk result (λ opened. All (λ seat. seat.cache ≡ opened.0) opened.1.items) }
+{
+    let opened = StripedCache::open(alloc, config(8256)?, keys(alloc, "b d")?, 2);
+    let Ok((striped, mut dealer)) = opened else {
+        return Err(Refusal::NoMemory);
+    };
+    let one = striped.deal(&mut dealer).ok_or(Refusal::NoRow)?;
+    let other = striped.deal(&mut dealer).ok_or(Refusal::NoRow)?;
+    let mut seats = Vec::new(alloc);
+    seats.push(one)?;
+    seats.push(other)?;
+    Ok((striped, seats))
+}
+
+/// Each seat takes part on a thread of its own.
+fn play<R: Threads + Wait + Sync>(
+    rt: &R,
+    striped: &StripedCache,
+    seats: Vec<Seat>,
+    spans: &[Span],
+) -> Result<bool, Fail>
+    requires { All (λ seat. seat.cache ≡ striped.now) seats.items }
+{
+    let hold = Hold {
+        is_held: AtomicBool::new(false),
+        is_over: AtomicBool::new(false),
+    };
+    let told = thread::map_vec(
+        rt,
+        seats,
+        &|seat: Seat| -> bool
+            requires { seat.cache ≡ striped.now }
+        { take_part(rt, striped, seat, &hold, spans) },
+    )?;
+    Ok(told.len() == 2 && told.iter().all(|is_right| *is_right))
+}
+
+#[test]
+fn a_held_stripe_holds_up_no_other(rt: HostRuntime) -> Result<(), Fail> {
+    let alloc = rt.alloc();
+    let (striped, seats) = open(alloc)?;
+    let mut spans = Vec::new(alloc);
+    for text in ["[a]", "[b,e)"] {
+        spans.push(span(alloc, text)?)?;
+    }
+    assert!(rt; play(&rt, &striped, seats, &spans)?);
+    Ok(())
+}

@@ -1,3 +1,0 @@
-//! Checks and runs.
-mod check;
-mod run;

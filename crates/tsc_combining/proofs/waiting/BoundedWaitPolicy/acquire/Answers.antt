@@ -1,6 +1,0 @@
--- Proves the contract of `BoundedWaitPolicy::acquire`. Acquires the writer lock, once it is free.
-use Rattle.std.proofs.Common.{rules}
-use Rattle.tsc_combining.proofs.waiting.BoundedWaitPolicy.acquire.Goals as goal
-
-pub returns-clause-no_try : goal.returns-clause-no_try
-returns-clause-no_try c = search rules

@@ -1,0 +1,209 @@
+-- What each call of a striped cache answers, and what its seat has seen then.
+use Rattle.std.specs.Prelude.{◌≡◌, ◌≢◌, ℕ, suc, ◌-◌, ◌<◌, List, [], ◌∷◌, ◌++◌, length}
+use Rattle.std.specs.Prelude.{All, count_by, ◌==◌, nat_lt, not, Option, Some}
+use Rattle.std.specs.Prelude.{None, Result, IfOk, IfErr, OnOk, OnErr, IsErrOf, if◌then◌else◌}
+use mathlib.Core.Option as maybe
+use lib.ListN.{get_elem?}
+use Rattle.tsc_time.specs.Time.{Time}
+use Rattle.tsc_time.specs.OwnedTime.{OwnedTime}
+use Rattle.tsc_span.specs.Span.{KeyBytes, Interval}
+use Rattle.tsc_page_nodes.specs.Page.{Mark}
+use Rattle.tsc_cache.specs.Settings.{Settings}
+use Rattle.tsc_cache.specs.Counts.{figures_of}
+use Rattle.tsc_cache.specs.CacheView.{CacheView}
+use Rattle.tsc_cache.specs.declared.figures.Figures.{Figures}
+use Rattle.tsc_cache.specs.declared.history.Entry.{Entry}
+use Rattle.tsc_cache.specs.History.{History, own_count, BeginsWith, IsLegal}
+use Rattle.tsc_stripe_table.specs.Stripes.{Terms, stripe_count, state_on, IsStateOn}
+use Rattle.tsc_striped.specs.declared.answers.OpenFault.{OpenFault}
+use Rattle.tsc_striped.specs.declared.answers.OpenFault.TheVariants as refused
+use Rattle.tsc_striped.specs.declared.answers.AddFault.{AddFault}
+use Rattle.tsc_striped.specs.declared.answers.AddFault.TheVariants as fault
+use Rattle.tsc_striped.specs.declared.answers.TryAddFault.{TryAddFault}
+use Rattle.tsc_striped.specs.declared.answers.TryAddFault.TheVariants.{Busy, Refused}
+use Rattle.tsc_striped.specs.declared.answers.Busy.{Busy as LockBusy}
+use Rattle.tsc_striped.specs.declared.answers.Receipt.{Receipt}
+use Rattle.tsc_striped.specs.declared.answers.Closed.{Closed}
+use Rattle.tsc_striped.specs.declared.answers.Snapshot.{Snapshot}
+use Rattle.tsc_striped.specs.Limits.{most_stripes, least_page_max, most_adds}
+use Rattle.tsc_striped.specs.Touching.{are_in_order, first_touched, last_touched}
+use Rattle.tsc_striped.specs.Looks.{look_over, added_over, StandFrom}
+use Rattle.tsc_striped.specs.Seats.{StripedView, SeatView, FrontView, DealerView, IsSettled}
+use Rattle.tsc_striped.specs.Seats.{IsSeat, new_seat}
+
+-- A cache is opened with these settings, bounds, and that many seats, none of which is dealt.
+pub record Opens (settings : Settings) (bounds : List KeyBytes) (count : ℕ) (cache : StripedView)
+    (dealer : DealerView) : Type 0 where
+  pub terms : cache.terms ≡ record { config = settings; seats = count; bounds = bounds }
+  pub settled : IsSettled cache.terms
+  pub dealer_is : dealer ≡ record { cache = cache; dealt = 0 }
+
+-- Why no cache is opened: there are too many bounds, or they do not ascend, or the largest page is
+-- too small, or else memory was refused.
+abbrev pub open_fault : Settings → List KeyBytes → OpenFault
+open_fault settings bounds =
+    if not (nat_lt (length bounds) most_stripes) then refused.TooManyStripes
+    else if not (are_in_order bounds) then refused.BoundsOutOfOrder
+    else if nat_lt settings.page_max least_page_max then refused.PageTooSmall
+    else refused.NoMemory
+
+-- The next seat is dealt, which nobody has used.
+pub record Deals (old new : DealerView) (seat : SeatView) : Type 0 where
+  pub some : old.dealt < old.cache.terms.seats
+  pub seat_is : seat ≡ new_seat old.cache old.dealt
+  pub dealer : new ≡ record { cache = old.cache; dealt = suc old.dealt }
+
+-- All seats are dealt, and the dealer stays as it is.
+pub record DealsNone (old new : DealerView) : Type 0 where
+  pub all : old.dealt ≡ old.cache.terms.seats
+  pub same : new ≡ old
+
+-- the entry that a seat's next Add of these marks makes
+abbrev pub entry_by : SeatView → List Mark → Time → Entry
+entry_by seat ms now = record { seat = seat.number; number = seat.count; marks = ms; now = now }
+
+-- one mark by itself
+abbrev pub one_mark : Interval → OwnedTime → List Mark
+one_mark span value = record { span = span; value = value } ∷ []
+
+-- A seat stays who it is, and is as seats always are. What it has seen begins with what it had
+-- seen.
+pub record GoesOn (old new : SeatView) : Type 0 where
+  pub cache : new.cache ≡ old.cache
+  pub number : new.number ≡ old.number
+  pub begins : BeginsWith new.seen old.seen
+  pub is_seat : IsSeat new
+
+-- An accepted Add of some marks: after a history that begins with all that the seat had seen stands
+-- this one entry, with all of the marks, which is the last that the seat has seen then. What was
+-- added is the step from the state that the history leaves on each stripe.
+pub record Accepts (old new : SeatView) (ms : List Mark) (now : Time) (receipt : Receipt) : Type 0
+  where
+    pub before : History
+    pub begins : BeginsWith before old.seen
+    pub seen : new.seen ≡ before ++ entry_by old ms now ∷ []
+    pub count : new.count ≡ suc old.count
+    pub added : receipt.added ≡ added_over old.cache.terms before ms now
+    pub front : receipt.front ≡ record { cache = old.cache; seen = new.seen }
+
+-- a seat can count one more Add
+abbrev pub CanCount : SeatView → Type 0
+CanCount seat = seat.count ≢ most_adds
+
+-- Why an Add was refused: the seat counts as many Adds as it can, or else it is said that memory
+-- was refused, which no clause can check.
+abbrev pub RefusedFor : SeatView → AddFault → Type 0
+RefusedFor old fault.SeatFull = old.count ≡ most_adds
+RefusedFor old fault.NoMemory = CanCount old
+
+-- Why an Add that does not wait was refused: another seat held a lock at each try, or else as an
+-- Add that waits.
+abbrev pub TryRefusedFor : SeatView → TryAddFault → Type 0
+TryRefusedFor old Busy = CanCount old
+TryRefusedFor old (Refused fault) = RefusedFor old fault
+
+-- What an Add of some marks at a moment answers at a seat. It is accepted, or refused for one of
+-- the reasons: the seat is then as it was, and no history that it sees has that Add.
+pub record AnswersAdd (old new : SeatView) (ms : List Mark) (now : Time)
+    (result : Result Receipt AddFault) : Type 0 where
+  pub accepted : IfOk result (λ receipt. Accepts old new ms now receipt)
+  pub may : OnOk result (CanCount old)
+  pub seat : GoesOn old new
+  pub refused : OnErr result (new ≡ old)
+  pub why : IfErr result (λ fault. RefusedFor old fault)
+
+-- there is an end of the tries, and not one of them
+abbrev pub IsNoTry : Option ℕ → Type 0
+IsNoTry None = ⊥
+IsNoTry (Some tries) = tries ≡ 0
+
+-- What such an Add answers that gives up after `tries` tries, if these have an end. It is refused
+-- without any try.
+pub record AnswersTriedAdd (old new : SeatView) (ms : List Mark) (now : Time)
+    (tries : Option ℕ) (result : Result Receipt TryAddFault) : Type 0 where
+  pub accepted : IfOk result (λ receipt. Accepts old new ms now receipt)
+  pub may : OnOk result (CanCount old)
+  pub seat : GoesOn old new
+  pub refused : OnErr result (new ≡ old)
+  pub why : IfErr result (λ fault. TryRefusedFor old fault)
+  pub no_tries : IsNoTry tries → CanCount old → IsErrOf result Busy
+
+-- A lookup answers from the states of all that the seat has seen then.
+pub record AnswersLookup (old new : SeatView) (span : Interval) (value : OwnedTime) : Type 0 where
+  pub goes_on : GoesOn old new
+  pub count : new.count ≡ old.count
+  pub value_is : value ≡ look_over old.cache.terms new.seen span
+
+-- A lookup that does not wait answers so, or else the seat is as it was: another one held a lock at
+-- each try.
+pub record TriesLookup (old new : SeatView) (span : Interval) (result : Result OwnedTime LockBusy)
+    : Type 0 where
+  pub answered : IfOk result (λ value. AnswersLookup old new span value)
+  pub busy : OnErr result (new ≡ old)
+
+-- The floor of a stripe is that of its state after all that the seat has seen then.
+pub record ReadsFloor (old new : SeatView) (stripe : ℕ) (time : Time) : Type 0 where
+  pub goes_on : GoesOn old new
+  pub count : new.count ≡ old.count
+  pub time_is : time ≡ (state_on old.cache.terms stripe new.seen).floor
+
+-- The figures of a stripe are those of its state after all that the seat has seen then.
+pub record ReadsFigures (old new : SeatView) (stripe : ℕ) (figures : Figures) : Type 0 where
+  pub goes_on : GoesOn old new
+  pub count : new.count ≡ old.count
+  pub figures_are : figures ≡ figures_of (state_on old.cache.terms stripe new.seen)
+
+-- A snapshot has a copy for each stripe that a span touches. Each stands for the state of its
+-- stripe after all that the seat has seen then.
+pub record TakesSnapshot (old new : SeatView) (span : Interval) (snapshot : Snapshot) : Type 0
+  where
+    pub goes_on : GoesOn old new
+    pub count : new.count ≡ old.count
+    pub first : snapshot.first ≡ first_touched old.cache.terms.bounds span
+    pub all : length snapshot.caches.items
+        ≡ suc (last_touched old.cache.terms.bounds span - snapshot.first)
+    pub stand : StandFrom old.cache.terms new.seen snapshot.first snapshot.caches.items
+
+-- A call for a floor or for figures that does not wait answers so, or else the seat is as it was.
+pub record TriesFloor (old new : SeatView) (stripe : ℕ) (result : Result Time LockBusy) : Type 0
+  where
+    pub answered : IfOk result (λ time. ReadsFloor old new stripe time)
+    pub busy : OnErr result (new ≡ old)
+
+pub record TriesFigures (old new : SeatView) (stripe : ℕ) (result : Result Figures LockBusy)
+    : Type 0 where
+  pub answered : IfOk result (λ figures. ReadsFigures old new stripe figures)
+  pub busy : OnErr result (new ≡ old)
+
+-- Two seats meet: both have seen one history then, which begins with what each had seen.
+pub record Meets (a b a' b' : SeatView) : Type 0 where
+  pub first : GoesOn a a'
+  pub second : GoesOn b b'
+  pub first_count : a'.count ≡ a.count
+  pub second_count : b'.count ≡ b.count
+  pub same : a'.seen ≡ b'.seen
+
+-- A seat has learned a front: what it has seen then begins with what it had seen, and with the
+-- front's history.
+pub record Learns (old new : SeatView) (front : FrontView) : Type 0 where
+  pub goes_on : GoesOn old new
+  pub count : new.count ≡ old.count
+  pub begins : BeginsWith new.seen front.seen
+
+-- There is a cache for each stripe, and it stands for the state that a history leaves there.
+pub record AreStripes (terms : Terms) (history : History) (caches : List CacheView) : Type 0 where
+  pub count : length caches ≡ stripe_count terms.bounds
+  pub stands : (stripe : ℕ) (cache : CacheView) → get_elem? caches stripe ≡ maybe.some cache
+      → IsStateOn terms stripe history cache
+
+-- At closing each seat that was dealt is there, and there is one history, legal for the number of
+-- seats. What each seat has seen is a beginning of it. It has exactly the accepted Adds of each
+-- seat, and none of a seat that was not dealt. The caches stand for its states.
+pub record Closes (dealer : DealerView) (seats : List SeatView) (closed : Closed) : Type 0 where
+  pub each : (number : ℕ) → number < dealer.dealt
+      → count_by (λ (seat : SeatView). seat.number == number) seats ≡ 1
+  pub history : History
+  pub legal : IsLegal dealer.cache.terms.config dealer.dealt history
+  pub begins : All (λ seat. BeginsWith history seat.seen) seats
+  pub own : All (λ seat. own_count seat.number history ≡ seat.count) seats
+  pub stripes : AreStripes dealer.cache.terms history closed.caches.items

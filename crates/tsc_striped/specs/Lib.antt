@@ -1,0 +1,13 @@
+pub mod Limits
+pub mod Touching
+pub mod Seats
+pub mod Looks
+pub mod Keeping
+pub mod Answers
+pub mod Waiting
+pub mod Moves
+pub mod Cutting
+pub mod Batches
+pub mod Laws
+pub mod Adding
+pub mod Sharing

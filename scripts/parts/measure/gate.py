@@ -1,0 +1,224 @@
+"""Runs the gate, and measures the processor minutes of each crate: its proof, its tests, its edits.
+
+The command is `taskset -c 0,1 rt ci --anew` where none is given: what the gate takes from nothing on
+two processors. `rt all check` or `rt must-fail NAME` can be measured too. What it prints goes to
+standard error, so that standard output has the table alone, in Markdown. With --edits a list of the
+edits follows, with the processor seconds of each.
+
+Where the command is `rt ci --anew` and ends well, the table takes the place of the one between the
+marks of docs/PROOFS.md, with the day and the commit; --into names another file, and --no-write none.
+
+Four times a second it looks at the processes below the command, of which one belongs to a crate by
+its words and to an edit by its folder. What a process spends after the last look is in no column but
+in the sum, as is what `rt` itself spends. Looking takes some hundredths of a processor, of another
+one where the command alone is held to two.
+"""
+import argparse
+import datetime
+import os
+import re
+import resource
+import shutil
+import subprocess
+import sys
+import threading
+import time
+from collections import namedtuple
+
+from parts.frame import MISSING, ROOT, Fault, needs_rt, outcome, say
+from parts.repository import crates, edits_of
+
+TICK = os.sysconf("SC_CLK_TCK")
+PERIOD = 0.25
+KINDS = ("proof", "tests", "edits")
+GATE = ["taskset", "-c", "0,1", "rt", "ci", "--anew"]
+COLUMNS = ["Crate", "Proof", "Tests", "Edits", "Number of edits", "Together"]
+BEGIN, END = "<!-- gate: begin -->\n", "<!-- gate: end -->"
+Measured = namedtuple("Measured", "day commit minutes")
+MEASURED = re.compile(
+    r"^Measured on (\d{4}-\d\d-\d\d) at commit `(\w+)` by `[^`]*`:\n(\d+) minutes by the clock", re.M
+)
+# The parent of all threads of the kernel, which there may be many of and which are never looked at
+# again.
+KERNEL = 2
+
+
+def measured(text):
+    """Returns when the table of a document was measured, of which commit, and how long that took.
+    """
+    found = MEASURED.search(text.partition(BEGIN)[2].partition(END)[0])
+    return Measured(*found.groups()) if found else None
+
+
+def content(path):
+    try:
+        with open(path, "rb") as file:
+            return file.read().decode(errors="replace")
+    except OSError:
+        return ""
+
+
+def processes(skipped):
+    """Returns the parent, the start and the processor seconds of each process that runs now, but
+    for those of the kernel."""
+    found = {}
+    for name in os.listdir("/proc"):
+        if not name.isdigit() or name in skipped:
+            continue
+        fields = content(f"/proc/{name}/stat").rpartition(")")[2].split()
+        if fields and int(fields[1]) == KERNEL:
+            skipped.add(name)
+        elif fields:
+            found[int(name)] = int(fields[1]), fields[19], (int(fields[11]) + int(fields[12])) / TICK
+    return found
+
+
+def below(top, running):
+    """Returns which processes were started by the one called top, or by one of these."""
+    known = {top: True}
+
+    def is_below(pid):
+        if pid not in known:
+            known[pid] = False
+            known[pid] = pid in running and is_below(running[pid][0])
+        return known[pid]
+
+    return [pid for pid in running if pid != top and is_below(pid)]
+
+
+def edit_in(folder, crate):
+    """Returns the edit that was made in this copy of a crate, or that there is none: all edits of a
+    crate begin with what such a copy proved."""
+    for edit in edits_of(crate):
+        lines = [line.partition(": ") for line in content(f"{ROOT}/{edit}").splitlines()]
+        file = next((text for word, _, text in lines if word == "file"), "")
+        text, was = content(f"{folder}/{file}"), content(f"{ROOT}/crates/{crate}/{file}")
+        if text != was and all(it in text for word, _, it in lines[:3] if word == "new"):
+            return os.path.basename(edit)
+    return "the crate as it is"
+
+
+class Work:
+    """What a process works at: a crate's proof, its tests, or an edit."""
+
+    def __init__(self, pid):
+        words = content(f"/proc/{pid}/cmdline").split("\0")
+        try:
+            self.folder = os.readlink(f"/proc/{pid}/cwd")
+        except OSError:
+            self.folder = ""
+        name = words[words.index("--crate-name") + 1] if "--crate-name" in words[:-1] else ""
+        parts = self.folder.split("/")
+        if not name and "crates" in parts[:-1]:
+            name = parts[parts.index("crates") + 1]
+        is_edit = parts[-1].startswith("rt-edit-")
+        is_test = "--test" in words or any(word.endswith(f"{name}_tests.o") for word in words)
+        self.crate = name
+        self.kind = "edits" if is_edit else "tests" if is_test else "proof"
+        self.edit = edit_in(self.folder, name) if is_edit else ""
+
+
+def watch(top, seen, ended):
+    """Keeps, until the command has ended, the work of each process below it and the most that it
+    was seen to have spent."""
+    skipped = set()
+    while not ended.wait(PERIOD):
+        running = processes(skipped)
+        for pid in below(top, running):
+            _, start, spent = running[pid]
+            work, before = seen.get((pid, start), (None, 0))
+            # A process that was forked has the words of its parent until it takes its own.
+            seen[pid, start] = work if before > 1 else Work(pid), max(spent, before)
+
+
+def stolen():
+    """Returns how many minutes the host has taken from each processor for others, since the start
+    of the machine."""
+    lines = [line.split() for line in content("/proc/stat").splitlines() if line.startswith("cpu")]
+    return {line[0]: int(line[8]) / TICK / 60 for line in lines[1:]}
+
+
+def spent_on(seen, key):
+    """Returns the seconds of all work, sorted by what the key makes of it."""
+    spent = {}
+    for work, seconds in seen.values():
+        spent[key(work)] = spent.get(key(work), 0) + seconds
+    return spent
+
+
+def row_of(name, minutes, edits):
+    cells = [name, *(f"{it:.1f}" for it in minutes), str(edits), f"{sum(minutes):.1f}"]
+    return f"| {' | '.join(cells)} |"
+
+
+def table(seen):
+    spent = spent_on(seen, lambda work: (work.crate, work.kind))
+    yield f"| {' | '.join(COLUMNS)} |"
+    yield "|---" * len(COLUMNS) + "|"
+    sums, number = [0.0, 0.0, 0.0], 0
+    for crate in crates():
+        minutes = [spent.get((crate, kind), 0) / 60 for kind in KINDS]
+        sums = [a + b for a, b in zip(sums, minutes)]
+        number += len(edits_of(crate))
+        yield row_of(f"`{crate}`", minutes, len(edits_of(crate)))
+    yield row_of("all", sums, number)
+
+
+def edit_lines(seen):
+    spent = spent_on(seen, lambda work: (work.crate, work.edit))
+    for crate in crates():
+        of = [(seconds, edit) for (name, edit), seconds in spent.items() if name == crate and edit]
+        for seconds, edit in sorted(of, reverse=True):
+            yield f"{crate} {seconds:7.1f} s  {edit}"
+
+
+def put_into(path, lines):
+    """Puts lines between the marks of a file."""
+    text = content(path)
+    before, begin, rest = text.partition(BEGIN)
+    _, end, after = rest.partition(END)
+    if not begin or not end:
+        raise Fault(f"{path} has no marks for the table", 1)
+    with open(path, "w", encoding="utf-8") as file:
+        file.write(before + begin + "\n".join(lines) + "\n" + end + after)
+
+
+def arguments(parser):
+    parser.add_argument("--edits", action="store_true", help="list the edits too")
+    parser.add_argument("--into", default=f"{ROOT}/docs/PROOFS.md", metavar="FILE", help="where the table is put")
+    parser.add_argument("--no-write", action="store_true", help="print the table alone")
+    parser.add_argument("command", nargs=argparse.REMAINDER, help="what is measured")
+
+
+def main(given):
+    words = given.command or GATE
+    needs_rt()
+    if not shutil.which(words[0]):
+        raise Fault(f"the command {words[0]} is not on the PATH", MISSING)
+    say(f"watching {' '.join(words)}")
+    begun, taken = time.monotonic(), stolen()
+    started = subprocess.Popen(words, cwd=ROOT, stdin=subprocess.DEVNULL, stdout=sys.stderr)
+    seen, ended = {}, threading.Event()
+    watcher = threading.Thread(target=watch, args=(started.pid, seen, ended))
+    watcher.start()
+    try:
+        status = started.wait()
+    finally:
+        ended.set()
+        watcher.join()
+    say(f"{' '.join(words)} ended with status {status}")
+    usage = resource.getrusage(resource.RUSAGE_CHILDREN)
+    total, minutes = (usage.ru_utime + usage.ru_stime) / 60, (time.monotonic() - begun) / 60
+    lost = ", ".join(f"{cpu} {now - taken.get(cpu, 0):.1f}" for cpu, now in stolen().items())
+    commit = outcome("git", "rev-parse", "--short", "HEAD", cwd=ROOT)[1].strip()
+    lines = [
+        f"Measured on {datetime.date.today()} at commit `{commit}` by `{' '.join(words)}`:",
+        f"{minutes:.0f} minutes by the clock, {total:.0f} processor minutes.",
+        "",
+        *table(seen),
+    ]
+    print("\n".join([*lines, "", f"Minutes that the host took for others: {lost}."]))
+    print(*([""] + list(edit_lines(seen)) if given.edits else []), sep="\n")
+    if not status and {"ci", "--anew"} <= set(words) and not given.no_write:
+        put_into(given.into, lines)
+    return status
