@@ -60,6 +60,24 @@ once = done
 add [b] 20.0 A 20.0 = 1 0 0
 add [a] 21.0 A 20.0 = 1 0 0";
 
+/// Each way to add, made once. Where memory is there, none of them is refused any.
+const EACH: &str = "open 132 132 2 10 5.0 100 = done
+once = done
+add [a] 20.0 A 20.0 = 1 0 0
+seat 1 batch 20.0 [a] 20.0 A [b] 20.0 B = 1 0 0
+by gate = done
+add [c] 20.0 A 20.0 = 1 0 0
+seat 1 batch 20.0 [d] 20.0 A [e] 20.0 B = 1 1 0
+by 1 = done
+add [f] 21.0 A 20.0 = 1 0 0
+seat 1 batch 20.0 [g] 21.0 A [h] 21.0 B = 1 0 0
+seat 1 get [a,z) = 21.0 -";
+
+#[test]
+fn each_add_has_ample_memory(rt: HostRuntime) -> Result<(), Fail> {
+    play(&rt, rt.alloc(), 2, EACH)
+}
+
 #[test]
 fn a_refused_call_can_be_made_again(rt: HostRuntime) -> Result<(), Fail> {
     play(&rt, rt.alloc(), 2, AGAIN)

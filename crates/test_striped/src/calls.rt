@@ -2,6 +2,7 @@
 //! without need. And why a cache is not opened, with the text of each fault.
 use crate::seats::{Seats, config, keys};
 use std::alloc::Global;
+use std::process::Abort;
 use std::sync::Wait;
 use std::test::Fail;
 use test_support::rows::{Refusal, Told, span, span_bytes};
@@ -38,10 +39,14 @@ snapshot [b,d] = 2
 tries all = done
 stripe 1 = 5.0 1 0 3 99
 snapshot [a..] = 3
-hand_over [b,z) = 2
+sum_up [b,z) = 2
+take_over 0 = 1 0 0
+take_over 1 = 1 0 0
 get [c] = 23.0 -
-gated [c,z) 24.0 A [a] 25.0 B = 1 0 0
+gated [c,z) 24.0 A = 1 0 0
 get [d] = 24.0 A
+gated_all [c,z) 24.0 A [a] 25.0 B = 1 0 0
+get [a] = 25.0 B
 meet = 10";
 
 /// Bounds, and what an opening with pages of so many bytes answers.
@@ -77,8 +82,16 @@ fn answer<R: Wait>(seats: &mut Seats<'_, R>, words: &[&str]) -> Told<String> {
                 format_args!("{low}.{logical} {pages} {rotations} {nodes} {bytes}"),
             )
         }
-        ["gated", ref all @ ..] => told_added(alloc, seats.add_gated(&marks(alloc, all)?)?),
-        ["hand_over", text] => written(alloc, seats.hand_over(&span(alloc, text)?)?),
+        ["gated", ref mark @ ..] => {
+            let marks = marks(alloc, mark)?;
+            let mark = marks.first().ok_or(Refusal::NoRow)?;
+            told_added(alloc, seats.add_gated(mark)?)
+        }
+        ["gated_all", ref all @ ..] => {
+            told_added(alloc, seats.add_all_gated(&marks(alloc, all)?)?)
+        }
+        ["sum_up", text] => written(alloc, seats.sum_up(&span(alloc, text)?)?),
+        ["take_over", number] => told_added(alloc, seats.take_over(number.parse()?)?),
         ["snapshot", text] => written(alloc, seats.snapshot(&span(alloc, text)?)?),
         ["meet"] => written(alloc, seats.meet()),
         _ => Err(Refusal::NoRow),
@@ -86,8 +99,8 @@ fn answer<R: Wait>(seats: &mut Seats<'_, R>, words: &[&str]) -> Told<String> {
 }
 
 /// Whether a row holds: a call, and what it answers. Where that is refused memory nothing has
-/// changed, and the call is made once more.
-fn holds<R: Wait>(seats: &mut Seats<'_, R>, row: &str) -> Result<bool, Fail> {
+/// changed, and a call that may be made again is made once more.
+fn holds<R: Wait>(seats: &mut Seats<'_, R>, row: &str, may_again: bool) -> Result<bool, Fail> {
     let (call, wanted) = row.split_once(" = ").ok_or("no row")?;
     let mut words = Vec::new(seats.alloc);
     for word in call.split(' ') {
@@ -95,7 +108,7 @@ fn holds<R: Wait>(seats: &mut Seats<'_, R>, row: &str) -> Result<bool, Fail> {
     }
     let before = seats.seen();
     let mut told = answer(seats, &words);
-    if matches!(told, Err(Refusal::Memory)) && seats.seen() == before {
+    if may_again && matches!(told, Err(Refusal::Memory)) && seats.seen() == before {
         told = answer(seats, &words);
     }
     match told {
@@ -105,16 +118,25 @@ fn holds<R: Wait>(seats: &mut Seats<'_, R>, row: &str) -> Result<bool, Fail> {
     }
 }
 
-/// `scripts/refuse growth tests test_striped calls::` refuses each growth of it in turn.
-#[test]
-fn each_call_has_ample_memory(rt: HostRuntime) -> Result<(), Fail> {
-    let bounds = keys(rt.alloc(), "b d")?;
-    let mut seats = Seats::open(&rt, rt.alloc(), 8256, bounds)?;
+/// Makes all calls of the rows.
+fn make_calls<R: Wait + Abort>(rt: &R, alloc: Global, may_again: bool) -> Result<(), Fail> {
+    let mut seats = Seats::open(rt, alloc, 8256, keys(alloc, "b d")?)?;
     for row in CALLS.lines() {
-        assert!(rt; holds(&mut seats, row)?, "{row}");
+        assert!(rt; holds(&mut seats, row, may_again)?, "{row}");
     }
     assert_eq!(rt; seats.close()?, 3);
     Ok(())
+}
+
+#[test]
+fn each_call_has_ample_memory(rt: HostRuntime) -> Result<(), Fail> {
+    make_calls(&rt, rt.alloc(), false)
+}
+
+/// `scripts/refuse growth` refuses each growth of it in turn.
+#[test]
+fn each_call_can_be_made_again(rt: HostRuntime) -> Result<(), Fail> {
+    make_calls(&rt, rt.alloc(), true)
 }
 
 /// Whether an opening answers as a row says.

@@ -4,8 +4,9 @@ ghost use Rattle.std.specs.Prelude.{◌≡◌};
 use std::alloc::Global;
 use std::mem;
 use std::sync::Wait;
+use test_support::at;
 use test_support::rows::{Refusal, SpanBytes, Told, key, of_no_memory};
-use test_support::{again_told, at};
+use timestamp_cache::ReadSummary;
 use tsc_cache::{Added, Config, Figures, Mark};
 use tsc_span::{Key, Span, SpanRef};
 use tsc_striped::{
@@ -21,6 +22,8 @@ pub struct Seats<'a, R> {
     pub alloc: Global,
     /// How often a call tries, or `None` where it waits.
     pub tries: Option<u32>,
+    /// What the last `sum_up` told.
+    summaries: Vec<ReadSummary>,
     striped: StripedCache,
     dealer: Dealer,
     seat: Seat,
@@ -73,6 +76,7 @@ impl<'a, R: Wait> Seats<'a, R> {
             rt,
             alloc,
             tries: None,
+            summaries: Vec::new(alloc),
             striped,
             dealer,
             seat,
@@ -133,20 +137,21 @@ impl<'a, R: Wait> Seats<'a, R> {
         }
     }
 
-    /// Adds a mark by itself with a gate, and then all of them with it.
-    pub fn add_gated(&mut self, marks: &[Mark]) -> Told<Added> {
-        let (rt, striped, seat, now) = (self.rt, &self.striped, &mut self.seat, at(20, 0));
-        let one = marks.first().ok_or(Refusal::NoRow)?;
-        again_told!(
-            striped
-                .add_gated(rt, seat, &one.span, one.value, now, &NoGate)
-                .map_err(of_add)
-        )?;
-        let receipt = again_told!(
-            striped
-                .add_all_gated(rt, seat, marks, now, &NoGate)
-                .map_err(of_add)
-        )?;
+    /// Adds a mark with a gate.
+    pub fn add_gated(&mut self, mark: &Mark) -> Told<Added> {
+        let (striped, seat, now) = (&self.striped, &mut self.seat, at(20, 0));
+        let receipt = striped
+            .add_gated(self.rt, seat, &mark.span, mark.value, now, &NoGate)
+            .map_err(of_add)?;
+        Ok(self.turn(receipt))
+    }
+
+    /// Adds all of them with one gate.
+    pub fn add_all_gated(&mut self, marks: &[Mark]) -> Told<Added> {
+        let (striped, seat, now) = (&self.striped, &mut self.seat, at(20, 0));
+        let receipt = striped
+            .add_all_gated(self.rt, seat, marks, now, &NoGate)
+            .map_err(of_add)?;
         Ok(self.turn(receipt))
     }
 
@@ -179,16 +184,21 @@ impl<'a, R: Wait> Seats<'a, R> {
         }
     }
 
-    /// Summarizes a span, and applies each summary to the same cache. How many there were.
-    pub fn hand_over(&mut self, span: &Span) -> Told<usize> {
-        let (rt, striped, seat, now) = (self.rt, &self.striped, &mut self.seat, at(20, 0));
-        let told = again_told!(summary_in_stripes(rt, self.alloc, striped, seat, span, 9).map_err(
-            of_no_memory
-        ))?;
-        for one in &told {
-            again_told!(apply_in_stripes(rt, striped, seat, one, now).map_err(of_add))?;
-        }
-        Ok(told.len())
+    /// Keeps a summary of each stripe that a span touches, and tells how many there are.
+    pub fn sum_up(&mut self, span: &Span) -> Told<usize> {
+        let (rt, alloc, seat) = (self.rt, self.alloc, &mut self.seat);
+        self.summaries = summary_in_stripes(rt, alloc, &self.striped, seat, span, 9).map_err(
+            of_no_memory,
+        )?;
+        Ok(self.summaries.len())
+    }
+
+    /// Applies one of the summaries to the same cache.
+    pub fn take_over(&mut self, number: usize) -> Told<Added> {
+        let (striped, seat, now) = (&self.striped, &mut self.seat, at(20, 0));
+        let one = self.summaries.get(number).ok_or(Refusal::NoRow)?;
+        let receipt = apply_in_stripes(self.rt, striped, seat, one, now).map_err(of_add)?;
+        Ok(self.turn(receipt))
     }
 
     /// What can be seen of the cache: how many Adds the seat counts, and what all stripes, two of
