@@ -2,24 +2,28 @@
 
 #include <algorithm>
 #include <cstring>
+#include <iterator>
 #include <utility>
 
 namespace rocks_store {
 namespace {
 
-/// Puts what was written to some keys over their rows.
-void put_over(std::vector<Row> &rows, const Writes &writes, const Keys &keys)
+/// The rows of some keys with what was written to these put over them.
+std::vector<Row> with_own(std::vector<Row> rows, const Writes &writes, const Keys &keys)
 {
+    std::vector<Row> all;
+    auto row = rows.begin();
     for (auto own = writes.lower_bound(keys.from());
          own != writes.end() && keys.end_after(own->first); ++own) {
-        const auto &[key, value] = *own;
-        auto at = std::find_if(rows.begin(), rows.end(),
-                               [&key = key](const Row &row) { return key <= row.key; });
-        if (at != rows.end() && at->key == key)
-            at = rows.erase(at);
-        if (value)
-            rows.insert(at, {key, *value});
+        for (; row != rows.end() && row->key < own->first; ++row)
+            all.push_back(std::move(*row));
+        if (row != rows.end() && row->key == own->first)
+            ++row;
+        if (own->second)
+            all.push_back({own->first, *own->second});
     }
+    std::move(row, rows.end(), std::back_inserter(all));
+    return all;
 }
 
 } // namespace
@@ -27,7 +31,7 @@ void put_over(std::vector<Row> &rows, const Writes &writes, const Keys &keys)
 Database::Database(const Options &options)
     : form_(options.form), flaw_(options.flaw),
       versions_(options.folder, options.env, options.flaw != Flaw::NoSync),
-      crashed_at_(versions_.mark()), clock_(versions_)
+      crashed_at_(versions_.mark()), clock_(versions_), threshold_(versions_.threshold())
 {
     const auto bounds = versions_.bounds();
     for (std::size_t i = 0; i < bounds.size(); i++) {
@@ -57,8 +61,7 @@ std::optional<std::vector<Row>> Database::read(Transaction &by, const Keys &keys
     std::vector<Row> rows = versions_.rows(keys, by.at);
     remember(keys, {by.at, by.id});
     by.reads.push_back(keys);
-    put_over(rows, by.writes, keys);
-    return rows;
+    return with_own(std::move(rows), by.writes, keys);
 }
 
 /// The read is remembered by the lease of each range that it touches.
@@ -209,13 +212,12 @@ void Database::crash(const std::string &key)
 {
     const auto latches = hold_all();
     const std::size_t crashed = range_of(key)->second.holder;
-    holders_[crashed].clear();
-    for (auto &[from, range] : ranges_) {
-        if (range.holder != crashed)
-            continue;
+    for (const auto &[from, range] : ranges_)
+        if (range.holder == crashed)
+            open_lease({range.keys, other(crashed)}, low_water(clock_.mark()));
+    for (auto &[from, range] : ranges_)
         range.holder = other(crashed);
-        open_lease(range, low_water(clock_.mark()));
-    }
+    holders_[crashed].clear();
 }
 
 void Database::drop_before(Time threshold)
@@ -223,6 +225,7 @@ void Database::drop_before(Time threshold)
     {
         const auto latches = hold_all();
         threshold_ = std::max(threshold_, threshold);
+        versions_.set_threshold(threshold_); // which has to outlive what it drops
     }
     versions_.drop_before(threshold);
 }

@@ -13,7 +13,8 @@
 namespace rocks_store {
 
 /// A caller asks for all its latches at once, and waits for those alone who came before it and are
-/// in its way. So nobody waits in a circle, and nobody is overtaken for ever.
+/// in its way. So nobody waits in a circle, and nobody is overtaken for ever. Each latch is compared
+/// with each one before it, so a call of thousands of keys is better one of a span.
 class Latches {
 public:
     /// Keys that are read, which others may read too, or keys that are written.

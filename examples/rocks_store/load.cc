@@ -182,7 +182,7 @@ void disturb(Database &database, const Load &load, std::uint64_t seed,
         } else if (of_100 < 75) {
             database.crash(key);
         } else if (of_100 < 85) {
-            if (database.ranges() < 8)
+            if (database.ranges() < load.keys)
                 database.split(key);
         } else {
             Time threshold = database.now();
@@ -363,7 +363,8 @@ Settings settings_of(int count, char **words)
         else throw std::invalid_argument("unknown: " + word + ' ' + value);
     }
     const bool is_mix = to.mix == "list" || (to.mix.size() == 1 && to.mix >= "A" && to.mix <= "F");
-    if (to.store.folder.empty() || !is_mix || to.keys == 0 || to.threads == 0 || to.ranges == 0 ||
+    const bool are_keys = 0 < to.keys && to.keys <= MOST_KEYS;
+    if (to.store.folder.empty() || !is_mix || !are_keys || to.threads == 0 || to.ranges == 0 ||
         (to.distribution != "zipfian" && to.distribution != "uniform"))
         throw std::invalid_argument("a word is missing, or has no such value");
     return to;

@@ -23,6 +23,9 @@ struct Op {
 };
 using Plan = std::vector<Op>;
 
+/// Names of so many keys are in the order of their numbers, also behind those that are inserted.
+constexpr std::uint64_t MOST_KEYS = 10'000'000;
+
 inline std::string key_name(std::uint64_t number)
 {
     char name[32];

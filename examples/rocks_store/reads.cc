@@ -1,6 +1,7 @@
 #include "reads.hpp"
 
 #include <atomic>
+#include <ctime>
 #include <thread>
 #include <utility>
 
@@ -9,15 +10,25 @@ using tscache::Error;
 namespace rocks_store {
 namespace {
 
-/// Counts the time of its life.
+/// How much processor time this thread has had.
+std::chrono::nanoseconds processor_time()
+{
+    timespec time = {};
+    clock_gettime(CLOCK_THREAD_CPUTIME_ID, &time);
+    return std::chrono::seconds(time.tv_sec) + std::chrono::nanoseconds(time.tv_nsec);
+}
+
+/// Counts the processor time of its life.
 class Counted {
 public:
-    ~Counted() { time_in_cache += Clock::now() - begin_; }
+    ~Counted() { time_in_cache += processor_time() - begin_; }
 
 private:
-    using Clock = std::chrono::steady_clock;
-    Clock::time_point begin_ = Clock::now();
+    std::chrono::nanoseconds begin_ = processor_time();
 };
+
+std::atomic<std::size_t> threads = 0;
+thread_local const std::size_t number_of_thread = threads++;
 
 template <class Turns, class Call> auto in_turn(Turns &turns, Call call)
 {
@@ -37,9 +48,7 @@ template <class Call> auto Reads::ask(Call call)
     const Counted counted;
     if (seats_.empty())
         return in_turn(locked_, call);
-    static std::atomic<std::size_t> threads = 0;
-    thread_local const std::size_t number = threads++;
-    return in_turn(seats_[number % SEATS], call);
+    return in_turn(seats_[number_of_thread % SEATS], call);
 }
 
 Reads::Reads(Form form, Time low_water)
@@ -87,8 +96,7 @@ std::string Reads::summary(const Keys &keys)
 
 void Reads::apply(const std::string &summary, Time now)
 {
-    std::lock_guard<std::mutex> lock(locked_.turn);
-    locked_.cache.apply(summary, now).value();
+    in_turn(locked_, [&](auto &cache) { cache.apply(summary, now).value(); });
 }
 
 std::uint64_t Reads::memory()

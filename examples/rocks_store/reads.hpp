@@ -18,7 +18,7 @@ using tscache::Owner, tscache::Span, tscache::Time, tscache::Value;
 /// A cache that callers use in turns, or a shared one with seats.
 enum class Form { Locked, Seats };
 
-/// How long this thread has been in calls of caches, with the wait for its turn.
+/// How much processor time this thread has spent in calls of caches.
 inline thread_local std::chrono::nanoseconds time_in_cache{0};
 
 class Reads {

@@ -167,10 +167,28 @@ void opened_again(const Options &options)
     by.put("new", "1");
     const auto at = database.commit(by);
     expect(at && database.begin().at >= *at && *at > *last, "a late write is pushed");
-    database.drop_before(database.now());
-    Transaction early = database.begin();
-    early.at = *last;
-    expect(!database.read(early, Keys::one("kept")), "a time before the threshold");
+}
+
+/// A time before the threshold is refused, also by who opens the store later.
+void dropped_versions(const Options &options)
+{
+    Time early;
+    const auto is_refused = [&](Database &database) {
+        Transaction by = database.begin();
+        by.at = early;
+        return !database.read(by, Keys::one("kept"));
+    };
+    {
+        Database database(options);
+        put(database, "kept", "1");
+        early = database.now();
+        put(database, "kept", "2");
+        expect(!is_refused(database), "an early time");
+        database.drop_before(database.now());
+        expect(is_refused(database), "a time before the threshold");
+    }
+    Database database(options);
+    expect(is_refused(database), "a time before the threshold of another process");
 }
 
 } // namespace
@@ -206,6 +224,7 @@ int main(int count, char **words)
         a_write_after_a_move(fresh());
         own_writes(fresh());
         opened_again(fresh());
+        dropped_versions(fresh());
     }
     std::cout << passed << " passed, " << failed << " failed\n";
     return failed != 0;

@@ -10,12 +10,11 @@ using rocksdb::Slice;
 namespace rocks_store {
 namespace {
 
-/// The first byte of a key of RocksDB: what the store knows of itself, and versions.
-constexpr char MARK = 'm', BOUND = 'r', VERSION = 'v';
+/// The first byte of a key of RocksDB: a range, or a version. (Times of the store have others.)
+constexpr char BOUND = 'r', VERSION = 'v';
 /// The first byte of a version.
 constexpr char DELETED = 0, PRESENT = 1;
-/// The bytes of a time, and the last one.
-constexpr std::size_t TIME = 12;
+constexpr std::size_t TIME = 12; // bytes
 constexpr Time LAST = {UINT64_MAX >> 1, UINT32_MAX >> 1};
 
 void check(const rocksdb::Status &status)
@@ -198,17 +197,16 @@ void Versions::drop_before(Time threshold)
     check(db_->Write({}, &batch));
 }
 
-Time Versions::mark()
+Time Versions::time_at(char key)
 {
     std::string bytes;
-    const rocksdb::Status status = db_->Get({}, {&MARK, 1}, &bytes);
-    if (status.IsNotFound())
-        return {};
-    check(status);
-    return time_of(bytes);
+    const rocksdb::Status status = db_->Get({}, {&key, 1}, &bytes);
+    if (!status.IsNotFound())
+        check(status);
+    return status.ok() ? time_of(bytes) : Time{};
 }
 
-void Versions::set_mark(Time mark) { put_synced({MARK}, bytes_of(mark)); }
+void Versions::put_time(char key, Time time) { put_synced({key}, bytes_of(time)); }
 
 std::vector<std::string> Versions::bounds()
 {

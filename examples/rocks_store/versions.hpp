@@ -51,8 +51,12 @@ public:
     void drop_before(Time threshold);
 
     /// The time that the clock has last promised to stay below.
-    [[nodiscard]] Time mark();
-    void set_mark(Time mark);
+    [[nodiscard]] Time mark() { return time_at('m'); }
+    void set_mark(Time mark) { put_time('m', mark); }
+
+    /// The time before which versions may be gone.
+    [[nodiscard]] Time threshold() { return time_at('t'); }
+    void set_threshold(Time threshold) { put_time('t', threshold); }
 
     /// The first key of each range, in order.
     [[nodiscard]] std::vector<std::string> bounds();
@@ -67,6 +71,8 @@ private:
     /// Calls for the version of each key as of a time, until it is answered with false.
     void walk(const Keys &keys, Time at, const Each &each);
     std::unique_ptr<rocksdb::Iterator> iterator();
+    Time time_at(char key);
+    void put_time(char key, Time time);
     void put_synced(const std::string &key, const std::string &value);
 
     std::unique_ptr<rocksdb::DB> db_;

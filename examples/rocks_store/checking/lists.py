@@ -75,6 +75,22 @@ class Own:
         self.before, self.deleted, self.appended = None, False, []
 
 
+class Spans:
+    """When some transactions were under way."""
+
+    __slots__ = ("spans", "ends")
+
+    def __init__(self, transactions):
+        self.spans = sorted((by.begin, by.end) for by in transactions)
+        self.ends = [-math.inf]
+        for _, end in self.spans:
+            self.ends.append(max(self.ends[-1], end))
+
+    def has_one(self, begin, end):
+        """Returns whether one of them may have come between two moments."""
+        return self.ends[bisect_left(self.spans, (end,))] > begin
+
+
 class Findings:
     """How often each kind of fault was found, and the first ones of each."""
 
@@ -241,6 +257,8 @@ class History:
             self.check_reads(it)
         for key in self.keys.values():
             self.count_lists(key)
+            if key.deletes:
+                self.find_vanished(key)
         self.find_lost(places)
 
     def pass_over(self):
@@ -308,6 +326,23 @@ class History:
             text = f"{key.name} began {len(key.lists)} times with {len(key.deletes)} deletes"
             self.found("fork", text, *evidence)
 
+    def find_vanished(self, key):
+        """Looks for lists that a later transaction has not found, before any delete of them."""
+        absent = sorted((read.by for read in key.absent), key=lambda by: by.begin)
+        begins, soonest = [by.begin for by in absent], soonest_ends(absent)
+        deletes = Spans(it.by for it in key.deletes)
+        for it in key.lists:
+            owners = [by for by in it.owners if by and by.outcome == COMMITTED]
+            seen = min(owners + [read.by for read in it.reads], key=lambda by: by.end)
+            at = bisect_right(begins, seen.end)
+            born = it.owners[0].begin if it.owners[0] else -math.inf
+            if at == len(absent) or deletes.has_one(born, soonest[at].end):
+                continue
+            after = between(seen.end, soonest[at].begin)
+            text = f"{soonest[at]} read {key.name} as [], and nobody can have deleted its list"
+            evidence = f"{seen} knew {shown(it.values)}, and ended {after} before that began"
+            self.found("lost-write", text, evidence)
+
     def find_lost(self, places):
         """Looks for committed values that a transaction should have read, and nobody has."""
         unread, read = {}, self.forked.union(places)
@@ -323,16 +358,13 @@ class History:
         begins = [read.by.begin for read in reads]
         soonest = soonest_ends([read.by for read in reads])
         # A delete that did not read may have taken any value along.
-        blind = sorted((it.by.begin, it.by.end) for it in key.deletes if it.ended is None)
-        ends = [-math.inf]
-        for _, end in blind:
-            ends.append(max(ends[-1], end))
+        blind = Spans(it.by for it in key.deletes if it.ended is None)
         for value, by in values:
             at = bisect_right(begins, by.end)
             if at == len(reads):
                 continue
             reader = soonest[at]
-            if ends[bisect_left(blind, (reader.end,))] > by.begin:
+            if blind.has_one(by.begin, reader.end):
                 continue
             after = between(by.end, reader.begin)
             text = f"{by} appended {value} to {key.name} and committed, and no read holds it"

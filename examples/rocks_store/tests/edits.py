@@ -40,9 +40,17 @@ EDITS = [
     (
         "blind deletes lose nothing",
         LISTS,
-        "if ends[bisect_left(blind, (reader.end,))] > by.begin:",
+        "if blind.has_one(by.begin, reader.end):",
         "if 0:",
     ),
+    ("lists that vanish", LISTS, "if key.deletes:", "if 0:"),
+    (
+        "deletes end lists",
+        LISTS,
+        "at == len(absent) or deletes.has_one(born, soonest[at].end)",
+        "at == len(absent)",
+    ),
+    ("lists that began later do not vanish", LISTS, "bisect_right(begins, seen.end)", "0"),
     (
         "deletes that read lose nothing",
         LISTS,

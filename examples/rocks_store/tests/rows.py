@@ -362,6 +362,19 @@ an own delete is not read -> internal
     : x+1
     : x=1 x- x=1
 
+a list is gone before its delete [in real time] -> lost-write
+    1@0-1: x+1
+    2@2-3: x=1
+    3@5-6: x=
+    4@10-11: x-
+
+a delete without a read ends a list [in real time] -> nothing
+    1@0-1: x=
+    2@2-3: x+1
+    3@4-5: x=1
+    4@6-7: x-
+    5@8-9: x=
+
 a list is gone before it was deleted [in real time] -> G-single-realtime
     1@0-1: x= x+1
     2@10-30: x= y=

@@ -1,11 +1,10 @@
-"""Draws figures of speed, by the lines that `bench_cache` prints."""
+"""Draws the cost of each call on a page by its size, by the lines that `bench_cache` prints."""
 import math
 import re
 
 from parts.frame import text_at
 from parts.svg import Svg
 
-SHARED = re.compile(r"(\d+) nodes, shared by (\d+), (\d+) lookups of 100: (\d+) \((\d+) to (\d+)\) calls a second")
 COST = re.compile(r"(\d+) nodes, keys of 8 bytes, (.*): \d+ operations, (\d+) ns each")
 COSTS = ["lookup of a key", "lookup of the whole page", "add of a key", "add of a new key", "next with a key"]
 INKS = ["strong", "cool", "warm", "sand", "faint"]
@@ -34,9 +33,8 @@ class Plot:
         for value in self.xs:
             self.picture.text(self.x(value), top + height + 16, of_x(value), "faint", "middle", 10)
 
-    def curve(self, points, colour, dashed=False):
-        more = ' stroke-dasharray="5 3"' if dashed else ""
-        self.picture.path([(self.x(x), self.y(y)) for x, y in points], colour, 2, more)
+    def curve(self, points, colour):
+        self.picture.path([(self.x(x), self.y(y)) for x, y in points], colour, 2)
         for x, y in points:
             self.picture.dot(self.x(x), self.y(y), colour)
 
@@ -48,22 +46,6 @@ def labels(picture, x, points):
         y = y if below is None else max(y, below + 13)
         picture.text(x, y + 4, words, colour, size=11)
         below = y
-
-
-def draw_shared(picture, rows, left):
-    seats = sorted({row[1] for row in rows})
-    plot = Plot(picture, left, 52, 170, 220, seats, [3e5, 1e6, 3e6, 1e7, 2e7])
-    plot.scales(lambda it: f"{it}", lambda it: f"{it / 1e6:g}")
-    picture.text(left - 30, 18, "Millions of calls a second, by seats", "ink")
-    picture.text(left - 30, 34, "full: 1,024 keys; dashed: 65,536", "faint", size=11)
-    ends = []
-    for mix, colour in zip((100, 95, 50, 5), INKS):
-        for nodes, dashed in ((1024, False), (65536, True)):
-            points = [(row[1], row[3]) for row in rows if row[0] == nodes and row[2] == mix]
-            plot.curve(points, colour, dashed)
-            if not dashed:
-                ends.append((plot.y(points[-1][1]), f"{mix} of 100 lookups", colour))
-    labels(picture, left + 178, ends)
 
 
 def draw_costs(picture, rows, left):
@@ -80,11 +62,9 @@ def draw_costs(picture, rows, left):
 
 
 def draw_figures(told):
-    shared = [tuple(map(int, it)) for it in SHARED.findall(told)]
     costs = [(int(nodes), name, int(time)) for nodes, name, time in COST.findall(told)]
     picture = Svg()
-    draw_shared(picture, shared, 44)
-    draw_costs(picture, costs, 412)
+    draw_costs(picture, costs, 60)
     return picture.svg(300)
 
 

@@ -3,6 +3,7 @@
 The program of the tests is built without proofs, and the kit's compiler puts in what the sanitizer
 has to know: each access to memory, and each atomic step with its order. `gcc` links it with its own
 library. Each test has to end with no race reported, or to be ended after SECONDS with none so far.
+Most have to end by themselves.
 
 The same program is built once more with all atomic steps relaxed. There races have to be reported:
 so the sanitizer sees the accesses that the steps keep apart. It takes some minutes. --built names a
@@ -82,9 +83,12 @@ def run(cases, given):
         listed = outcome(f"{folder}/races", "--list")[1]
         tests = re.findall(r"^(.*): test$", listed, re.M)
         cases.expect("there are tests", len(tests) > 1)
+        ended = 0
         for test in tests:
             races, status = races_of(f"{folder}/races", test)
+            ended += status == 0
             end = "was ended" if status is None else f"status {status}"
             cases.expect(f"{test}: {races} races, {end}", races == 0 and not status)
+        cases.expect(f"most tests end: {ended} of {len(tests)}", ended > len(tests) / 2)
         races, _ = races_of(f"{folder}/races_relaxed", control)
         cases.expect(f"{control} with relaxed steps: {races} races", races > 0)

@@ -62,13 +62,13 @@ def built_store(cases, work, prefix):
     return found[0] if is_built else None
 
 
-def torture(cases, prefix, store):
+def torture(cases, work, prefix, store):
     """Runs the store with kills and with flaws, by the installed script."""
     words = [sys.executable, f"{prefix}/share/tscache/{STORE}/torture", "--store", store]
     cases.take("a store that is killed", outcome(*words, "--kills", "10", "--every", "4,7"), 12)
     cases.take("flaws that are found", outcome(*words, "--flaws"), 8)
     for kills in map(str, KILLS):
-        status, told = outcome(*words, "--kills", kills, "--flaw", "no-sync")
+        status, told = outcome(*words, "--work", f"{work}/kills-{kills}", "--kills", kills, "--flaw", "no-sync")
         if status:
             break
     got = status, told.rstrip().endswith(", 1 failed")
@@ -88,4 +88,4 @@ def run(cases, given):
         elif cases.has("cmake", "the store over RocksDB"):
             store = built_store(cases, work, installed(cases, work, given))
             if store:
-                torture(cases, f"{work}/prefix", store)
+                torture(cases, work, f"{work}/prefix", store)
