@@ -2,8 +2,8 @@
 
 - Each crate names each library that `crates.txt` says it stands on: where a source says `NAME::`, or
   a source or a proof `Rattle.NAME.`. Each crate of `crates/` has a line.
-- The table of the gate's time in docs/PROOFS.md has a row for each crate, in this order, with its
-  number of edits, and no other. `scripts/measure gate` writes it, with the day.
+- The table of the gate's time in docs/PROOFS.md has a row for each crate and no other.
+  `scripts/measure gate` writes it, with the day.
 - Each test that `scripts/tests.txt` names is there.
 """
 import os
@@ -11,7 +11,7 @@ import re
 
 from parts.frame import ROOT, text_of
 from parts.measure.gate import COLUMNS, measured
-from parts.repository import crates, edits_of, files, named, rows_of, text_or_none
+from parts.repository import crates, files, named, rows_of, text_or_none
 
 # A test as `path::to::name`, with what stands behind it in a row.
 TEST = re.compile(r"((?:\w+::)+)(\w+)[+=#/\d]*")
@@ -52,12 +52,6 @@ def run(cases, _):
         cases.expect(f"docs/PROOFS.md has no time of {crate}: call scripts/measure gate", crate in in_table)
     for crate in in_table:
         cases.expect(f"docs/PROOFS.md has a time of {crate}, which is no crate", crate in known)
-    cases.expect("the table of docs/PROOFS.md is not in the order of crates.txt", in_table == list(known))
-    for crate, *_, edits, _ in rows:
-        name = crate.strip("`")
-        if name in known:
-            is_so = edits == str(len(edits_of(name)))
-            cases.expect(f"docs/PROOFS.md counts {edits} edits of {name}: call scripts/measure gate", is_so)
     cases.expect("docs/PROOFS.md doesn't say when the gate was measured", measured(text) is not None)
 
     for crate, file, function in cases.looked_at(list(tests()), "tests that scripts name"):

@@ -7,6 +7,8 @@ edits follows, with the processor seconds of each.
 
 Where the command is `rt ci --anew` and ends well, the table takes the place of the one between the
 marks of docs/PROOFS.md, with the day and the commit; --into names another file, and --no-write none.
+With --table the table goes to a file alone, and what the command prints stays as it is: so the gate
+watches its own run.
 
 Four times a second it looks at the processes below the command, of which one belongs to a crate by
 its words and to an edit by its folder. What a process spends after the last look is in no column but
@@ -19,13 +21,14 @@ import os
 import re
 import resource
 import shutil
+import signal
 import subprocess
 import sys
 import threading
 import time
 from collections import namedtuple
 
-from parts.frame import MISSING, ROOT, Fault, needs_rt, outcome, say
+from parts.frame import MISSING, ROOT, Fault, needs_rt, outcome, say, write
 from parts.repository import crates, edits_of
 
 TICK = os.sysconf("SC_CLK_TCK")
@@ -187,6 +190,7 @@ def arguments(parser):
     parser.add_argument("--edits", action="store_true", help="list the edits too")
     parser.add_argument("--into", default=f"{ROOT}/docs/PROOFS.md", metavar="FILE", help="where the table is put")
     parser.add_argument("--no-write", action="store_true", help="print the table alone")
+    parser.add_argument("--table", metavar="FILE", help="put the table there alone, and pass on what is printed")
     parser.add_argument("command", nargs=argparse.REMAINDER, help="what is measured")
 
 
@@ -197,7 +201,9 @@ def main(given):
         raise Fault(f"the command {words[0]} is not on the PATH", MISSING)
     say(f"watching {' '.join(words)}")
     begun, taken = time.monotonic(), stolen()
-    started = subprocess.Popen(words, cwd=ROOT, stdin=subprocess.DEVNULL, stdout=sys.stderr)
+    to = None if given.table else sys.stderr
+    started = subprocess.Popen(words, cwd=ROOT, stdin=subprocess.DEVNULL, stdout=to)
+    signal.signal(signal.SIGTERM, lambda *_: started.terminate())
     seen, ended = {}, threading.Event()
     watcher = threading.Thread(target=watch, args=(started.pid, seen, ended))
     watcher.start()
@@ -217,8 +223,12 @@ def main(given):
         "",
         *table(seen),
     ]
-    print("\n".join([*lines, "", f"Minutes that the host took for others: {lost}."]))
-    print(*([""] + list(edit_lines(seen)) if given.edits else []), sep="\n")
+    lines_of_edits = ["", *edit_lines(seen)] if given.edits else []
+    told = "\n".join([*lines, "", f"Minutes that the host took for others: {lost}.", *lines_of_edits])
+    if given.table:
+        write(given.table, f"{told}\n")
+        return status
+    print(told)
     if not status and {"ci", "--anew"} <= set(words) and not given.no_write:
         put_into(given.into, lines)
     return status

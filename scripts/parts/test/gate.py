@@ -16,9 +16,9 @@ from parts.draw.documents import drawn
 from parts.frame import ROOT, Cases, command_of, outcome, temporary, text_of, write
 from parts.test.library import DROPPED
 
-# The parts of the gate, in their order. `rt` stands on the PATH, and the others in `scripts/`.
+# The parts of the gate, in their order, which stand in `scripts/`. The first one runs `rt ci`.
 PARTS = [
-    "rt ci", "check all", "test gate", "test launcher", "test first-answer", "test program",
+    "measure gate", "check all", "test gate", "test launcher", "test first-answer", "test program",
     "refuse thread", "refuse growth", "refuse stop", "refuse handle", "test examples",
     "measure steps", "test library", "test release", "test store",
 ]
@@ -313,7 +313,7 @@ class Gate:
         shutil.rmtree(self.room, ignore_errors=True)
         command_of(f"{root}/.ci/run", text_of(".ci/run"))
         command_of(f"{path}/rt", PART)
-        for kind in {it.split()[0] for it in PARTS[1:]} | {"build"}:
+        for kind in {it.split()[0] for it in PARTS} | {"build"}:
             command_of(f"{root}/scripts/{kind}", PART)
         for tool in OWN_TOOLS:
             os.symlink(shutil.which(tool), f"{path}/{tool}")
@@ -347,11 +347,11 @@ def try_gate(cases, room):
     not_run = "not run: the package for Go: go is missing"
     lines, status, _ = gate.run("test library", f"echo '{not_run}'\n")
     cases.expect("what is not run is named at the end", (lines[-2:], status), ([not_run, well], 0))
-    for part, fault in (("rt ci", "rt: FAILED: tsc_page"), ("check all", "FAILED: a link: False")):
+    for part, fault in (("measure gate", "rt: FAILED: tsc_page"), ("check all", "FAILED: a link: False")):
         lines, *_ = gate.run(part, f"echo '{fault}'\necho '3 passed, 1 failed'\nexit 1\n")
         cases.expect(f"what failed in {part} is named at the end", lines[-2].removeprefix("scripts/"), f"{part}: {fault}")
     for part in PARTS:
-        for what, (text, (passed, failed)) in list(ENDS.items())[: len(ENDS) if part == "rt ci" else 2]:
+        for what, (text, (passed, failed)) in list(ENDS.items())[: len(ENDS) if part == "measure gate" else 2]:
             lines, *others = gate.run(part, text)
             wanted = [f"{ALL * (len(PARTS) - 1) + passed} passed, {failed} failed", 1, PARTS]
             cases.expect(f"{part} ends with {what}", [lines[-1], *others], wanted)
