@@ -327,16 +327,19 @@ class History:
             self.found("fork", text, *evidence)
 
     def find_vanished(self, key):
-        """Looks for lists that a later transaction has not found, before any delete of them."""
+        """Looks for lists that were not found, then nor later, before any delete of them."""
         absent = sorted((read.by for read in key.absent), key=lambda by: by.begin)
         begins, soonest = [by.begin for by in absent], soonest_ends(absent)
         deletes = Spans(it.by for it in key.deletes)
         for it in key.lists:
             owners = [by for by in it.owners if by and by.outcome == COMMITTED]
-            seen = min(owners + [read.by for read in it.reads], key=lambda by: by.end)
+            who = owners + [read.by for read in it.reads]
+            seen = min(who, key=lambda by: by.end)
             at = bisect_right(begins, seen.end)
+            if at == len(absent) or max(by.begin for by in who) > soonest[at].end:
+                continue
             born = it.owners[0].begin if it.owners[0] else -math.inf
-            if at == len(absent) or deletes.has_one(born, soonest[at].end):
+            if deletes.has_one(born, soonest[at].end):
                 continue
             after = between(seen.end, soonest[at].begin)
             text = f"{soonest[at]} read {key.name} as [], and nobody can have deleted its list"

@@ -47,10 +47,16 @@ EDITS = [
     (
         "deletes end lists",
         LISTS,
-        "at == len(absent) or deletes.has_one(born, soonest[at].end)",
-        "at == len(absent)",
+        "if deletes.has_one(born, soonest[at].end):",
+        "if 0:",
     ),
     ("lists that began later do not vanish", LISTS, "bisect_right(begins, seen.end)", "0"),
+    (
+        "lists that come back do not vanish",
+        LISTS,
+        "at == len(absent) or max(by.begin for by in who) > soonest[at].end",
+        "at == len(absent)",
+    ),
     (
         "deletes that read lose nothing",
         LISTS,
