@@ -417,12 +417,14 @@ uint32_t tsc_seat_summary(tsc_store *store, uint64_t seat, const void *from, siz
                           const void *to, size_t to_len, uint32_t ends, size_t most,
                           uint64_t *seen, void *out, size_t room, size_t *len);
 
-/* Hands in a seat. Its handle names nothing from then on. */
+/* Hands in a seat. Its handle names nothing from then on. If the cache lies where both were opened,
+ * it knows the seat as it was. */
 uint32_t tsc_seat_close(tsc_store *store, uint64_t seat);
 
-/* Closes a shared cache where all its seats were handed in, and writes how many Adds it had. Else
- * it is refused by TSC_STILL_OUT and stays as it is; so it is too where a call that hands in the
- * last seat has not returned yet. */
+/* Closes a shared cache where all its seats were handed in, and writes how many Adds it had: as
+ * many as its seats counted. The seats that it knows are among these, as they were. Else the call
+ * is refused by TSC_STILL_OUT, and the cache stays as it is. So it is too while a call that hands
+ * in the last seat has not returned yet. That it closes once all have, is tested and not proved. */
 uint32_t tsc_close_shared(tsc_store *store, uint64_t handle, uint64_t *length);
 
 /* Recorded traces, from bytes to bytes. These two calls take no store, and threads may make them

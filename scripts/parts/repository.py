@@ -7,9 +7,10 @@ import re
 
 from parts.frame import ROOT, text_of
 
-# The crates whose public calls have examples, and an example: where it stands, what it is called
-# after, and whether it stands before the others.
-EXAMPLE_CRATES = ["timestamp_cache", "mvcc_range"]
+# The crates whose public calls have examples, what examples name besides, and an example: where it
+# stands, what it is called after, and whether it stands before the others.
+EXAMPLE_CRATES = ["timestamp_cache", "mvcc_range", "tsc_striped_leases"]
+EXAMPLE_LIBRARIES = ["tsc_striped"]
 Example = collections.namedtuple("Example", "path line name text is_head")
 
 

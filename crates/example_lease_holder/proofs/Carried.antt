@@ -14,6 +14,7 @@ use Rattle.tsc_shared.specs.declared.answers.Answer.{Answer}
 use Rattle.tsc_shared.specs.Answers.{Accepts, Learns, Meets, AnswersLookup, entry_by}
 use Rattle.timestamp_cache.specs.Words.{Time, Owner, OwnedTime, History, BeginsWith, SeatView, FrontView}
 use Rattle.timestamp_cache.specs.Clear.{IsClearOf, IsClearOfReads, AsksEarliestAt}
+use Rattle.timestamp_cache.specs.SeatKinds.{shared_seat}
 use Rattle.timestamp_cache.proofs.Deciding.{clear_or_not}
 use Rattle.example_lease_holder.specs.Reads.{HasRead, IsClearFor, since}
 use Rattle.example_lease_holder.proofs.Since.{since_rest}
@@ -148,7 +149,7 @@ one_more xs ys zs x y is same own = is ∙ ap (λ (l : List OwnedTime). l ++ x �
 -- has seen.
 pub clear_of_handed : (span own : Interval) (handed : History) (old new : SeatView) (by : Owner)
     (from : Time) (told : Option Time) (reads : List OwnedTime)
-    → own ≡ span → BeginsWith old.seen handed → AsksEarliestAt old new own by from told →
+    → own ≡ span → BeginsWith old.seen handed → AsksEarliestAt shared_seat old new own by from told →
     All (HasRead span handed) reads → IfSome told (λ at. IsClearFor reads new.seen span by at)
 clear_of_handed span own handed old new by from None reads same begins asks all = tt
 clear_of_handed span own handed old new by from (Some at) reads same begins asks all =

@@ -8,6 +8,7 @@ ghost use Rattle.std.specs.Str.{bytes_eq};
 ghost use Rattle.std.specs.Sync.Mutex.{mutex_guard_value};
 ghost use Rattle.timestamp_cache.specs.Words.{zero_time, is_before, point, overlaps, look, state_of, BeginsWith};
 ghost use Rattle.timestamp_cache.specs.Clear.{IsClearOf, IsClearOfReads, AsksEarliestAt};
+ghost use Rattle.timestamp_cache.specs.SeatKinds.{shared_seat};
 ghost use Rattle.timestamp_cache.specs.Earliest.{TellsEarliest};
 ghost use Rattle.example_lease_holder.specs.Reads.{HasRead, IsClearFor, read_of, since};
 ghost use Rattle.example_lease_holder.specs.Versions.{value_at, written};
@@ -291,7 +292,8 @@ impl<G: Range> Lease<G> {
         wanted: Timestamp,
         by: Uuid,
     ) -> Option<Timestamp>
-        ensures { AsksEarliestAt me.old.seat me.new.seat held.now.span by wanted result }
+        ensures { AsksEarliestAt shared_seat me.old.seat me.new.seat held.now.span by wanted
+            result }
     {
         let spans = slice::from_ref(&held.span);
         let Ok(told) = earliest_write_at(&self.cache, &mut me.seat, spans, wanted, by) else {

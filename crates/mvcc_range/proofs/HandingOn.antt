@@ -39,7 +39,7 @@ taken old made new span config most told now sums opened stands learns =
           ((learns config (opening config) opened).learned (point k) within));
     }
 
-never_refused : {U E : Type 0} (r : Result U E) (u : U) (e : E) → r ≡ Ok u → r ≡ Err e → ⊥
+pub never_refused : {U E : Type 0} (r : Result U E) (u : U) (e : E) → r ≡ Ok u → r ≡ Err e → ⊥
 never_refused r u e is was = cc
 
 -- no success is a refusal, whatever it returns

@@ -1,6 +1,7 @@
 -- What the calls on a range answer.
 use Rattle.std.specs.Prelude.{◌≡◌, ◌↔◌, ℕ, List, ◌∷◌, [], ◌++◌, None, false}
-use Rattle.timestamp_cache.specs.Words.{Time, Interval, Settings, CacheView}
+use Rattle.timestamp_cache.specs.Words.{Time, Interval, Settings, CacheView, RepresentsState}
+use Rattle.tsc_cache.specs.State.{opening, step_all}
 use Rattle.timestamp_cache.specs.Earliest.{IsEarliest, TellsEarliest}
 use Rattle.timestamp_cache.specs.HandOver.{Summary, Summarizes, marks_told}
 use Rattle.tsc_cache.specs.Batch.{all_fit}
@@ -9,7 +10,7 @@ use Rattle.mvcc_range.specs.declared.range.Outcome.TheVariants.{Committed, Resta
 use Rattle.mvcc_range.specs.declared.range.Reason.TheVariants.{Changed, NoTime}
 use Rattle.mvcc_versions.specs.Versions.{Read, Row, as_of, Matches}
 use Rattle.mvcc_range.specs.Serial.{Transaction, executed, moved}
-use Rattle.mvcc_range.specs.Steps.{RangeView, Answers, IsFree, MayCommit, Commits}
+use Rattle.mvcc_range.specs.Steps.{RangeView, Answers, IsFree, MayCommit, Commits, HandsOn}
 
 -- A transaction reads a span: that is answered as of its time, and is the last of its reads then.
 pub record Reads (old new : RangeView) (before after : Transaction) (span : Interval)
@@ -32,6 +33,22 @@ pub record TellsTooLarge (cache : CacheView) (span : Interval) (config : Setting
   pub summary : Summary
   pub summarizes : Summarizes cache span most summary
   pub exact : told ↔ (all_fit config (marks_told summary) ≡ false)
+
+-- A new cache has taken over what a summary of another one tells of a span, in at most `most`
+-- marks: its state is that of its opening, to which the summary's marks were added at a moment.
+pub record AddsSummary (settings : Settings) (most : ℕ) (now : Time) (span : Interval)
+    (old new : CacheView) : Type 0 where
+  pub summary : Summary
+  pub summarizes : Summarizes old span most summary
+  pub stands : RepresentsState new settings
+      (step_all settings (opening settings) (marks_told summary) now).state
+
+-- A range is handed on to a new lease, whose cache has taken over what a summary of the old one
+-- tells of the range's span.
+pub record HandsOnBy (settings : Settings) (most : ℕ) (now : Time) (old new : RangeView)
+    : Type 0 where
+  pub hands_on : HandsOn settings old new
+  pub summed : AddsSummary settings most now old.span old.cache new.cache
 
 -- A transaction is to commit at the earliest time, from the one on at which it reads, that is free
 -- for its writes. It commits then, or where it may not, nothing changes.

@@ -37,13 +37,12 @@ ghost use Rattle.mvcc_range.specs.Steps.{
   Answers,
   IsFree,
   IsFreeOf,
-  HandsOn,
   Collects,
   LaysDown,
   TakesOver,
 };
 ghost use Rattle.mvcc_versions.specs.Maps.{nodes_of};
-ghost use Rattle.mvcc_range.specs.Calls.{Reads, SeesOwn, TellsTooLarge, Ends};
+ghost use Rattle.mvcc_range.specs.Calls.{Reads, SeesOwn, TellsTooLarge, HandsOnBy, AddsSummary, Ends};
 
 use crate::{RangeError, Read, Row, Transaction, Write};
 use mvcc_versions::{Version, VersionMap, rows_after};
@@ -210,7 +209,7 @@ impl Range {
     /// assert!(rt; range.commit(&two, at(31))? != Outcome::Committed(at(15)));
     /// ```
     pub fn hand_on(&mut self, config: Config, most: usize, now: Timestamp) -> Result<(), CacheFault>
-        ensures ok { OnOk result (HandsOn config self.old self.new) }
+        ensures ok { OnOk result (HandsOnBy config most now self.old self.new) }
         ensures err { OnErr result (self.new ≡ self.old) }
         ensures too_large { IsErrOf result CacheFault.NoMemory
             ⊎ TellsTooLarge self.old.cache self.old.span config most
@@ -279,8 +278,15 @@ impl Range {
     }
 
     /// Whether a transaction's writes are the range's, its time is not too early, and its reads can
-    /// be remembered.
-    fn check_commit(&self, transaction: &Transaction) -> Result<(), RangeError>
+    /// be remembered. A commit is refused for the same reason, or for want of memory.
+    ///
+    /// ```
+    /// let mut range = new_range(alloc)?;
+    /// range.collect_garbage(at(50));
+    /// let early = range.check_commit(&begin(alloc, 49, 'A')).err();
+    /// assert_eq!(rt; early, Some(RangeError::TooEarly));
+    /// ```
+    pub fn check_commit(&self, transaction: &Transaction) -> Result<(), RangeError>
         ensures ok { OnOk result ((are_within transaction.now.writes self.now.span ≡ true)
             × (is_before transaction.now.at self.now.threshold ≡ false)
             × (reads_fit self.now.cache.settings transaction.now.reads ≡ true)) }
@@ -512,6 +518,7 @@ fn taken_over(
     now: Timestamp,
 ) -> Result<Cache, CacheFault>
     ensures ok { IfOk result (λ next. TakesOver config span.now cache.now next) }
+    ensures summed { IfOk result (λ next. AddsSummary config most now span.now cache.now next) }
     ensures too_large { IsErrOf result CacheFault.NoMemory
         ⊎ TellsTooLarge cache.now span.now config most (IsErrOf result CacheFault.TooLarge) }
 {

@@ -6,7 +6,7 @@ use Rattle.std.proofs.lemmas.List.{length-append, length_push}
 use Rattle.atomic_table.specs.Seated.{TableId}
 use Rattle.mvcc_range.specs.Steps.{IsOpened}
 use Rattle.mvcc_shared.specs.declared.table.ClientState.{ClientState}
-use Rattle.mvcc_shared.specs.History.{Terms, IsLegal}
+use Rattle.mvcc_shared.specs.History.{Terms}
 use Rattle.mvcc_shared.specs.Rule.{at_rest, keeping, fresh_states}
 use Rattle.mvcc_shared.specs.Steps.{At, resting, first_state, other_states, number_of, seen_of}
 use Rattle.mvcc_shared.specs.Participating.{Participant, IsAtRest, IsOf, IsSized, KeepsStates}

@@ -1,7 +1,7 @@
 -- The end: when one participant keeps the states of all clients, and none of them holds the lock.
-use Rattle.std.proofs.Common.{◌≡◌, ◌≢◌, ◌∙◌, inl, inr, refl, sym, ap, subst, Bool, true, false, ℕ}
-use Rattle.std.proofs.Common.{zero, suc, ◌+◌, ◌<◌, List, [], ◌∷◌, length, arith, slice_index}
-use Rattle.std.specs.Prelude.{◌==◌, nat_lt}
+use Rattle.std.proofs.Common.{◌≡◌, ◌≢◌, ◌∙◌, inl, inr, refl, sym, ap, subst, ℕ}
+use Rattle.std.proofs.Common.{suc, ◌<◌, List, [], ◌∷◌, length, arith, slice_index}
+use Rattle.std.specs.Prelude.{◌==◌}
 use Rattle.std.specs.List.{sum_by}
 use mathlib.Core.Option as maybe
 use mathlib.Core.Option.{some-injective}
@@ -16,7 +16,7 @@ use Rattle.mvcc_shared.specs.History.{Terms}
 use Rattle.mvcc_shared.specs.Rule.{Laid, RangeRule, IsAfter, one_if, states_in, states_of, holders}
 use Rattle.mvcc_shared.specs.Participating.{IsEnd}
 use Rattle.mvcc_shared.proofs.Totals.{part, two_parts}
-use Rattle.mvcc_shared.proofs.Moves.{Board, same_or_not, at_most_one}
+use Rattle.mvcc_shared.proofs.Moves.{Board, same_or_not}
 
 -- If a sum is not 0, some part is not.
 some_part : {X : Type 0} (f : X → ℕ) (xs : List X) → sum_by f xs ≢ 0 → (i : ℕ) × (x : X)

@@ -1,5 +1,5 @@
 -- The end of a range, when all its clients have come together.
-use Rattle.std.proofs.Common.{◌≡◌, ◌≢◌, ◌⊎◌, ◌∙◌, refl, sym, ap, subst, ℕ, zero, suc, ◌+◌, ◌-◌, ◌<◌}
+use Rattle.std.proofs.Common.{◌≡◌, ◌⊎◌, ◌∙◌, refl, sym, ap, subst, ℕ, zero, suc, ◌+◌, ◌-◌, ◌<◌}
 use Rattle.std.proofs.Common.{◌≤◌, List, [], ◌∷◌, ◌++◌, length, map, arith, inl, inr, Bool, true, false}
 use Rattle.std.specs.Prelude.{slice_index_or, count_by, ◌==◌, nat_lt}
 use Rattle.std.specs.List.{sum_by}
@@ -14,14 +14,13 @@ use Rattle.mvcc_shared.specs.declared.served.Served.{Served}
 use Rattle.mvcc_shared.specs.declared.answers.Closed.{Closed}
 use Rattle.mvcc_shared.specs.declared.table.ClientState.{ClientState}
 use Rattle.mvcc_shared.specs.declared.table.Knowledge.{Knowledge}
-use Rattle.mvcc_shared.specs.History.{Event, History, Terms, Follows, calls_of, range_after, log_of}
+use Rattle.mvcc_shared.specs.History.{History, Terms, Follows, calls_of, range_after, log_of}
 use Rattle.mvcc_shared.specs.Rule.{at_rest, one_if, keeping, fresh_states, holders, StateFits}
 use Rattle.mvcc_shared.specs.Steps.{At}
 use Rattle.mvcc_shared.specs.Participating.{IsEnd}
 use Rattle.mvcc_shared.specs.Clients.{DealerView, ClientView}
 use Rattle.mvcc_shared.specs.Keeping.{state_of_client}
 use Rattle.mvcc_shared.specs.Answers.{Closes}
-use Rattle.mvcc_shared.proofs.Histories.{calls_append}
 use Rattle.mvcc_shared.proofs.Moves.{other_number}
 use Rattle.mvcc_shared.proofs.Running.{is_serializable}
 use Rattle.mvcc_shared.proofs.Openings.{fresh_before, fresh_hold_none, fresh_length}

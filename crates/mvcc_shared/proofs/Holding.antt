@@ -1,5 +1,5 @@
 -- A client acquires the lock, and releases it.
-use Rattle.std.proofs.Common.{◌≡◌, ◌≢◌, ◌∙◌, inl, inr, refl, sym, ap, subst, ℕ, suc, ◌+◌, ◌<◌}
+use Rattle.std.proofs.Common.{◌≡◌, ◌≢◌, ◌∙◌, inl, inr, refl, sym, ap, subst, ℕ, ◌+◌, ◌<◌}
 use Rattle.std.proofs.Common.{List, [], ◌∷◌, ◌++◌, length, set, arith, slice_index, length-set}
 use Rattle.std.proofs.Common.{true, false, get_or-set_same}
 use Rattle.std.specs.Prelude.{Bool, ◌==◌, nat_lt}
@@ -20,43 +20,9 @@ use Rattle.atomic_table.specs.Table.{
 use Rattle.atomic_table.specs.Table.{Allows, Valid, stepped, carried_after, rest}
 use Rattle.mvcc_shared.specs.declared.table.ClientState.{ClientState}
 use Rattle.mvcc_shared.specs.declared.table.Knowledge.{Knowledge}
-use Rattle.mvcc_shared.specs.History.{
-  Event,
-  History,
-  Terms,
-  IsLegal,
-  Makes,
-  range_after,
-  log_of,
-  entries_of,
-  calls_of,
-}
-use Rattle.mvcc_shared.specs.Pending.{call_of}
-use Rattle.mvcc_shared.specs.Rule.{
-  Laid,
-  at_rest,
-  keeping,
-  one_if,
-  states_of,
-  holders,
-  StateFits,
-  KnowledgeFits,
-  RangeRule,
-  IsAfter,
-  IsHome,
-}
-use Rattle.mvcc_shared.specs.Steps.{
-  At,
-  number_of,
-  seen_of,
-  resting,
-  holding,
-  event_by,
-  seen_after,
-  Acquires,
-  acquires,
-  releases,
-}
+use Rattle.mvcc_shared.specs.History.{Event, History, Terms, IsLegal, Makes, range_after, log_of, entries_of}
+use Rattle.mvcc_shared.specs.Rule.{Laid, at_rest, one_if, states_of, holders, KnowledgeFits, RangeRule, IsAfter}
+use Rattle.mvcc_shared.specs.Steps.{At, number_of, seen_of, resting, holding, event_by, seen_after, acquires, releases}
 use Rattle.mvcc_shared.specs.Participating.{IsAtRest, CanRelease}
 use Rattle.mvcc_shared.proofs.Histories.{
   begins_itself,

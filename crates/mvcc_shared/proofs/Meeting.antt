@@ -2,13 +2,13 @@
 use Rattle.std.proofs.Common.{◌≡◌, ◌∙◌, inl, inr, refl, sym, ap, subst, true, false, List, [], ◌∷◌}
 use Rattle.std.proofs.Common.{◌++◌, append_assoc, None, if◌then◌else◌, Bool}
 use Rattle.std.specs.Prelude.{reverse}
-use Rattle.std.specs.List.{AllByRecursion, Contains}
+use Rattle.std.specs.List.{AllByRecursion}
 use Rattle.std.specs.Str.{bytes_eq}
 use Rattle.std.proofs.lemmas.Bool.{cases_Bool, both_ways}
 use Rattle.std.proofs.lemmas.List.{reverse-append}
 use Rattle.tsc_time.proofs.Members.{IsIn, IsIn-from_Contains}
 use Rattle.timestamp_cache.specs.Words.{KeyBytes}
-use Rattle.mvcc_versions.specs.Versions.{Content, Contents, Write, Read, Matches, row_of, is_written}
+use Rattle.mvcc_versions.specs.Versions.{Content, Contents, Write, Read, Matches, is_written}
 use Rattle.mvcc_versions.specs.Versions.{after_writes}
 use Rattle.mvcc_range.specs.Serial.{
   Transaction,
@@ -19,7 +19,7 @@ use Rattle.mvcc_range.specs.Serial.{
   moved,
   serial_order,
 }
-use Rattle.mvcc_shared.specs.History.{Event, History, BeginsWith, log_of, entries_of}
+use Rattle.mvcc_shared.specs.History.{Event, History, log_of, entries_of}
 use Rattle.mvcc_shared.specs.Laws.{Precedes, StrictForThoseWhoMeet, LeavesAlone, NoWriteSkew}
 use Rattle.mvcc_shared.proofs.Histories.{log_append, log_push}
 use Rattle.mvcc_shared.proofs.Lawful.{strict_by_times}

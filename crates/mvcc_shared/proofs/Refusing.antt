@@ -1,13 +1,69 @@
--- A commit that is not refused.
-use Rattle.std.proofs.Common.{ap, refl, true, false}
-use Rattle.std.specs.Prelude.{◌↔◌, Bool, Result, Ok, Err, IsErrOf}
+-- Why a commit is refused, and why it isn't.
+use Rattle.std.proofs.Common.{◌≡◌, ◌∙◌, ap, refl, sym, true, false, true≢false}
+use Rattle.std.specs.Prelude.{◌↔◌, ◌&&◌, not, Bool, Result, Ok, Err, IsErrOf}
 use Rattle.std.proofs.lemmas.Bool.{both_ways}
+use Rattle.timestamp_cache.specs.Words.{is_before}
+use Rattle.mvcc_versions.specs.Versions.{are_within}
+use Rattle.mvcc_range.specs.declared.error.RangeError.{RangeError}
+use Rattle.mvcc_range.specs.declared.error.RangeError.TheVariants.{OutOfRange, TooEarly, TooLarge, NoMemory}
+use Rattle.mvcc_range.specs.Serial.{Transaction}
+use Rattle.mvcc_range.specs.Steps.{RangeView, reads_fit}
+use Rattle.mvcc_shared.specs.Answers.{TellsRefused}
 
 abbrev is_ok : {T E : Type 0} → Result T E → Bool
 is_ok (Ok y) = true
 is_ok (Err f) = false
 
--- It tells of an error that it isn't refused as that.
+-- What is not refused tells of an error that it isn't refused as that.
 module _ {T E A : Type 0} (x : T) (e : E) where
   pub still_not : (IsErrOf {T = T} {E = E} (Ok x) e ↔ A) → ⊥ ↔ A
   still_not told = ((λ none. absurd none), (λ a. both_ways true (ap is_ok (told.1 a)) refl))
+
+-- ---- a refused one
+
+abbrev is_memory : RangeError → Bool
+is_memory NoMemory = true
+is_memory other = false
+
+neither : {X A : Type 0} → (X → ⊥) → (A → ⊥) → X ↔ A
+neither never none = ((λ x. absurd (never x)), (λ a. absurd (none a)))
+
+not_both : (a b : Bool) → b ≡ false → (a && b) ≡ true → ⊥
+not_both true b low both = true≢false (sym both ∙ low)
+not_both false b low both = true≢false (sym both)
+
+-- what may be committed is refused for want of memory alone
+pub only_memory : (range : RangeView) (t back : Transaction)
+    → are_within t.writes range.span ≡ true → is_before t.at range.threshold ≡ false
+    → reads_fit range.cache.settings t.reads ≡ true
+    → TellsRefused range t (Err (record { error = NoMemory; transaction = back }))
+only_memory range t back within early fit = record {
+  out_of_range = neither (λ e. true≢false (ap is_memory e)) (λ out. true≢false (sym within ∙ out));
+  too_early = neither (λ e. true≢false (ap is_memory e)) (not_both _ _ early);
+  too_large = neither (λ e. true≢false (ap is_memory e)) (not_both _ _ (ap not fit));
+}
+
+error_or : {T : Type 0} → RangeError → Result T RangeError → RangeError
+error_or d (Ok y) = d
+error_or d (Err e) = e
+
+-- why a call was refused is why the commit is
+module _ {T A : Type 0} (error x : RangeError) where
+  as_told : (IsErrOf {T = T} {E = RangeError} (Err error) x ↔ A) → (error ≡ x) ↔ A
+  unfolding error_or
+  as_told told = ((λ e. told.0 (ap Err e)), (λ a. ap (error_or x) (told.1 a)))
+
+pub refused_so : {T : Type 0} (range : RangeView) (t back : Transaction) (error : RangeError)
+    → (IsErrOf {T = T} {E = RangeError} (Err error) OutOfRange
+    ↔ (are_within t.writes range.span ≡ false))
+    → (IsErrOf {T = T} {E = RangeError} (Err error) TooEarly
+    ↔ ((are_within t.writes range.span && is_before t.at range.threshold) ≡ true))
+    → (IsErrOf {T = T} {E = RangeError} (Err error) TooLarge
+    ↔ ((are_within t.writes range.span && not (is_before t.at range.threshold)
+    && not (reads_fit range.cache.settings t.reads)) ≡ true))
+    → TellsRefused range t (Err (record { error = error; transaction = back }))
+refused_so range t back error out early large = record {
+  out_of_range = as_told error OutOfRange out;
+  too_early = as_told error TooEarly early;
+  too_large = as_told error TooLarge large;
+}

@@ -1,21 +1,11 @@
 -- A legal history is an execution of calls on one range.
-use Rattle.std.proofs.Common.{◌≡◌, ◌∙◌, sym, subst, ap, ℕ, List, [], ◌∷◌, ◌++◌, append_assoc, append-nil}
+use Rattle.std.proofs.Common.{◌≡◌, sym, subst, ℕ, List, [], ◌∷◌, ◌++◌, append_assoc, append-nil}
 use Rattle.std.specs.Prelude.{reverse}
 use Rattle.std.proofs.lemmas.List.{reverse-append}
 use Rattle.mvcc_range.specs.declared.range.Outcome.TheVariants.{Committed, Restart}
 use Rattle.mvcc_range.specs.declared.range.Reason.TheVariants.{Changed, NoTime}
 use Rattle.mvcc_range.specs.Serial.{Transaction, moved}
-use Rattle.mvcc_range.specs.Steps.{
-  RangeView,
-  Answered,
-  Execution,
-  opened,
-  answers,
-  commits,
-  stays,
-  hands_on,
-  collects,
-}
+use Rattle.mvcc_range.specs.Steps.{RangeView, Execution, opened, answers, commits, stays, hands_on, collects}
 use Rattle.mvcc_range.specs.Laws.{IsSerializable}
 use Rattle.mvcc_range.proofs.Keeping.{serializable}
 use Rattle.mvcc_shared.specs.History.{

@@ -1,6 +1,6 @@
 -- Participants are divided and put together, and a client sees what a front says.
 use Rattle.std.proofs.Common.{◌≡◌, ◌≢◌, ◌⊎◌, ◌∙◌, inl, inr, refl, sym, ap, subst, true, ℕ, zero, suc}
-use Rattle.std.proofs.Common.{◌+◌, ◌<◌, List, [], ◌∷◌, ◌++◌, length, set, arith, slice_index, sum_by}
+use Rattle.std.proofs.Common.{◌+◌, ◌<◌, List, [], ◌∷◌, ◌++◌, length, set, arith, sum_by}
 use Rattle.std.specs.Prelude.{◌==◌}
 use mathlib.Core.Option as maybe
 use mathlib.Core.Option.{some-ne-none}
@@ -12,7 +12,7 @@ use Rattle.atomic_table.proofs.Lists.{at_set, at_snoc, set_else}
 use Rattle.atomic_table.specs.Table.{Step, keeps as act_keeps, Allows, Splits, Joins}
 use Rattle.mvcc_shared.specs.declared.table.ClientState.{ClientState}
 use Rattle.mvcc_shared.specs.declared.table.Knowledge.{Knowledge}
-use Rattle.mvcc_shared.specs.History.{History, Terms, BeginsWith, IsLegal, calls_of}
+use Rattle.mvcc_shared.specs.History.{History, Terms, IsLegal, calls_of}
 use Rattle.mvcc_shared.specs.Rule.{
   Laid,
   keeping,

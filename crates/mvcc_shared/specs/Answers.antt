@@ -37,10 +37,10 @@ use Rattle.tsc_cache.specs.declared.fault.CacheFault.TheVariants as fault
 use Rattle.mvcc_versions.specs.Versions.{Row, is_within, are_within}
 use Rattle.mvcc_range.specs.declared.range.Outcome.{Outcome}
 use Rattle.mvcc_range.specs.declared.error.RangeError.{RangeError}
-use Rattle.mvcc_range.specs.declared.error.RangeError.TheVariants.{OutOfRange, TooEarly, TooLarge, NoMemory}
+use Rattle.mvcc_range.specs.declared.error.RangeError.TheVariants.{OutOfRange, TooEarly, TooLarge}
 use Rattle.mvcc_range.specs.Serial.{Transaction}
-use Rattle.mvcc_range.specs.Steps.{RangeView, IsOpened, IsSame, HandsOn, Collects, reads_fit}
-use Rattle.mvcc_range.specs.Calls.{Reads, SeesOwn, TellsTooLarge, Ends}
+use Rattle.mvcc_range.specs.Steps.{RangeView, IsOpened, IsSame, Collects, reads_fit}
+use Rattle.mvcc_range.specs.Calls.{Reads, SeesOwn, TellsTooLarge, HandsOnBy, Ends}
 use Rattle.mvcc_range.specs.Laws.{IsSerializable}
 use Rattle.mvcc_shared.specs.declared.answers.Closed.{Closed}
 use Rattle.mvcc_shared.specs.declared.answers.NotCommitted.{NotCommitted}
@@ -132,7 +132,7 @@ abbrev pub IsRefusedAs : Result Outcome NotCommitted → RangeError → Type 0
 IsRefusedAs (Ok outcome) error = ⊥
 IsRefusedAs (Err refused) error = refused.error ≡ error
 
--- When a commit is refused, but for want of memory.
+-- When a commit is refused, but for want of memory, for which none is that is wrong otherwise.
 pub record TellsRefused (range : RangeView) (t : Transaction)
     (result : Result Outcome NotCommitted) : Type 0 where
   pub out_of_range : IsRefusedAs result OutOfRange ↔ (are_within t.writes range.span ≡ false)
@@ -149,12 +149,12 @@ pub record EndsAt (old : RangeView) (call : Call) (new : RangeView) (t : Transac
   pub ok : IfOk result (λ outcome. (call ≡ has_ended t now outcome) × Ends old new t now outcome)
   pub err : OnErr result ((call ≡ was_refused) × IsSame old new)
   pub again : IfErr result (λ refused. refused.transaction ≡ t)
-  pub why : IsRefusedAs result NoMemory ⊎ TellsRefused old t result
+  pub why : TellsRefused old t result
 
 -- What a hand-over to a new lease answers on a range, as the range's own.
 pub record HandsOnAt (old : RangeView) (call : Call) (new : RangeView) (settings : Settings)
-    (most : ℕ) (result : Result Unit CacheFault) : Type 0 where
-  pub ok : OnOk result ((call ≡ has_handed_on settings) × HandsOn settings old new)
+    (most : ℕ) (now : Time) (result : Result Unit CacheFault) : Type 0 where
+  pub ok : OnOk result ((call ≡ has_handed_on settings) × HandsOnBy settings most now old new)
   pub err : OnErr result ((call ≡ was_refused) × (new ≡ old))
   pub too_large : IsErrOf result fault.NoMemory
       ⊎ TellsTooLarge old.cache old.span settings most (IsErrOf result fault.TooLarge)

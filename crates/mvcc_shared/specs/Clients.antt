@@ -1,5 +1,5 @@
 -- What can be seen of a shared range, of its clients, of its dealer, and of its fronts.
-use Rattle.std.specs.Prelude.{◌≡◌, ℕ, ◌<◌, []}
+use Rattle.std.specs.Prelude.{ℕ, ◌<◌, []}
 use Rattle.atomic_table.specs.Seated.{TableId}
 use Rattle.mvcc_shared.specs.History.{History, Terms, IsLegal}
 

@@ -1,10 +1,8 @@
 -- A client, a front and a dealer, by the participant that they keep. (For private contracts and the
 -- models.)
 use Rattle.std.specs.Prelude.{◌≡◌, ℕ, ◌≤◌, ◌-◌, []}
-use Rattle.atomic_table.specs.Seated.{TableId}
 use Rattle.mvcc_range.specs.Steps.{IsOpened}
 use Rattle.mvcc_shared.specs.declared.table.ClientState.{ClientState}
-use Rattle.mvcc_shared.specs.History.{Terms}
 use Rattle.mvcc_shared.specs.Rule.{at_rest, keeping, fresh_states}
 use Rattle.mvcc_shared.specs.Steps.{number_of, seen_of}
 use Rattle.mvcc_shared.specs.Participating.{Participant, IsAtRest, IsSized}

@@ -1,5 +1,5 @@
 -- A participant, and what it has in hand: what the functions ask for, and leave.
-use Rattle.std.specs.Prelude.{◌≡◌, ◌<◌, ◌==◌, ℕ, List, [], ◌∷◌, ◌++◌, length}
+use Rattle.std.specs.Prelude.{◌≡◌, ◌<◌, ◌==◌, ℕ, List, [], ◌∷◌, ◌++◌}
 use Rattle.std.specs.List.{sum_by}
 use mathlib.Core.Option as maybe
 use lib.ListN.{get_elem?}
@@ -23,16 +23,7 @@ use Rattle.mvcc_shared.specs.History.{
 }
 use Rattle.mvcc_shared.specs.Pending.{call_of}
 use Rattle.mvcc_shared.specs.Rule.{Laid, keeping, one_if, StateFits, IsAfter}
-use Rattle.mvcc_shared.specs.Steps.{
-  At,
-  state_in,
-  number_of,
-  seen_of,
-  resting,
-  holding,
-  front_of,
-  first_state,
-}
+use Rattle.mvcc_shared.specs.Steps.{At, number_of, seen_of, resting, holding, front_of}
 
 abbrev pub Participant : Type 0
 Participant = TableSeat Laid Knowledge

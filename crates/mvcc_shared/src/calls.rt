@@ -60,7 +60,7 @@ pub(crate) fn hand_on<R: Wait>(
     requires { IsOf who.old shared.now.table_id × IsAtRest who.old.me }
     ensures table { who.new.table_id ≡ who.old.table_id }
     ensures called { HasCalled who.old.me who.new.me (λ old call new. HandsOnAt old call new config
-        most result) }
+        most now result) }
 {
     acquire(rt, shared, who);
     let served = who.slot_mut(shared, 0);

@@ -63,6 +63,10 @@ impl Served {
         ensures ends { EndsAt self.old.range (call_of self.new.pending) self.new.range transaction
             now result }
     {
+        if let Err(error) = self.range.check_commit(&transaction) {
+            self.pending = PendingCall::Refuse;
+            return Err(NotCommitted { error, transaction });
+        }
         if self.log.reserve(1).is_err() {
             self.pending = PendingCall::Refuse;
             return Err(NotCommitted {
@@ -92,7 +96,7 @@ impl Served {
     ) -> Result<(), CacheFault>
         ensures made { HasMade self.old self.new }
         ensures hands_on { HandsOnAt self.old.range (call_of self.new.pending) self.new.range config
-            most result }
+            most now result }
     {
         match self.range.hand_on(config, most, now) {
             Ok(()) => {

@@ -130,7 +130,7 @@ impl SharedRange {
     ) -> Result<(), CacheFault>
         requires range { client.old.range ≡ self.now }
         ensures { Calls client.old client.new (λ old call new. HandsOnAt old call new config most
-            result) }
+            now result) }
     {
         let shared = &self.table.shared;
         calls::hand_on(rt, shared, &mut client.participant, config, most, now)

@@ -7,6 +7,7 @@ ghost use Rattle.std.specs.Prelude.{◌≡◌, All, IfOk};
 
 use crate::seats::{config, keys};
 use std::alloc::Global;
+use std::slice;
 use std::sync::Wait;
 use std::sync::atomic::AtomicBool;
 use std::sync::atomic::Ordering::SeqCst;
@@ -14,8 +15,10 @@ use std::test::Fail;
 use std::thread::{self, Threads};
 use test_support::at;
 use test_support::rows::{Refusal, Told, span};
+use timestamp_cache::{Uuid, earliest_write_at, may_write_at};
 use tsc_span::Span;
-use tsc_striped::{Gate, Seat, StripedCache, TryAddFault};
+use tsc_striped::{Busy, Gate, Seat, StripedCache, TryAddFault};
+use tsc_striped_leases::{Trying, Waiting};
 use tsc_time::Value;
 
 /// How often a thread looks whether another has come so far.
@@ -52,6 +55,34 @@ impl Gate for Hold {
     }
 }
 
+/// Asks about writes while an Add in the first span is held up. Whoever tries is refused there, and
+/// whoever waits is answered in the second span.
+fn ask_beside<R: Wait>(
+    rt: &R,
+    striped: &StripedCache,
+    seat: &mut Seat,
+    own: &Span,
+    other: &Span,
+) -> bool
+    requires { seat.old.cache ≡ striped.now }
+    ensures { seat.new.cache ≡ striped.now }
+{
+    let (by, wanted) = (Uuid::from_u128(1), at(30, 0));
+    let trying = Trying {
+        cache: striped,
+        tries: 3,
+    };
+    let Err(Busy) = may_write_at(&trying, seat, own, wanted, by) else {
+        return false;
+    };
+    let waiting = Waiting { cache: striped, rt };
+    let told = earliest_write_at(&waiting, seat, slice::from_ref(other), wanted, by);
+    let Ok(time) = told else {
+        unreachable!()
+    };
+    matches!(time, Some(later) if wanted < later)
+}
+
 /// Makes the calls of a seat while an Add in the first span is held up. Those of the second span
 /// are answered, and those that touch the first one are not.
 fn call_beside<R: Wait>(
@@ -68,8 +99,9 @@ fn call_beside<R: Wait>(
     let is_seen = striped.get_max(rt, seat, other) == value;
     let added = striped.try_add(seat, own, value, now, 3);
     let is_busy = matches!(added, Err(TryAddFault::Busy));
+    let is_asked = ask_beside(rt, striped, seat, own, other);
     let is_hidden = striped.try_get_max(seat, own, 3).is_err();
-    is_added && is_seen && is_busy && is_hidden
+    is_added && is_seen && is_busy && is_asked && is_hidden
 }
 
 /// The first seat adds, and is held up. The second one makes its calls meanwhile. Whether all came

@@ -6,10 +6,13 @@ use Rattle.tsc_time.specs.OwnedTime.{Owner}
 use Rattle.tsc_time.proofs.TimeOrder.{is_before-itself, no_earlier-transitive}
 use Rattle.tsc_span.specs.Span.{Interval}
 use Rattle.tsc_cache.specs.History.{History, BeginsWith}
-use Rattle.tsc_cache.proofs.Beginnings.{begins_itself, begins_on, begins_entries}
-use Rattle.tsc_shared.specs.Seats.{SeatView, IsSeat}
-use Rattle.tsc_shared.specs.Answers.{GoesOn}
-use Rattle.timestamp_cache.specs.Clear.{IsClearOfReads, IsClearOfAllReads, AsksEarliestAt, AsksInTurn, all_asked, none_told, one_told, IsClearInTurn, all_clear, one_clear, IsClearOfLast, AsksOfAllAt}
+use Rattle.tsc_cache.proofs.Beginnings.{begins_itself, begins_entries}
+use Rattle.timestamp_cache.specs.SeatKinds.{SeatKind, HasLookedOn}
+use Rattle.timestamp_cache.specs.Clear.{IsClearOfReads, IsClearOfAllReads, AsksEarliestAt}
+use Rattle.timestamp_cache.specs.Clear.{AsksInTurn, all_asked, none_told, one_told}
+use Rattle.timestamp_cache.specs.Clear.{IsClearInTurn, all_clear, one_clear, IsClearOfLast}
+use Rattle.timestamp_cache.specs.Clear.{AsksOfAllAt}
+use Rattle.timestamp_cache.specs.SeatLaws.{SeatLaws}
 use Rattle.timestamp_cache.proofs.Earliest.{clear_later}
 
 -- ---- reads
@@ -62,42 +65,34 @@ first_of : (by : Owner) (h end : History) (spans : List Interval) (told : Option
 first_of by h end spans None clear = tt
 first_of by h end spans (Some t) clear = first_clear by t h end spans clear
 
--- a seat that goes on twice goes on
-goes_further : (old next new : SeatView) → GoesOn old next → GoesOn next new → GoesOn old new
-goes_further old next new first second = record {
-  cache = second.cache ∙ first.cache;
-  number = second.number ∙ first.number;
-  begins = begins_on new.seen next.seen old.seen second.begins first.begins;
-  is_seat = second.is_seat;
-}
-
 -- ---- all that is told
 
 -- all of it, from what is told in turn
-told_all : (old new : SeatView) (spans : List Interval) (by : Owner) (from : Time)
-    (told : Option Time) → GoesOn old new → new.count ≡ old.count →
-    AsksInTurn by old new spans from told
+told_all : {S : Type 0} (kind : SeatKind S) (old new : S) (spans : List Interval) (by : Owner)
+    (from : Time) (told : Option Time) → kind.GoesOn old new → kind.count new ≡ kind.count old →
+    AsksInTurn kind by old new spans from told
     → IfSome told (λ t. is_before t from ≡ false) →
-    IfSome told (λ t. IsClearInTurn by t old.seen spans new.seen) →
-    AsksOfAllAt old new spans by from told
-told_all old new spans by from told on count turn later clear = record {
+    IfSome told (λ t. IsClearInTurn by t (kind.seen old) spans (kind.seen new)) →
+    AsksOfAllAt kind old new spans by from told
+told_all kind old new spans by from told on count turn later clear = record {
   goes_on = on;
   count = count;
   in_turn = turn;
   from_on = later;
   each = clear;
-  last = last_of by old.seen new.seen spans told clear;
-  reads = first_of by old.seen new.seen spans told clear;
+  last = last_of by (kind.seen old) (kind.seen new) spans told clear;
+  reads = first_of by (kind.seen old) (kind.seen new) spans told clear;
 }
 
 -- one span more in front
-ahead : (old next new : SeatView) (span : Interval) (others : List Interval) (by : Owner)
-    (from at : Time) (told : Option Time) → AsksEarliestAt old next span by from (Some at) →
-    AsksOfAllAt next new others by at told
-    → AsksOfAllAt old new (span ∷ others) by from told
-ahead old next new span others by from at told asks all =
-    told_all old new (span ∷ others) by from told
-    (goes_further old next new asks.goes_on all.goes_on) (all.count ∙ asks.count)
+ahead : {S : Type 0} (kind : SeatKind S) (laws : SeatLaws kind) (old next new : S)
+    (span : Interval) (others : List Interval) (by : Owner) (from at : Time) (told : Option Time)
+    → AsksEarliestAt kind old next span by from (Some at) →
+    AsksOfAllAt kind next new others by at told
+    → AsksOfAllAt kind old new (span ∷ others) by from told
+ahead kind laws old next new span others by from at told asks all =
+    told_all kind old new (span ∷ others) by from told
+    (laws.onward old next new asks.goes_on all.goes_on) (all.count ∙ asks.count)
     (one_told old next new span others from at told asks all.in_turn)
     (no_earlier told all.from_on) (clear_there told all.from_on all.each)
   where
@@ -107,41 +102,47 @@ ahead old next new span others by from at told asks all =
     no_earlier (Some t) on = no_earlier-transitive from at t asks.earliest.from_on on
 
     clear_there : (o : Option Time) → IfSome o (λ t. is_before t at ≡ false) →
-        IfSome o (λ t. IsClearInTurn by t next.seen others new.seen) →
-        IfSome o (λ t. IsClearInTurn by t old.seen (span ∷ others) new.seen)
+        IfSome o (λ t. IsClearInTurn by t (kind.seen next) others (kind.seen new)) →
+        IfSome o (λ t. IsClearInTurn by t (kind.seen old) (span ∷ others) (kind.seen new))
     clear_there None on clear = tt
     clear_there (Some t) on clear =
-        one_clear old.seen next.seen new.seen span others asks.goes_on.begins
-        (clear_still next.seen next.seen span by at t (begins_itself next.seen) on asks.reads) clear
+        one_clear (kind.seen old) (kind.seen next) (kind.seen new) span others
+        (laws.begins old next asks.goes_on)
+        (clear_still (kind.seen next) (kind.seen next) span by at t
+        (begins_itself (kind.seen next)) on asks.reads) clear
 
 -- What a seat is told of spans in turn is all that it asks for.
-pub asks_all : (by : Owner) (old new : SeatView) (spans : List Interval) (from : Time)
-    (told : Option Time) → IsSeat old → AsksInTurn by old new spans from told →
-    AsksOfAllAt old new spans by from told
-asks_all by old new spans from told is (all_asked seat at) =
-    told_all seat seat [] by at (Some at)
-    (record { cache = refl; number = refl; begins = begins_itself seat.seen; is_seat = is })
-    refl (all_asked seat at) (is_before-itself at) (all_clear seat.seen)
-asks_all by old new spans from told is (none_told first last span others at asks) =
-    told_all first last (span ∷ others) by at None asks.goes_on asks.count
+pub asks_all : {S : Type 0} (kind : SeatKind S) (laws : SeatLaws kind) (by : Owner) (old new : S)
+    (spans : List Interval) (from : Time) (told : Option Time) → kind.GoesOn old old →
+    AsksInTurn kind by old new spans from told → AsksOfAllAt kind old new spans by from told
+asks_all kind laws by old new spans from told is (all_asked seat at) =
+    told_all kind seat seat [] by at (Some at) is refl (all_asked seat at) (is_before-itself at)
+    (all_clear (kind.seen seat))
+asks_all kind laws by old new spans from told is (none_told first last span others at asks) =
+    told_all kind first last (span ∷ others) by at None asks.goes_on asks.count
     (none_told first last span others at asks) tt tt
-asks_all by old new spans from told is
+asks_all kind laws by old new spans from told is
     (one_told first next last span others at later end asks rest) =
-    ahead first next last span others by at later end asks
-    (asks_all by next last others later end asks.goes_on.is_seat rest)
+    ahead kind laws first next last span others by at later end asks
+    (asks_all kind laws by next last others later end (laws.stays first next asks.goes_on) rest)
 
 -- ---- one after another
 
--- So far: whatever the spans that are left tell from here on, all of them tell from the beginning.
-pub record HasAsked (old now : SeatView) (spans left : List Interval) (by : Owner) (from at : Time)
-    : Type 0 where
-  pub cache : now.cache ≡ old.cache
-  pub goes_on : (new : SeatView) (told : Option Time) → AsksInTurn by now new left at told →
-      AsksInTurn by old new spans from told
+-- So far: the seat has looked, and whatever the spans that are left tell from here on, all of them
+-- tell from the beginning.
+pub record HasAsked {S : Type 0} (kind : SeatKind S) (old now : S) (spans left : List Interval)
+    (by : Owner) (from at : Time) : Type 0 where
+  pub looked : HasLookedOn kind old now
+  pub goes_on : (new : S) (told : Option Time) → AsksInTurn kind by now new left at told →
+      AsksInTurn kind by old new spans from told
 
-pub asked_none : (seat : SeatView) (spans : List Interval) (by : Owner) (from : Time) →
-    HasAsked seat seat spans (drop 0 spans) by from from
-asked_none seat spans by from = record { cache = refl; goes_on = λ new told turn. turn }
+pub asked_none : {S : Type 0} (kind : SeatKind S) (seat : S) (spans : List Interval) (by : Owner)
+    (from : Time) → kind.GoesOn seat seat →
+    HasAsked kind seat seat spans (drop 0 spans) by from from
+asked_none kind seat spans by from is = record {
+  looked = record { goes_on = is; count = refl };
+  goes_on = λ new told turn. turn;
+}
 
 left_from : (spans : List Interval) (i : ℕ) (s : Interval) → i < length spans →
     get_or spans i s ≡ s → drop i spans ≡ s ∷ drop (i + 1) spans
@@ -149,52 +150,64 @@ left_from spans i s there is = drop-cons spans i s there ∙ ap (λ x. x ∷ dro
     ap (λ n. s ∷ drop n spans) (sym (add-one i))
 
 -- one more
-pub asked_more : (old now next : SeatView) (spans : List Interval) (i : ℕ) (s : Interval)
-    (by : Owner) (from at later : Time) → i < length spans → get_or spans i s ≡ s
-    → HasAsked old now spans (drop i spans) by from at →
-    AsksEarliestAt now next s by at (Some later) →
-    HasAsked old next spans (drop (i + 1) spans) by from later
-asked_more old now next spans i s by from at later there is so_far asks = record {
-  cache = asks.goes_on.cache ∙ so_far.cache;
+pub asked_more : {S : Type 0} (kind : SeatKind S) (laws : SeatLaws kind) (old now next : S)
+    (spans : List Interval) (i : ℕ) (s : Interval) (by : Owner) (from at later : Time)
+    → i < length spans → get_or spans i s ≡ s
+    → HasAsked kind old now spans (drop i spans) by from at →
+    AsksEarliestAt kind now next s by at (Some later) →
+    HasAsked kind old next spans (drop (i + 1) spans) by from later
+asked_more kind laws old now next spans i s by from at later there is so_far asks = record {
+  looked = record {
+    goes_on = laws.onward old now next so_far.looked.goes_on asks.goes_on;
+    count = asks.count ∙ so_far.looked.count;
+  };
   goes_on = λ new told turn. so_far.goes_on new told
-      (subst (λ (left : List Interval). AsksInTurn by now new left at told)
+      (subst (λ (left : List Interval). AsksInTurn kind by now new left at told)
       (sym (left_from spans i s there is))
       (one_told now next new s (drop (i + 1) spans) at later told asks turn));
 }
 
 -- where there is no time for one more, there is none for all
-pub asked_last : (old now new : SeatView) (spans : List Interval) (i : ℕ) (s : Interval)
-    (by : Owner) (from at : Time) → IsSeat old → i < length spans → get_or spans i s ≡ s
-    → HasAsked old now spans (drop i spans) by from at → AsksEarliestAt now new s by at None →
-    AsksOfAllAt old new spans by from None
-asked_last old now new spans i s by from at seat there is so_far asks =
-    asks_all by old new spans from None seat (so_far.goes_on new None
-    (subst (λ (left : List Interval). AsksInTurn by now new left at None)
+pub asked_last : {S : Type 0} (kind : SeatKind S) (laws : SeatLaws kind) (old now new : S)
+    (spans : List Interval) (i : ℕ) (s : Interval) (by : Owner) (from at : Time)
+    → kind.GoesOn old old → i < length spans → get_or spans i s ≡ s
+    → HasAsked kind old now spans (drop i spans) by from at →
+    AsksEarliestAt kind now new s by at None → AsksOfAllAt kind old new spans by from None
+asked_last kind laws old now new spans i s by from at seat there is so_far asks =
+    asks_all kind laws by old new spans from None seat (so_far.goes_on new None
+    (subst (λ (left : List Interval). AsksInTurn kind by now new left at None)
     (sym (left_from spans i s there is)) (none_told now new s (drop (i + 1) spans) at asks)))
 
 -- until none is left
-pub asked_all : (old new : SeatView) (spans : List Interval) (i : ℕ) (by : Owner) (from at : Time) →
-    IsSeat old → length spans ≤ i → HasAsked old new spans (drop i spans) by from at →
-    AsksOfAllAt old new spans by from (Some at)
-asked_all old new spans i by from at seat past so_far =
-    asks_all by old new spans from (Some at) seat
+pub asked_all : {S : Type 0} (kind : SeatKind S) (laws : SeatLaws kind) (old new : S)
+    (spans : List Interval) (i : ℕ) (by : Owner) (from at : Time) → kind.GoesOn old old →
+    length spans ≤ i → HasAsked kind old new spans (drop i spans) by from at →
+    AsksOfAllAt kind old new spans by from (Some at)
+asked_all kind laws old new spans i by from at seat past so_far =
+    asks_all kind laws by old new spans from (Some at) seat
     (so_far.goes_on new (Some at)
-    (subst (λ (left : List Interval). AsksInTurn by new new left at (Some at))
+    (subst (λ (left : List Interval). AsksInTurn kind by new new left at (Some at))
     (sym (drop_of_length-le spans past)) (all_asked new at)))
+
+-- where the lookup of one more is refused, the seat has looked at the others
+pub asked_until : {S : Type 0} (kind : SeatKind S) (old now next : S) → next ≡ now →
+    HasLookedOn kind old now → HasLookedOn kind old next
+asked_until {S} kind old now next same looked =
+    subst (λ (seat : S). HasLookedOn kind old seat) (sym same) looked
 
 -- ---- of one span
 
 -- Who asks of one span alone is told the earliest time from the one on that is clear of the answer
 -- from all that the seat has seen then.
-pub asked_of_one : (old new : SeatView) (span : Interval) (by : Owner) (from : Time)
-    (told : Option Time) → AsksInTurn by old new (span ∷ []) from told →
-    AsksEarliestAt old new span by from told
-asked_of_one old new span by from told (none_told first last s others at asks) = asks
-asked_of_one old new span by from told (one_told first next last s others at later end asks rest) =
+pub asked_of_one : {S : Type 0} (kind : SeatKind S) (old new : S) (span : Interval) (by : Owner)
+    (from : Time) (told : Option Time) → AsksInTurn kind by old new (span ∷ []) from told →
+    AsksEarliestAt kind old new span by from told
+asked_of_one kind old new span by from told (none_told first last s others at asks) = asks
+asked_of_one {S} kind old new span by from told
+    (one_told first next last s others at later end asks rest) =
     no_more next last by later end first s at asks rest
   where
-    no_more : (next last : SeatView) (by : Owner) (later : Time) (end : Option Time)
-        (first : SeatView) (s : Interval) (at : Time) →
-        AsksEarliestAt first next s by at (Some later) → AsksInTurn by next last [] later end
-        → AsksEarliestAt first last s by at end
+    no_more : (next last : S) (by : Owner) (later : Time) (end : Option Time) (first : S)
+        (s : Interval) (at : Time) → AsksEarliestAt kind first next s by at (Some later) →
+        AsksInTurn kind by next last [] later end → AsksEarliestAt kind first last s by at end
     no_more next last by later end first s at asks (all_asked seat t) = asks

@@ -5,13 +5,11 @@ use Rattle.tsc_time.specs.Time.{Time, is_before}
 use Rattle.tsc_time.specs.OwnedTime.{Owner}
 use Rattle.tsc_span.specs.Span.{Interval, overlaps}
 use Rattle.tsc_page_nodes.specs.Page.{Mark}
-use Rattle.tsc_cache.specs.State.{look}
 use Rattle.tsc_cache.specs.declared.history.Entry.{Entry}
-use Rattle.tsc_cache.specs.History.{History, state_of, BeginsWith}
+use Rattle.tsc_cache.specs.History.{History, BeginsWith}
 use Rattle.tsc_cache.specs.CacheView.{CacheView, cache_answer}
 pub use Rattle.tsc_cache.specs.Laws.{IsClearOf}
-use Rattle.tsc_shared.specs.Seats.{SeatView}
-use Rattle.tsc_shared.specs.Answers.{GoesOn}
+use Rattle.timestamp_cache.specs.SeatKinds.{SeatKind}
 use Rattle.timestamp_cache.specs.Earliest.{TellsEarliest}
 
 -- A write is clear of each read of a history on a span.
@@ -30,35 +28,37 @@ IsClearOfAnswers cache spans by at = All (λ span. IsClearOf (cache_answer cache
 -- A seat asks whether a write is clear: it is told so just where that is clear of the answer from
 -- all that the seat has seen then, and where it is told so, that is clear of each read on the span
 -- there.
-pub record AsksAt (old new : SeatView) (span : Interval) (by : Owner) (at : Time) (clear : Bool) :
-    Type 0 where
-  pub goes_on : GoesOn old new
-  pub count : new.count ≡ old.count
-  pub value : IsTrue clear ↔ IsClearOf (look (state_of old.cache.config new.seen) span) by at
-  pub reads : IsTrue clear → IsClearOfReads new.seen span by at
+pub record AsksAt {S : Type 0} (kind : SeatKind S) (old new : S) (span : Interval) (by : Owner)
+    (at : Time) (clear : Bool) : Type 0 where
+  pub goes_on : kind.GoesOn old new
+  pub count : kind.count new ≡ kind.count old
+  pub value : IsTrue clear ↔ IsClearOf (kind.answer old (kind.seen new) span) by at
+  pub reads : IsTrue clear → IsClearOfReads (kind.seen new) span by at
 
 -- A seat asks for the earliest time, from one on, at which a write is clear: it is told the
 -- earliest at which that is clear of the answer from all that the seat has seen then, and there it
 -- is clear of each read on the span in that.
-pub record AsksEarliestAt (old new : SeatView) (span : Interval) (by : Owner) (from : Time)
-    (told : Option Time) : Type 0 where
-  pub goes_on : GoesOn old new
-  pub count : new.count ≡ old.count
-  pub earliest : TellsEarliest (λ t. IsClearOf (look (state_of old.cache.config new.seen) span) by
-      t) from told
-  pub reads : IfSome told (λ t. IsClearOfReads new.seen span by t)
+pub record AsksEarliestAt {S : Type 0} (kind : SeatKind S) (old new : S) (span : Interval)
+    (by : Owner) (from : Time) (told : Option Time) : Type 0 where
+  pub goes_on : kind.GoesOn old new
+  pub count : kind.count new ≡ kind.count old
+  pub earliest : TellsEarliest
+      (λ t. IsClearOf (kind.answer old (kind.seen new) span) by t) from told
+  pub reads : IfSome told (λ t. IsClearOfReads (kind.seen new) span by t)
 
 -- A seat asks of some spans in turn, of each from the time on that it was told of the one before
 -- it. Where it is told none, it asks no further.
-pub data AsksInTurn (by : Owner) : SeatView → SeatView → List Interval → Time → Option Time →
-    Type 0 where
-  all_asked : (seat : SeatView) (at : Time) → AsksInTurn by seat seat [] at (Some at)
-  none_told : (old new : SeatView) (span : Interval) (others : List Interval) (from : Time) →
-      AsksEarliestAt old new span by from None → AsksInTurn by old new (span ∷ others) from None
-  one_told : (old next new : SeatView) (span : Interval) (others : List Interval) (from at : Time)
+pub data AsksInTurn {S : Type 0} (kind : SeatKind S) (by : Owner) : S → S → List Interval → Time →
+    Option Time → Type 0 where
+  all_asked : (seat : S) (at : Time) → AsksInTurn kind by seat seat [] at (Some at)
+  none_told : (old new : S) (span : Interval) (others : List Interval) (from : Time) →
+      AsksEarliestAt kind old new span by from None →
+      AsksInTurn kind by old new (span ∷ others) from None
+  one_told : (old next new : S) (span : Interval) (others : List Interval) (from at : Time)
       (told : Option Time)
-      → AsksEarliestAt old next span by from (Some at) → AsksInTurn by next new others at told →
-      AsksInTurn by old new (span ∷ others) from told
+      → AsksEarliestAt kind old next span by from (Some at) →
+      AsksInTurn kind by next new others at told →
+      AsksInTurn kind by old new (span ∷ others) from told
 
 -- A write is clear of each read on some spans, of each in the history that was seen when it was
 -- asked of. Each history begins with the one before it.
@@ -77,15 +77,15 @@ IsClearOfLast h (span ∷ next ∷ others) by at = IsClearOfLast h (next ∷ oth
 -- A seat asks for the earliest time, from one on, at which a write of all of some spans is clear:
 -- it asks of them in turn. A time that it is told is not before the one from which it asked. The
 -- write is clear there of three kinds of reads.
-pub record AsksOfAllAt (old new : SeatView) (spans : List Interval) (by : Owner) (from : Time)
-    (told : Option Time) : Type 0 where
-  pub goes_on : GoesOn old new
-  pub count : new.count ≡ old.count
-  pub in_turn : AsksInTurn by old new spans from told
+pub record AsksOfAllAt {S : Type 0} (kind : SeatKind S) (old new : S) (spans : List Interval)
+    (by : Owner) (from : Time) (told : Option Time) : Type 0 where
+  pub goes_on : kind.GoesOn old new
+  pub count : kind.count new ≡ kind.count old
+  pub in_turn : AsksInTurn kind by old new spans from told
   pub from_on : IfSome told (λ t. is_before t from ≡ false)
   -- the write is clear of each read on each span that the seat had seen when it asked of that one
-  pub each : IfSome told (λ t. IsClearInTurn by t old.seen spans new.seen)
+  pub each : IfSome told (λ t. IsClearInTurn by t (kind.seen old) spans (kind.seen new))
   -- the write is clear of each read on the last span that the seat has seen in the end
-  pub last : IfSome told (λ t. IsClearOfLast new.seen spans by t)
+  pub last : IfSome told (λ t. IsClearOfLast (kind.seen new) spans by t)
   -- the write is clear of each read on any span that the seat had seen when it was called
-  pub reads : IfSome told (λ t. IsClearOfAllReads old.seen spans by t)
+  pub reads : IfSome told (λ t. IsClearOfAllReads (kind.seen old) spans by t)

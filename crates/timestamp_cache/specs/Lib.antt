@@ -1,4 +1,6 @@
+pub mod SeatKinds
 pub mod Clear
+pub mod SeatLaws
 pub mod Earliest
 pub mod HandOver
 pub mod Stretches

@@ -5,8 +5,8 @@
 //! several threads serve it. Each read adds its span, its time and its transaction. A write asks
 //! before it lays down anything: [`may_write`] says whether it is clear of the reads so far, and
 //! [`earliest_write`] to which time it has to be pushed, so that no read that was answered is made
-//! wrong behind its back. [`may_write_at`] and [`earliest_write_at`] ask for a seat of a shared
-//! cache.
+//! wrong behind its back. [`may_write_at`] and [`earliest_write_at`] ask at a seat, of a shared
+//! cache or of any that is a [`Lookup`].
 //!
 //! Where the lease goes on to somebody else, [`summary`] tells what was read of a span, in as many
 //! marks as are to be sent, and [`apply`] adds it to the cache of the new holder. [`summary_at`]
@@ -127,6 +127,7 @@
 mod clear;
 mod hand_over;
 pub mod laws;
+mod lookups;
 mod next;
 mod summary_fault;
 mod summary_reading;
@@ -135,6 +136,7 @@ mod writes;
 
 pub use clear::{earliest_clear_of, is_clear_of};
 pub use hand_over::{ReadSummary, SeatSummary, apply, summary, summary_at};
+pub use lookups::Lookup;
 pub use next::next_time;
 pub use summary_fault::SummaryFault;
 pub use tsc_cache::{

@@ -1,13 +1,15 @@
-ghost use Rattle.std.specs.Prelude.{◌≡◌, ◌↔◌, IsTrue, IsOk, IfOk, IfSome};
+ghost use Rattle.std.specs.Prelude.{◌≡◌, ◌↔◌, IsTrue, IfOk, IfSome, OnErr};
 ghost use Rattle.tsc_cache.specs.Settings.{Settings};
 ghost use Rattle.tsc_cache.specs.History.{History, state_of};
 ghost use Rattle.tsc_cache.specs.CacheView.{RepresentsState, cache_answer};
-ghost use Rattle.timestamp_cache.specs.Clear.{IsClearOf, IsClearOfReads, IsClearOfAnswers, IsClearOfAllReads, AsksAt, AsksEarliestAt, AsksOfAllAt};
+ghost use Rattle.timestamp_cache.specs.Clear.{IsClearOf, IsClearOfReads, IsClearOfAnswers};
+ghost use Rattle.timestamp_cache.specs.Clear.{IsClearOfAllReads, AsksAt, AsksEarliestAt};
+ghost use Rattle.timestamp_cache.specs.Clear.{AsksOfAllAt};
 ghost use Rattle.timestamp_cache.specs.Earliest.{TellsEarliest};
+ghost use Rattle.timestamp_cache.specs.SeatKinds.{HasLookedOn};
 
-use crate::{earliest_clear_of, is_clear_of};
+use crate::{Lookup, earliest_clear_of, is_clear_of};
 use tsc_cache::{Cache, TimestampCache};
-use tsc_shared::{Gone, Seat, SharedCache};
 use tsc_span::Span;
 use tsc_time::Timestamp;
 use uuid::Uuid;
@@ -34,11 +36,13 @@ pub fn may_write(cache: &Cache, span: &Span, at: Timestamp, by: Uuid) -> bool
     is_clear_of(cache.get_max(span), at, by)
 }
 
-/// As [`may_write`], for a seat of a shared cache: whether the write is clear of what a lookup by
-/// the seat answers. The seat has then seen the history that is answered from, and the write is
-/// clear of each read on the span in it.
+/// As [`may_write`], for a seat: whether the write is clear of what a lookup by the seat answers.
+/// The seat has then seen the history that is answered from, and the write is clear of each read on
+/// the span in it.
 ///
-/// The call waits for nobody, takes no memory, and is never [`Gone`].
+/// The call is one [`look_up`](Lookup::look_up), and is refused where that is; the seat is then as
+/// it was. At a [`SharedCache`](crate::SharedCache) it waits for nobody, takes no memory, and is
+/// never [`Gone`](crate::Gone).
 ///
 /// ```
 /// let (cache, mut seats) = SharedCache::open(alloc, config()?, 1, u64::MAX)?;
@@ -48,19 +52,20 @@ pub fn may_write(cache: &Cache, span: &Span, at: Timestamp, by: Uuid) -> bool
 /// assert!(rt; may_write_at(&cache, &mut seat, &key, at(20), id('A'))?);
 /// assert!(rt; !may_write_at(&cache, &mut seat, &key, at(20), id('B'))?);
 /// ```
-pub fn may_write_at(
-    cache: &SharedCache,
-    seat: &mut Seat,
+pub fn may_write_at<C: Lookup>(
+    cache: &C,
+    seat: &mut C::Seat,
     span: &Span,
     at: Timestamp,
     by: Uuid,
-) -> Result<bool, Gone>
-    requires cache { seat.old.cache ≡ cache.now }
-    ensures answered { IsOk result }
-    ensures asked { IfOk result (λ clear. AsksAt seat.old seat.new span.now by at clear) }
+) -> Result<bool, C::Fault>
+    requires at { C.IsAt cache.now seat.old }
+    ensures asked { IfOk result
+        (λ clear. AsksAt C.kind seat.old seat.new span.now by at clear) }
+    ensures refused { OnErr result (C.MayRefuse × (seat.new ≡ seat.old)) }
 {
-    let answer = cache.get_max(seat, span)?;
-    Ok(is_clear_of(answer.value, at, by))
+    let value = cache.look_up(seat, span)?;
+    Ok(is_clear_of(value, at, by))
 }
 
 /// The earliest time, not before `at`, at which a transaction may write all of these spans: at
@@ -89,8 +94,8 @@ pub fn earliest_write(cache: &Cache, spans: &[Span], at: Timestamp, by: Uuid) ->
     Some(time)
 }
 
-/// As [`earliest_write`], for a seat of a shared cache: the earliest time, not before `at`, at
-/// which the write is clear of what lookups of the spans by the seat answer, one after another.
+/// As [`earliest_write`], for a seat: the earliest time, not before `at`, at which the write is
+/// clear of what lookups of the spans by the seat answer, one after another.
 ///
 /// Each lookup may see more than the one before it. So what is told is the time from the one
 /// lookup's on that is clear of the next: it is exact for each of them, and `None` where one of
@@ -100,7 +105,9 @@ pub fn earliest_write(cache: &Cache, spans: &[Span], at: Timestamp, by: Uuid) ->
 /// looked up. On the last span these are all reads that the seat has seen in the end. On each other
 /// span they are all that it had seen before the call, or more.
 ///
-/// The call waits for nobody, takes no memory, and is never [`Gone`].
+/// The call is a [`look_up`](Lookup::look_up) of each span, and is refused where one of them is.
+/// The seat has then looked at the spans before that one. At a [`SharedCache`](crate::SharedCache)
+/// it waits for nobody, takes no memory, and is never [`Gone`](crate::Gone).
 ///
 /// ```
 /// let (cache, mut seats) = SharedCache::open(alloc, config()?, 1, u64::MAX)?;
@@ -110,20 +117,21 @@ pub fn earliest_write(cache: &Cache, spans: &[Span], at: Timestamp, by: Uuid) ->
 /// let told = earliest_write_at(&cache, &mut seat, slice::from_ref(&key), at(15), id('B'))?;
 /// assert_eq!(rt; told, Timestamp::new(20, 1));
 /// ```
-pub fn earliest_write_at(
-    cache: &SharedCache,
-    seat: &mut Seat,
+pub fn earliest_write_at<C: Lookup>(
+    cache: &C,
+    seat: &mut C::Seat,
     spans: &[Span],
     at: Timestamp,
     by: Uuid,
-) -> Result<Option<Timestamp>, Gone>
-    requires cache { seat.old.cache ≡ cache.now }
-    ensures answered { IsOk result }
-    ensures asked { IfOk result (λ told. AsksOfAllAt seat.old seat.new spans.now by at told) }
+) -> Result<Option<Timestamp>, C::Fault>
+    requires at { C.IsAt cache.now seat.old }
+    ensures asked { IfOk result
+        (λ told. AsksOfAllAt C.kind seat.old seat.new spans.now by at told) }
     ensures reads { IfOk result (λ told. IfSome told
-        (λ t. IsClearOfAllReads seat.old.seen spans.now by t)) }
+        (λ t. IsClearOfAllReads (C.kind.seen seat.old) spans.now by t)) }
+    ensures refused { OnErr result (C.MayRefuse × HasLookedOn C.kind seat.old seat.new) }
 {
-    let _number = seat.number();
+    let _number = cache.number(seat);
     let mut time = at;
     for span in spans {
         match earliest_of_one(cache, seat, span, time, by)? {
@@ -136,17 +144,18 @@ pub fn earliest_write_at(
 
 /// The earliest time, not before `at`, at which a write of one span is clear of what a lookup by
 /// the seat answers.
-fn earliest_of_one(
-    cache: &SharedCache,
-    seat: &mut Seat,
+fn earliest_of_one<C: Lookup>(
+    cache: &C,
+    seat: &mut C::Seat,
     span: &Span,
     at: Timestamp,
     by: Uuid,
-) -> Result<Option<Timestamp>, Gone>
-    requires cache { seat.old.cache ≡ cache.now }
-    ensures answered { IsOk result }
-    ensures asked { IfOk result (λ told. AsksEarliestAt seat.old seat.new span.now by at told) }
+) -> Result<Option<Timestamp>, C::Fault>
+    requires at { C.IsAt cache.now seat.old }
+    ensures asked { IfOk result
+        (λ told. AsksEarliestAt C.kind seat.old seat.new span.now by at told) }
+    ensures refused { OnErr result (C.MayRefuse × (seat.new ≡ seat.old)) }
 {
-    let answer = cache.get_max(seat, span)?;
-    Ok(earliest_clear_of(answer.value, at, by))
+    let value = cache.look_up(seat, span)?;
+    Ok(earliest_clear_of(value, at, by))
 }

@@ -10,7 +10,7 @@ use Rattle.tsc_ffi_store.specs.declared.store.Slot.{Slot}
 use Rattle.tsc_ffi_store.specs.declared.store.Slot.TheVariants.{Own, Seat}
 use Rattle.tsc_ffi_store.specs.Store.{slots_of, AnswersOfCache, DoesToCache, DoesToSeat}
 use Rattle.tsc_ffi_store.specs.Store.{cache_at, seat_at, AnswersClose, Keeps}
-use Rattle.tsc_ffi_store.specs.SeatCalls.{AnswersCloseShared, AnswersMove}
+use Rattle.tsc_ffi_store.specs.SeatCalls.{AnswersCloseSeat, AnswersCloseShared, AnswersMove}
 
 pub in_store : (P : List Slot → List Slot → Type 0) (old new : Option (List Slot)) (held after : List Slot) →
     old ≡ Some held → new ≡ Some after → P held after →
@@ -62,6 +62,12 @@ none_closed {A} named old new handle none was is =
       closed = record { none = none; done = tt; refused = (refl, none) };
       others = keeps_none handle;
     }))
+
+pub none_handed_in : {A : Type 0} (old new : Option (List Slot)) (handle : ℕ) → old ≡ None
+    → AnswersCloseSeat {A = A} handle (slots_of old) (slots_of new) (Err refusal.Closed)
+none_handed_in {A} old new handle was =
+    subst (λ (o : Option (List Slot)). AnswersCloseSeat {A = A} handle (slots_of o) (slots_of new)
+    (Err refusal.Closed)) (sym was) (record { closed = tt; refused = (refl, refl) })
 
 pub none_ended : {A : Type 0} (adds : ℕ) (old new : Option (List Slot)) (handle : ℕ) → old ≡ None →
     new ≡ None

@@ -4,8 +4,8 @@ ghost use Rattle.std.specs.Prelude.{◌≡◌, OnErr};
 ghost use Rattle.tsc_ffi_store.specs.Codes.{Tells};
 ghost use Rattle.tsc_ffi_store.specs.Counts.{CountsSeatLookup, CountsSeatAdd, CountsNothing};
 ghost use Rattle.tsc_ffi_store.specs.Decode.{time_of, value_of, added_of, span_asked, add_asked, batch_asked, config_asked, asked_config};
-ghost use Rattle.tsc_ffi_store.specs.SeatCalls.{AnswersOpenShared, AnswersSeatLookup, AnswersSeatLowWater, AnswersSeatFigures, AnswersSeatAdd, AnswersSeatAddAll, AnswersMove, AnswersCloseShared};
-ghost use Rattle.tsc_ffi_store.specs.Store.{slots_of, seat_at, AnswersClose, DoesToSeat};
+ghost use Rattle.tsc_ffi_store.specs.SeatCalls.{AnswersOpenShared, AnswersSeatLookup, AnswersSeatLowWater, AnswersSeatFigures, AnswersSeatAdd, AnswersSeatAddAll, AnswersMove, AnswersCloseSeat, AnswersCloseShared};
+ghost use Rattle.tsc_ffi_store.specs.Store.{slots_of, DoesToSeat};
 
 use crate::store_ptr::{StorePtr, store_in};
 use std::alloc::Global;
@@ -222,11 +222,12 @@ pub extern "C" fn tsc_seat_figures_of(
     }
 }
 
-/// Hands in the seat of a handle, which then names none for good.
+/// Hands in the seat of a handle, which then names none for good. Its cache's handle, in the store
+/// where both were opened, knows of it.
 #[unsafe(no_mangle)]
 pub extern "C" fn tsc_seat_close(store: &mut StorePtr, handle: u64) -> u32
     ensures answers { Tells
-        (AnswersClose seat_at handle (slots_of store.old.owned) (slots_of store.new.owned))
+        (AnswersCloseSeat handle (slots_of store.old.owned) (slots_of store.new.owned))
         (slots_of store.new.owned ≡ slots_of store.old.owned) result }
 {
     match store.store_mut() {

@@ -5,7 +5,8 @@ use Rattle.std.proofs.Common.{ℕ, ◌<◌, ◌≤◌, List, length, get_or, set
 use Rattle.std.specs.Prelude.{◌≢◌, Option, Some, None, IfSome, IfNone, slice_get, slice_set}
 use Rattle.std.proofs.lemmas.List.{set-get_or}
 use Rattle.tsc_ffi_store.specs.declared.store.Slot.{Slot}
-use Rattle.tsc_ffi_store.specs.declared.store.Slot.TheVariants.{Closed}
+use Rattle.tsc_ffi_store.specs.declared.counts.CountedSeat.{CountedSeat}
+use Rattle.tsc_ffi_store.specs.declared.store.Slot.TheVariants.{Closed, Seat}
 use Rattle.tsc_ffi_store.specs.OpenHandles.{named_by, AreOpen, StandsThere, IsNotOpen, IsPlaceOf}
 use Rattle.tsc_ffi_store.specs.Store.{cache_in, cache_of, cache_at, seat_in, seat_of, seat_at}
 use Rattle.tsc_ffi_store.specs.Store.{shared_in, shared_of, shared_at}
@@ -46,7 +47,7 @@ is_there hs ss n p k e named open_ view_is place within at =
 
 -- ---- where nothing stands
 
-nothing_there : (hs : List ℕ) (ss : List Slot) (n p k : ℕ) (named : List Slot) →
+pub nothing_there : (hs : List ℕ) (ss : List Slot) (n p k : ℕ) (named : List Slot) →
     AreOpen hs ss n → named_by hs ss n ≡ named → IsPlaceOf hs k p → length ss ≤ p →
     (slice_get named k ≡ None) ⊎ (slice_get named k ≡ Some Closed)
 nothing_there hs ss n p k named open_ view_is place past =
@@ -121,3 +122,31 @@ pub no_shared_left : (hs : List ℕ) (ss : List Slot) (n p k : ℕ) (e after : S
 no_shared_left hs ss n p k e after named None at left =
     ap shared_in at.there ∙ ap shared_of left.0
 no_shared_left hs ss n p k e after named (Some s) at left = tt
+
+-- ---- the seat that is taken
+
+abbrev pub TakesSeat : Option CountedSeat → Slot → Slot → Type 0
+TakesSeat result e after = IfSome result (λ s. (e ≡ Seat s) × (after ≡ Closed))
+
+pub seat_taken_there : (hs : List ℕ) (ss : List Slot) (n p k : ℕ) (e after : Slot)
+    (named : List Slot) (result : Option CountedSeat) → IsThere hs ss n p k e named →
+    TakesSeat result e after → IfSome result (λ s. (slice_get named k ≡ Some (Seat s)) ×
+    (named_by hs (set ss p after) n ≡ slice_set named k Closed))
+seat_taken_there hs ss n p k e after named None at takes = tt
+seat_taken_there hs ss n p k e after named (Some s) at takes = (
+  at.there ∙ ap Some takes.0,
+  at.changed after ∙ ap (slice_set named k) takes.1,
+)
+
+pub no_seat_stands : (hs : List ℕ) (ss : List Slot) (n p k : ℕ) (e : Slot) (named : List Slot)
+    (result : Option CountedSeat) → IsThere hs ss n p k e named →
+    IfNone result (seat_of e ≡ None) → IfNone result (seat_at named k ≡ None)
+no_seat_stands hs ss n p k e named None at none = ap seat_in at.there ∙ none
+no_seat_stands hs ss n p k e named (Some s) at none = tt
+
+pub seat_left_there : (hs : List ℕ) (ss : List Slot) (n p k : ℕ) (e after : Slot)
+    (named : List Slot) (result : Option CountedSeat) → IsThere hs ss n p k e named →
+    IfNone result (after ≡ e) → IfNone result (named_by hs (set ss p after) n ≡ named)
+seat_left_there hs ss n p k e after named None at left =
+    ap (λ (w : Slot). named_by hs (set ss p w) n) left ∙ at.as_it_was
+seat_left_there hs ss n p k e after named (Some s) at left = tt

@@ -1,23 +1,31 @@
 -- A handle for each seat, with a token.
-use Rattle.std.proofs.Common.{◌≡◌, ◌∙◌, refl, sym, ap, ℕ, zero, suc, ◌+◌, ◌<◌, List, [], ◌∷◌, ◌++◌, length, append_assoc, append-nil, arith}
+use Rattle.std.proofs.Common.{◌≡◌, ◌∙◌, refl, sym, ap, ℕ, zero, suc, ◌+◌, ◌<◌, List, [], ◌∷◌, ◌++◌, length, map, append_assoc, append-nil, arith}
 use Rattle.std.proofs.lemmas.List.{length_push}
 use Rattle.tsc_shared.specs.Seats.{SharedView, SeatView, new_seat, new_seats}
+use Rattle.atomic_table.specs.Seated.{TableId}
+use Rattle.tsc_ffi_store.specs.Owners.{HandleView, handle_of}
 use Rattle.tsc_ffi_store.specs.ReturnSlots.{dealing, keeping}
 use Rattle.tsc_ffi_store.specs.ReturnSteps.{At}
 
 -- Handles were made for the seats up to one; the others are left, and so are their tokens.
-pub record Dealing (cache : SharedView) (seats : ℕ) (me : At) (handles rest : List SeatView) : Type
-    0 where
+pub record Dealing (cache : SharedView) (table : TableId) (seats : ℕ) (me : At)
+    (handles : List HandleView) (rest : List SeatView) : Type 0 where
   pub left : ℕ
   pub all : length handles + left ≡ seats
   pub others : rest ≡ new_seats cache (length handles) left
-  pub made : handles ++ rest ≡ new_seats cache 0 seats
+  pub made : handles ++ map (handle_of table) rest ≡ map (handle_of table) (new_seats cache 0 seats)
   pub tokens : me ≡ (dealing (length handles) seats 0, [])
 
-pub none_dealt : (cache : SharedView) (seats : ℕ) (me : At) (all : List SeatView) →
-    all ≡ new_seats cache 0 seats → me ≡ (dealing 0 seats 0, []) → Dealing cache seats me [] all
-none_dealt cache seats me all is known =
-    record { left = seats; all = omega arith; others = is; made = is; tokens = known }
+pub none_dealt : (cache : SharedView) (table : TableId) (seats : ℕ) (me : At)
+    (all : List SeatView) → all ≡ new_seats cache 0 seats → me ≡ (dealing 0 seats 0, []) →
+    Dealing cache table seats me [] all
+none_dealt cache table seats me all is known = record {
+  left = seats;
+  all = omega arith;
+  others = is;
+  made = ap (λ (l : List SeatView). map (handle_of table) l) is;
+  tokens = known;
+}
 
 -- the first of new seats
 head_or : SeatView → List SeatView → SeatView
@@ -43,61 +51,68 @@ is_next cache seats number zero seat rest all is = absurd (omega (arith, ap leng
 is_next cache seats number (suc left) seat rest all is =
     record { is = ap (head_or seat) is; left = left; all = all; others = ap tail_of is }
 
-pub next_of : (cache : SharedView) (seats : ℕ) (me : At) (handles rest rest' : List SeatView)
-    (seat : SeatView) → Dealing cache seats me handles rest → rest ≡ seat ∷ rest' →
+pub next_of : (cache : SharedView) (table : TableId) (seats : ℕ) (me : At)
+    (handles : List HandleView) (rest rest' : List SeatView) (seat : SeatView) →
+    Dealing cache table seats me handles rest → rest ≡ seat ∷ rest' →
     IsNext cache seats (length handles) seat rest'
-next_of cache seats me handles rest rest' seat d is =
+next_of cache table seats me handles rest rest' seat d is =
     is_next cache seats (length handles) d.left seat rest' d.all (sym is ∙ d.others)
 
-pub next_cache : (cache : SharedView) (seats : ℕ) (me : At) (handles rest rest' : List SeatView)
-    (seat : SeatView) → Dealing cache seats me handles rest → rest ≡ seat ∷ rest' →
+pub next_cache : (cache : SharedView) (table : TableId) (seats : ℕ) (me : At)
+    (handles : List HandleView) (rest rest' : List SeatView) (seat : SeatView) →
+    Dealing cache table seats me handles rest → rest ≡ seat ∷ rest' →
     seat.cache ≡ cache
-next_cache cache seats me handles rest rest' seat d is =
-    ap (λ (s : SeatView). s.cache) (next_of cache seats me handles rest rest' seat d is).is
+next_cache cache table seats me handles rest rest' seat d is =
+    ap (λ (s : SeatView). s.cache) (next_of cache table seats me handles rest rest' seat d is).is
 
-pub next_number : (cache : SharedView) (seats : ℕ) (me : At) (handles rest rest' : List SeatView)
-    (seat : SeatView) → Dealing cache seats me handles rest → rest ≡ seat ∷ rest' →
+pub next_number : (cache : SharedView) (table : TableId) (seats : ℕ) (me : At)
+    (handles : List HandleView) (rest rest' : List SeatView) (seat : SeatView) →
+    Dealing cache table seats me handles rest → rest ≡ seat ∷ rest' →
     seat.number ≡ length handles
-next_number cache seats me handles rest rest' seat d is =
-    ap (λ (s : SeatView). s.number) (next_of cache seats me handles rest rest' seat d is).is
+next_number cache table seats me handles rest rest' seat d is =
+    ap (λ (s : SeatView). s.number) (next_of cache table seats me handles rest rest' seat d is).is
 
-pub next_low : (cache : SharedView) (seats : ℕ) (me : At) (handles rest rest' : List SeatView)
-    (seat : SeatView) → Dealing cache seats me handles rest → rest ≡ seat ∷ rest' →
+pub next_low : (cache : SharedView) (table : TableId) (seats : ℕ) (me : At)
+    (handles : List HandleView) (rest rest' : List SeatView) (seat : SeatView) →
+    Dealing cache table seats me handles rest → rest ≡ seat ∷ rest' →
     seat.number < seats
-next_low cache seats me handles rest rest' seat d is =
-    let n = next_number cache seats me handles rest rest' seat d is in let k =
-    next_of cache seats me handles rest rest' seat d is in let all =
+next_low cache table seats me handles rest rest' seat d is =
+    let n = next_number cache table seats me handles rest rest' seat d is in let k =
+    next_of cache table seats me handles rest rest' seat d is in let all =
     k.all in omega (arith, n, all)
 
-pub next_dealt : (cache : SharedView) (seats : ℕ) (me me' : At)
-    (handles handles' rest rest' : List SeatView) (seat : SeatView) →
-    Dealing cache seats me handles rest → rest ≡ seat ∷ rest'
-    → handles' ≡ handles ++ seat ∷ [] → me' ≡ (dealing (seat.number + 1) seats 0, []) →
-    Dealing cache seats me' handles' rest'
-next_dealt cache seats me me' handles handles' rest rest' seat d is pushed known =
-    let k = next_of cache seats me handles rest rest' seat d is in let all = k.all in
+pub next_dealt : (cache : SharedView) (table : TableId) (seats : ℕ) (me me' : At)
+    (handles handles' : List HandleView) (rest rest' : List SeatView) (seat : SeatView) →
+    Dealing cache table seats me handles rest → rest ≡ seat ∷ rest'
+    → handles' ≡ handles ++ handle_of table seat ∷ [] →
+    me' ≡ (dealing (seat.number + 1) seats 0, []) → Dealing cache table seats me' handles' rest'
+next_dealt cache table seats me me' handles handles' rest rest' seat d is pushed known =
+    let k = next_of cache table seats me handles rest rest' seat d is in let all = k.all in
     let long : length handles' ≡ suc (length handles) = ap length pushed ∙
-    omega (arith, length_push handles seat) in
+    omega (arith, length_push handles (handle_of table seat)) in
     record {
       left = k.left;
       all = omega (arith, long, all);
       others = k.others ∙ ap (λ (n : ℕ). new_seats cache n k.left) (sym long);
-      made = ap (λ (cs : List SeatView). cs ++ rest') pushed ∙
-          append_assoc handles (seat ∷ []) rest' ∙
-          ap (λ (cs : List SeatView). handles ++ cs) (sym is) ∙ d.made;
+      made = ap (λ (cs : List HandleView). cs ++ map (handle_of table) rest') pushed ∙
+          append_assoc handles (handle_of table seat ∷ []) (map (handle_of table) rest') ∙
+          ap (λ (cs : List SeatView). handles ++ map (handle_of table) cs) (sym is) ∙ d.made;
       tokens = known ∙ ap (λ (n : ℕ). (dealing n seats 0, []))
-          (omega (arith, long, next_number cache seats me handles rest rest' seat d is));
+          (omega (arith, long, next_number cache table seats me handles rest rest' seat d is));
     }
 
 none_left : (cache : SharedView) (number left : ℕ) → [] ≡ new_seats cache number left → left ≡ 0
 none_left cache number zero e = refl
 none_left cache number (suc left) e = absurd (omega (arith, ap length e))
 
-pub all_dealt : (cache : SharedView) (seats : ℕ) (me : At) (handles rest : List SeatView) →
-    Dealing cache seats me handles rest → rest ≡ [] → (handles ≡ new_seats cache 0 seats) ×
-    (me ≡ (keeping seats 0, []))
-all_dealt cache seats me handles rest d is =
+pub all_dealt : (cache : SharedView) (table : TableId) (seats : ℕ) (me : At)
+    (handles : List HandleView) (rest : List SeatView) →
+    Dealing cache table seats me handles rest → rest ≡ [] →
+    (handles ≡ map (handle_of table) (new_seats cache 0 seats)) ×
+    (me ≡ (keeping seats 0 [], []))
+all_dealt cache table seats me handles rest d is =
     let none = none_left cache (length handles) d.left (sym is ∙ d.others) in let all = d.all in (
-      sym (append-nil handles) ∙ ap (λ (cs : List SeatView). handles ++ cs) (sym is) ∙ d.made,
+      sym (append-nil handles) ∙ ap (λ (cs : List SeatView). handles ++ map (handle_of table) cs) (sym is) ∙
+          d.made,
       d.tokens ∙ ap (λ (n : ℕ). (dealing n seats 0, [])) (omega (arith, all, none)),
     )

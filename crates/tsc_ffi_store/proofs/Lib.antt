@@ -8,6 +8,7 @@ pub mod Crossing
 mod GoingOn
 mod Handles
 mod Laying
+mod Learning
 mod MarksMade
 mod NamedSpans
 mod MayWrite
@@ -17,6 +18,7 @@ mod OpenHandles
 mod Returning
 mod SeatFigures
 mod SpansAsked
+mod TableIds
 mod Trying
 mod WritesTold
 mod WrittenRanges

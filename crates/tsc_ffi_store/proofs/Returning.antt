@@ -1,6 +1,6 @@
 -- The steps at the slots in which seats are returned keep their rule.
-use Rattle.std.proofs.Common.{◌≡◌, ◌≢◌, ◌⊎◌, ◌∙◌, inl, inr, refl, sym, ap, subst, true, false, ℕ, zero, suc, ◌+◌, ◌<◌, List, [], ◌∷◌, ◌++◌, length, map, set, arith, slice_index, length-set, get_or-set_other, get_or-set_same, rules}
-use Rattle.std.specs.Prelude.{Some, None, replicate}
+use Rattle.std.proofs.Common.{◌≡◌, ◌≢◌, ◌⊎◌, ◌∙◌, inl, inr, refl, sym, ap, subst, true, false, true≢false, All, ℕ, zero, suc, ◌+◌, ◌<◌, List, [], ◌∷◌, ◌++◌, length, map, set, arith, slice_index, length-set, get_or-set_other, get_or-set_same, ◌≤◌, rules}
+use Rattle.std.specs.Prelude.{Some, None, replicate, slice_get}
 use mathlib.Core.Logic.{dite}
 use native.Mathlib.Decide.{ℕ_discrete}
 use mathlib.Core.Option as maybe
@@ -8,12 +8,13 @@ use mathlib.Core.Option.{some-injective, some-ne-none}
 use lib.ListN.{get_elem?}
 use lib.Seq.{set-get_or}
 use Rattle.std.proofs.lemmas.List.{get_or-replicate, length-replicate, length-map}
+use Rattle.std.proofs.lemmas.List.Elements.{All-nil, All-cons, All-append, All-weaker}
 use Rattle.atomic_table.proofs.Lists.{at_set, set_here, set_else, some_there}
-use Rattle.atomic_table.specs.Table.{State, Step, Act, takes as act_takes, gives as act_gives, keeps as act_keeps, Allows, Splits, opening, Valid, stepped, carried_after, rest, Final, Seen}
+use Rattle.atomic_table.specs.Table.{State, Step, Act, takes as act_takes, gives as act_gives, keeps as act_keeps, Allows, Splits, Joins, opening, Valid, stepped, carried_after, rest, Final, Seen}
 use Rattle.tsc_shared.specs.Seats.{SharedView, SeatView}
 use Rattle.tsc_ffi_store.specs.declared.seats.return_slots.Known.{Known}
-use Rattle.tsc_ffi_store.specs.ReturnSlots.{Returned, dealing, token, spent, keeping, first_known, IsAmong, IsReturned, IsFree, Fits, IsKept}
-use Rattle.tsc_ffi_store.specs.ReturnSteps.{At, others, first, takes_slot, returns_seat, seen_returned, sees_returned}
+use Rattle.tsc_ffi_store.specs.ReturnSlots.{Returned, dealing, token, spent, spare, came, keeping, also_back, first_known, IsAmong, IsReturned, IsFree, IsBack, Fits, IsKept}
+use Rattle.tsc_ffi_store.specs.ReturnSteps.{At, others, first, takes_slot, came_in, returns_seat, seen_returned, sees_returned}
 
 abbrev Slots : Type 0
 Slots = List (maybe.Option Returned)
@@ -81,7 +82,9 @@ module _ (cache : SharedView) where
       of_first v e = subst (Fits cache words (map maybe.some all)) e
           (record {
             free = λ slot _ among. free slot among.to;
+            out = λ slot taken. absurd (true≢false (sym taken));
             returned = λ slot low. absurd (omega (arith, low));
+            back = All-nil (IsBack cache words (map maybe.some all));
           })
 
       fits : (id : ℕ) (v : Known) → get_elem? (first_known cache ∷ []) id ≡ maybe.some v →
@@ -105,11 +108,14 @@ module _ (cache : SharedView) where
         IsFree cache s.words s.homes slot
     of_dealer v slot f among = f.free slot refl among
 
-    part_fits : (v : Known) → v.returned ≡ 0 → ((slot : ℕ) → IsAmong v slot → IsAmong dealer slot) →
-        Fits cache s.words s.homes v
-    part_fits v none within = record {
+    part_fits : (v : Known) → v.returned ≡ 0 → v.back ≡ [] →
+        ((slot : ℕ) → IsAmong v slot → IsAmong dealer slot) → Fits cache s.words s.homes v
+    part_fits v none unknown within = record {
       free = λ slot _ among. (k.fits id dealer at).free slot refl (within slot among);
+      out = λ slot _ among. ((k.fits id dealer at).free slot refl (within slot among)).word;
       returned = λ slot low. absurd (omega (arith, low, none));
+      back = subst (All (IsBack cache s.words s.homes)) (sym unknown)
+          (All-nil (IsBack cache s.words s.homes));
     }
 
     in_first : (slot : ℕ) → IsAmong (first dealer) slot → IsAmong dealer slot
@@ -126,10 +132,10 @@ module _ (cache : SharedView) where
     part : (j : ℕ) (v : Known) → Stands s.views id (others dealer) (first dealer) j v →
         Fits cache s.words s.homes v
     part j v (first_part e is) = subst (Fits cache s.words s.homes) is
-        (part_fits (others dealer) refl in_others)
+        (part_fits (others dealer) refl refl in_others)
     part j v (as_before e is) = k.fits j v is
     part j v (second_part e is) = subst (Fits cache s.words s.homes) is
-        (part_fits (first dealer) refl in_first)
+        (part_fits (first dealer) refl refl in_first)
 
     among_is : (v w : Known) (slot : ℕ) → v ≡ w → IsAmong w slot → IsAmong v slot
     among_is v w slot e among = subst (λ (u : Known). IsAmong u slot) (sym e) among
@@ -228,14 +234,36 @@ module _ (cache : SharedView) where
   spent_own : (number : ℕ) → IsAmong (spent number) number
   spent_own number = record { from = omega arith; to = omega arith }
 
-  spent_fits : (words : List ℕ) (slots : Slots) (number : ℕ) → Fits cache words slots (spent number)
-  spent_fits words slots number = record {
-    free = λ slot taken among. absurd (true_is_no taken);
+  spent_fits : (words : List ℕ) (slots : Slots) (number : ℕ) → slice_index words number ≡ 0 →
+      Fits cache words slots (spent number)
+  spent_fits words slots number word = record {
+    free = λ slot taken among. absurd (true≢false taken);
+    out = λ slot _ among. let a = among.from in let b = among.to in
+        ap (λ (n : ℕ). slice_index words n) (omega (arith, a, b)) ∙ word;
     returned = λ slot low. absurd (omega (arith, low));
+    back = All-nil (IsBack cache words slots);
   }
-    where
-      true_is_no : true ≡ false → ⊥
-      true_is_no e = search rules
+
+  -- no slot is one of a token's that may take none
+  none_of : (v : Known) → v.from ≡ 0 → v.to ≡ 0 → (slot : ℕ) → IsAmong v slot → ⊥
+  none_of v from to slot among = let b = among.to in omega (arith, b, to)
+
+  spare_fits : (words : List ℕ) (slots : Slots) → Fits cache words slots spare
+  spare_fits words slots = record {
+    free = λ slot _ among. absurd (none_of spare refl refl slot among);
+    out = λ slot taken. absurd (true≢false (sym taken));
+    returned = λ slot low. absurd (omega (arith, low));
+    back = All-nil (IsBack cache words slots);
+  }
+
+  came_fits : (words : List ℕ) (slots : Slots) (seat : SeatView) → IsBack cache words slots seat →
+      Fits cache words slots (came seat)
+  came_fits words slots seat lies = record {
+    free = λ slot _ among. absurd (none_of (came seat) refl refl slot among);
+    out = λ slot taken. absurd (true≢false (sym taken));
+    returned = λ slot low. absurd (omega (arith, low));
+    back = All-cons (IsBack cache words slots) seat [] lies (All-nil (IsBack cache words slots));
+  }
 
   same_words : (s : Board) (i : ℕ) (slots : Slots) (views : List Known) →
       IsKept cache (record { words = s.words; homes = slots; views = views })
@@ -272,7 +300,7 @@ module _ (cache : SharedView) where
               lies = set_else s.homes number slot maybe.none (apart slot one) ∙ h.lies;
               its_cache = h.its_cache;
             })
-            (spent_fits s.words slots number)
+            (spent_fits s.words slots number free.word)
             (λ other u ne at'. let f = k.fits other u at' in record {
               free = λ slot idle among. let g = f.free slot idle among in let ne' =
                   others_apart s k id number (token number) at (its_own number) other u ne at' slot
@@ -283,28 +311,44 @@ module _ (cache : SharedView) where
                     held = g.held;
                     lies = set_else s.homes number slot maybe.none ne' ∙ g.lies;
                   };
+              out = f.out;
               returned = f.returned;
+              back = All-weaker (IsBack cache s.words s.homes) (IsBack cache s.words slots)
+                  (λ seat b. record {
+                    low = b.low;
+                    word = b.word;
+                    lies = set_else s.homes number seat.number maybe.none
+                        (apart seat.number b.word) ∙ b.lies;
+                  }) u.back f.back;
             })),
         (free.held, refl),
       )
 
   -- a seat is returned
-  pub return_seat_allowed : (slots : ℕ) (st : Step Returned) (id number : ℕ) (seat : SeatView) →
-      number < cache.seats → seat.cache ≡ cache
-      → Allows (IsKept cache) slots id (spent number, (number, Some seat) ∷ []) number (λ _. 1)
-      (λ _. returns_seat st (spent number, (number, Some seat) ∷ []) 1)
-  return_seat_allowed slots st id number seat low its s k _ at _ =
+  pub return_seat_allowed : (slots : ℕ) (st : Step Returned) (id : ℕ) (seat : SeatView) →
+      seat.number < cache.seats → seat.cache ≡ cache
+      → Allows (IsKept cache) slots id (spent seat.number, (seat.number, Some seat) ∷ [])
+      seat.number (λ _. 1)
+      (λ _. returns_seat st (spent seat.number, (seat.number, Some seat) ∷ []) 1)
+  return_seat_allowed slots st id seat low its s k _ at _ =
+      let number : ℕ = seat.number in
       let slots : Slots = set s.homes number (maybe.some (Some seat)) in
       let words : List ℕ = set s.words number 1 in
       let wide = k.wide in let deep = k.deep in
       let here : slice_index words number ≡ 1 =
       get_or-set_same s.words number 1 0 (omega (arith, wide, low)) in
       let there : (slot : ℕ) → slot ≢ number → slice_index words slot ≡ slice_index s.words slot =
-      λ slot ne. get_or-set_other s.words number slot 1 0 ne in (
-        spent number,
+      λ slot ne. get_or-set_other s.words number slot 1 0 ne in
+      let zero_is : slice_index s.words number ≡ 0 =
+      (k.fits id (spent number) at).out number refl (spent_own number) in
+      let apart : (slot : ℕ) → slice_index s.words slot ≡ 1 → slot ≢ number =
+      λ slot one e. let w : slice_index s.words number ≡ 1 =
+      subst (λ (n : ℕ). slice_index s.words n ≡ 1) e one in omega (arith, w, zero_is) in (
+        came seat,
         act_gives,
         tt,
-        moved s k id (spent number) (spent number) words slots at (λ slot among. among)
+        moved s k id (spent number) (came seat) words slots at
+            (λ slot among. absurd (none_of (came seat) refl refl slot among))
             (length-set s.words number 1 ∙ k.wide)
             (length-set s.homes number (maybe.some (Some seat)) ∙ k.deep)
             (λ slot low' one. dite (ℕ_discrete slot number)
@@ -320,7 +364,11 @@ module _ (cache : SharedView) where
               lies = set_else s.homes number slot (maybe.some (Some seat)) ne ∙ h.lies;
               its_cache = h.its_cache;
             }))
-            (spent_fits words slots number)
+            (came_fits words slots seat (record {
+              low = low;
+              word = here;
+              lies = set_here s.homes number (maybe.some (Some seat)) (omega (arith, deep, low));
+            }))
             (λ other u ne at'. let f = k.fits other u at' in record {
               free = λ slot idle among. let g = f.free slot idle among in let ne' =
                   others_apart s k id number (spent number) at (spent_own number) other u ne at'
@@ -331,52 +379,128 @@ module _ (cache : SharedView) where
                     held = g.held;
                     lies = set_else s.homes number slot (maybe.some (Some seat)) ne' ∙ g.lies;
                   };
+              out = λ slot taken among. there slot
+                  (others_apart s k id number (spent number) at (spent_own number) other u ne at'
+                  slot among) ∙ f.out slot taken among;
               returned = λ slot low'. dite (ℕ_discrete slot number)
                   (λ e. ap (λ (n : ℕ). slice_index words n) e ∙ here)
                   (λ ne. there slot ne ∙ f.returned slot low');
+              back = All-weaker (IsBack cache s.words s.homes) (IsBack cache words slots)
+                  (λ other b. let ne = apart other.number b.word in record {
+                    low = b.low;
+                    word = there other.number ne ∙ b.word;
+                    lies = set_else s.homes number other.number (maybe.some (Some seat)) ne ∙
+                        b.lies;
+                  }) u.back f.back;
             }),
-        tt,
+        refl,
       )
 
+  -- a token is made that knows nothing
+  module _ (s : Board) (k : IsKept cache s) (id : ℕ) (v : Known)
+      (at : get_elem? s.views id ≡ maybe.some v) where
+    spare_part : (j : ℕ) (u : Known) → Stands s.views id v spare j u → Fits cache s.words s.homes u
+    spare_part j u (first_part e is) = subst (Fits cache s.words s.homes) is (k.fits id v at)
+    spare_part j u (as_before e is) = k.fits j u is
+    spare_part j u (second_part e is) = subst (Fits cache s.words s.homes) is
+        (spare_fits s.words s.homes)
+
+    -- what may take a slot is no new token
+    was_there : (j : ℕ) (u : Known) (slot : ℕ) → Stands s.views id v spare j u → IsAmong u slot →
+        get_elem? s.views j ≡ maybe.some u
+    was_there j u slot (first_part e is) among =
+        ap (λ (n : ℕ). get_elem? s.views n) e ∙ at ∙ ap maybe.some is
+    was_there j u slot (as_before e is) among = is
+    was_there j u slot (second_part e is) among = absurd (none_of spare refl refl slot
+        (subst (λ (x : Known). IsAmong x slot) (sym is) among))
+
+    spare_made : IsKept cache (record {
+      words = s.words;
+      homes = s.homes;
+      views = set s.views id v ++ spare ∷ [];
+    })
+    spare_made = record {
+      wide = k.wide;
+      deep = k.deep;
+      returned = k.returned;
+      fits = λ j u e. spare_part j u (stands s.views id v spare j u e);
+      one = λ i j u w slot a b p q. k.one i j u w slot
+          (was_there i u slot (stands s.views id v spare i u a) p)
+          (was_there j w slot (stands s.views id v spare j w b) q) p q;
+    }
+
+  pub spare_at : (id : ℕ) (v : Known) → Splits (IsKept cache) id v v spare
+  spare_at id v s k at = spare_made s k id v at
+
+  -- a token learns what another knows
+  pub learn_at : (id : ℕ) (v : Known) (other : ℕ) (w : Known) →
+      Joins (IsKept cache) id v other w (also_back v w) spare
+  learn_at id v other w s k at apart at' =
+      let both : Known = also_back v w in
+      let f = k.fits id v at in
+      let g = k.fits other w (sym (set_else s.views id other both apart) ∙ at') in
+      let P = IsBack cache s.words s.homes in
+      let first : IsKept cache (record {
+        words = s.words;
+        homes = s.homes;
+        views = set s.views id both;
+      }) = moved s k id v both s.words s.homes at
+      (λ slot among. record { from = among.from; to = among.to }) k.wide k.deep k.returned
+      (record {
+        free = λ slot idle among. f.free slot idle (record { from = among.from; to = among.to });
+        out = λ slot taken among. f.out slot taken
+            (record { from = among.from; to = among.to });
+        returned = f.returned;
+        back = All-append P v.back w.back f.back g.back;
+      }) (λ o u ne is. k.fits o u is) in
+      moved (record { words = s.words; homes = s.homes; views = set s.views id both }) first other
+      w spare s.words s.homes at' (λ slot among. absurd (none_of spare refl refl slot among))
+      k.wide k.deep k.returned (spare_fits s.words s.homes) (λ o u ne is. first.fits o u is)
+
   -- it is seen whether the next seat is returned
-  none_among : (seats returned : ℕ) (slot : ℕ) → IsAmong (keeping seats returned) slot → ⊥
-  none_among seats returned slot among = let a = among.from in let b =
+  none_among : (seats returned : ℕ) (back : List SeatView) (slot : ℕ) →
+      IsAmong (keeping seats returned back) slot → ⊥
+  none_among seats returned back slot among = let a = among.from in let b =
       among.to in omega (arith, a, b)
 
-  one_more : (s : Board) (k : IsKept cache s) (id seats returned : ℕ) →
-      get_elem? s.views id ≡ maybe.some (keeping seats returned) → slice_index s.words returned ≡ 1
-      → Fits cache s.words s.homes (keeping seats (returned + 1))
-  one_more s k id seats returned at one = record {
+  one_more : (s : Board) (k : IsKept cache s) (id seats returned : ℕ) (back : List SeatView) →
+      get_elem? s.views id ≡ maybe.some (keeping seats returned back) →
+      slice_index s.words returned ≡ 1
+      → Fits cache s.words s.homes (keeping seats (returned + 1) back)
+  one_more s k id seats returned back at one = record {
     free = λ slot idle among. absurd
-        (none_among seats (returned + 1) slot (record { from = among.from; to = among.to }));
+        (none_among seats (returned + 1) back slot (record { from = among.from; to = among.to }));
+    out = λ slot taken. absurd (true≢false (sym taken));
     returned = λ slot low. dite (ℕ_discrete slot returned)
         (λ e. ap (λ (n : ℕ). slice_index s.words n) e ∙ one)
-        (λ ne. (k.fits id (keeping seats returned) at).returned slot (omega (arith, low, ne)));
+        (λ ne. (k.fits id (keeping seats returned back) at).returned slot (omega (arith, low, ne)));
+    back = (k.fits id (keeping seats returned back) at).back;
   }
 
-  pub look_allowed : (slots : ℕ) (st : Step Returned) (id seats returned : ℕ) →
-      Allows (IsKept cache) slots id (keeping seats returned, []) returned (λ n. n)
-      (sees_returned st (keeping seats returned, []))
-  look_allowed slots st id seats returned s k _ at _ =
+  pub look_allowed : (slots : ℕ) (st : Step Returned) (id seats returned : ℕ)
+      (back : List SeatView) →
+      Allows (IsKept cache) slots id (keeping seats returned back, []) returned (λ n. n)
+      (sees_returned st (keeping seats returned back, []))
+  look_allowed slots st id seats returned back s k _ at _ =
       dite (ℕ_discrete (slice_index s.words returned) 1)
-      (λ one. looked (keeping seats (returned + 1)) (one_more s k id seats returned at one)
+      (λ one. looked (keeping seats (returned + 1) back) (one_more s k id seats returned back at one)
       (λ slot among. record { from = among.from; to = among.to }) (search rules))
-      (λ no. looked (keeping seats returned) (k.fits id (keeping seats returned) at)
+      (λ no. looked (keeping seats returned back) (k.fits id (keeping seats returned back) at)
       (λ slot among. among) (search rules))
     where
       looked : (w : Known) → Fits cache s.words s.homes w →
-          ((slot : ℕ) → IsAmong w slot → IsAmong (keeping seats returned) slot) →
-          seen_returned (keeping seats returned) (slice_index s.words returned) ≡ w
+          ((slot : ℕ) → IsAmong w slot → IsAmong (keeping seats returned back) slot) →
+          seen_returned (keeping seats returned back) (slice_index s.words returned) ≡ w
           → (w : Known) × (a : Act Returned) × Valid s.homes [] a ×
           IsKept cache (stepped s returned (slice_index s.words returned) id [] w a) ×
-          sees_returned st (keeping seats returned, []) (slice_index s.words returned)
+          sees_returned st (keeping seats returned back, []) (slice_index s.words returned)
           (w, carried_after [] a)
       looked w fits within is = (
         w,
         act_keeps,
         tt,
         same_words s returned s.homes (set s.views id w)
-            (moved s k id (keeping seats returned) w s.words s.homes at within k.wide k.deep
+            (moved s k id (keeping seats returned back) w s.words s.homes at within k.wide k.deep
             k.returned fits (λ other u _ at'. k.fits other u at')),
         (λ i. (sym is i, [])),
       )
@@ -390,33 +514,33 @@ module _ (cache : SharedView) where
       (subst (λ (m : At). Allows (IsKept cache) slots id m number (λ n. n) (takes_slot st m))
       (sym is) (take_slot_allowed slots st id number))
 
-  pub return_seat_at : (slots : ℕ) (st : Step Returned) (id number i : ℕ) (seat : SeatView)
-      (me : At) → me ≡ (spent number, (number, Some seat) ∷ []) → i ≡ number →
-      number < cache.seats → seat.cache ≡ cache
+  pub return_seat_at : (slots : ℕ) (st : Step Returned) (id i : ℕ) (seat : SeatView) (me : At) →
+      me ≡ (spent seat.number, (seat.number, Some seat) ∷ []) → i ≡ seat.number →
+      seat.number < cache.seats → seat.cache ≡ cache
       → Allows (IsKept cache) slots id me i (λ _. 1) (λ _. returns_seat st me 1)
-  return_seat_at slots st id number i seat me is same low its =
+  return_seat_at slots st id i seat me is same low its =
       subst (λ (j : ℕ). Allows (IsKept cache) slots id me j (λ _. 1) (λ _. returns_seat st me 1))
       (sym same)
-      (subst (λ (m : At). Allows (IsKept cache) slots id m number (λ _. 1)
+      (subst (λ (m : At). Allows (IsKept cache) slots id m seat.number (λ _. 1)
       (λ _. returns_seat st m 1)) (sym is)
-      (return_seat_allowed slots st id number seat low its))
+      (return_seat_allowed slots st id seat low its))
 
-  pub look_at : (slots : ℕ) (st : Step Returned) (id seats returned : ℕ) (me : At) →
-      me ≡ (keeping seats returned, []) →
+  pub look_at : (slots : ℕ) (st : Step Returned) (id seats returned : ℕ) (back : List SeatView)
+      (me : At) → me ≡ (keeping seats returned back, []) →
       Allows (IsKept cache) slots id me returned (λ n. n) (sees_returned st me)
-  look_at slots st id seats returned me is =
+  look_at slots st id seats returned back me is =
       subst (λ (m : At). Allows (IsKept cache) slots id m returned (λ n. n) (sees_returned st m))
-      (sym is) (look_allowed slots st id seats returned)
+      (sym is) (look_allowed slots st id seats returned back)
 
   -- who knows that all seats are returned finds a seat of the cache in each slot
-  pub slot_has : (id seats : ℕ) (words : List ℕ) (slots : List Returned) → seats ≡ cache.seats →
-      Final (Seen (IsKept cache) id (keeping seats seats)) words slots
+  pub slot_has : (id seats : ℕ) (back : List SeatView) (words : List ℕ) (slots : List Returned) →
+      seats ≡ cache.seats → Final (Seen (IsKept cache) id (keeping seats seats back)) words slots
       → (slot : ℕ) (x : Returned) → slot < seats → get_elem? slots slot ≡ maybe.some x →
       (seat : SeatView) × (x ≡ Some seat) × (seat.cache ≡ cache)
-  slot_has id seats words slots all end_ slot x low is =
+  slot_has id seats back words slots all end_ slot x low is =
       let s = end_.0 in let k = end_.1.0 in
       let h = k.returned slot (subst (λ (n : ℕ). slot < n) all low)
-      ((k.fits id (keeping seats seats) end_.1.1).returned slot low) in (
+      ((k.fits id (keeping seats seats back) end_.1.1).returned slot low) in (
         h.seat,
         some-injective x (Some h.seat) (sym is ∙ end_.4 slot (Some h.seat) h.lies),
         h.its_cache,
@@ -449,12 +573,84 @@ its_cache cache x seat has is = ap (cache_or cache) (sym is ∙ has.1) ∙ has.2
     cache_or c (Some s) = s.cache
 
 -- the same of a keeper whose view is told by an equation
-pub slot_of : (cache : SharedView) (id seats : ℕ) (me : At) (words : List ℕ)
-    (slots others : List Returned) → me ≡ (keeping seats seats, []) → seats ≡ cache.seats →
-    Final (Seen (IsKept cache) id me.0) words slots → others ≡ slots
+pub slot_of : (cache : SharedView) (id seats : ℕ) (back : List SeatView) (me : At)
+    (words : List ℕ) (slots others : List Returned) → me ≡ (keeping seats seats back, []) →
+    seats ≡ cache.seats → Final (Seen (IsKept cache) id me.0) words slots → others ≡ slots
     → (slot : ℕ) (x : Returned) → slot < seats → get_elem? others slot ≡ maybe.some x →
     (seat : SeatView) × (x ≡ Some seat) × (seat.cache ≡ cache)
-slot_of cache id seats me words slots others is all end_ same slot x low at =
-    slot_has cache id seats words slots all
+slot_of cache id seats back me words slots others is all end_ same slot x low at =
+    slot_has cache id seats back words slots all
     (subst (λ (m : At). Final (Seen (IsKept cache) id m.0) words slots) is end_) slot x low
     (ap (λ (xs : List Returned). get_elem? xs slot) (sym same) ∙ at)
+
+-- A seat that is known lies in its slot at the end.
+pub record LiesThere (cache : SharedView) (slots : List Returned) (seat : SeatView) : Type 0 where
+  pub low : seat.number < cache.seats
+  pub lies : get_elem? slots seat.number ≡ maybe.some (Some seat)
+
+pub known_lie : (cache : SharedView) (id seats : ℕ) (back : List SeatView) (me : At)
+    (words : List ℕ) (slots : List Returned) → me ≡ (keeping seats seats back, [])
+    → Final (Seen (IsKept cache) id me.0) words slots → All (LiesThere cache slots) back
+known_lie cache id seats back me words slots is end_ =
+    let final : Final (Seen (IsKept cache) id (keeping seats seats back)) words slots =
+    subst (λ (m : At). Final (Seen (IsKept cache) id m.0) words slots) is end_ in
+    let s = final.0 in
+    All-weaker (IsBack cache s.words s.homes) (LiesThere cache slots)
+    (λ seat b. record { low = b.low; lies = final.4 seat.number (Some seat) b.lies }) back
+    (final.1.0.fits id (keeping seats seats back) final.1.1).back
+
+-- Each slot below `done` has what stands at its number.
+abbrev pub AreCollected : List Returned → ℕ → List SeatView → Type 0
+AreCollected slots done items = (k : ℕ) (seat : SeatView) → k < done →
+    get_elem? slots k ≡ maybe.some (Some seat) → slice_get items k ≡ Some seat
+
+get_before : (items : List SeatView) (x : SeatView) (k : ℕ) → k < length items →
+    slice_get (items ++ x ∷ []) k ≡ slice_get items k
+get_before [] x k low = absurd (omega (arith, low))
+get_before (y ∷ ys) x zero low = refl
+get_before (y ∷ ys) x (suc k) low = get_before ys x k (omega (arith, low))
+
+get_last : (items : List SeatView) (x : SeatView) (k : ℕ) → k ≡ length items →
+    slice_get (items ++ x ∷ []) k ≡ Some x
+get_last [] x zero is = refl
+get_last [] x (suc k) is = absurd (omega (arith, is))
+get_last (y ∷ ys) x zero is = absurd (omega (arith, is))
+get_last (y ∷ ys) x (suc k) is = get_last ys x k (omega (arith, is))
+
+-- one slot more is emptied
+pub one_collected : (slots : List Returned) (done : ℕ) (items items' : List SeatView)
+    (x : Returned) (seat : SeatView) → AreCollected slots done items → length items ≡ done →
+    get_elem? slots done ≡ maybe.some x → x ≡ Some seat → items' ≡ items ++ seat ∷ [] →
+    AreCollected slots (done + 1) items'
+one_collected slots done items items' x seat so_far long at is pushed k other low lies =
+    ap (λ (l : List SeatView). slice_get l k) pushed ∙ dite (ℕ_discrete k done)
+    (λ e. get_last items seat k (omega (arith, e, long)) ∙ sym is ∙ some-injective x (Some other)
+    (sym at ∙ ap (λ (n : ℕ). get_elem? slots n) (sym e) ∙ lies))
+    (λ ne. get_before items seat k (omega (arith, low, ne, long)) ∙
+    so_far k other (omega (arith, low, ne)) lies)
+
+-- at the end each seat that is known stands at its number
+pub known_stand : (cache : SharedView) (slots others : List Returned) (seats done : ℕ)
+    (items back : List SeatView) → seats ≡ cache.seats → seats ≤ done → others ≡ slots →
+    AreCollected others done items → All (LiesThere cache slots) back →
+    All (λ (seat : SeatView). slice_get items seat.number ≡ Some seat) back
+known_stand cache slots others seats done items back all past same collected known =
+    All-weaker (LiesThere cache slots)
+    (λ (seat : SeatView). slice_get items seat.number ≡ Some seat)
+    (λ seat l. let low = l.low in collected seat.number seat (omega (arith, low, all, past))
+    (ap (λ (xs : List Returned). get_elem? xs seat.number) same ∙ l.lies)) back known
+
+-- what a returned seat's token knows, by how it was laid
+pub came_home : (number i : ℕ) (seat : SeatView) (me me' : At) →
+    me ≡ (spent number, (number, Some seat) ∷ []) → me' ≡ (came_in me.1, []) → me' ≡ (came seat, [])
+came_home number i seat me me' is e = e ∙ ap (λ (m : At). (came_in m.1, [])) is
+
+-- what a keeper knows of seats, by its view
+pub known_of : (seats returned : ℕ) (back : List SeatView) (me : At) →
+    me ≡ (keeping seats returned back, []) → me.0.back ≡ back
+known_of seats returned back me is = ap (λ (m : At). m.0.back) is
+
+pub by_itself : (seats returned : ℕ) (back : List SeatView) (me : At) →
+    me ≡ (keeping seats returned back, []) → me ≡ (keeping seats returned me.0.back, [])
+by_itself seats returned back me is = is ∙ ap (λ (b : List SeatView). (keeping seats returned b, []))
+    (sym (known_of seats returned back me is))

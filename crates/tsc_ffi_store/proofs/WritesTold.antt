@@ -16,6 +16,8 @@ use Rattle.tsc_shared.specs.Seats.{SeatView, IsSeat}
 use Rattle.timestamp_cache.specs.Clear.{IsClearOf, IsClearOfAnswers, IsClearOfAllReads}
 use Rattle.timestamp_cache.specs.Clear.{AsksInTurn, all_asked, none_told, one_told}
 use Rattle.timestamp_cache.specs.Earliest.{TellsEarliest}
+use Rattle.timestamp_cache.specs.SeatKinds.{shared_seat}
+use Rattle.timestamp_cache.specs.SeatLaws.{shared_seat_laws, shared_seat_rests}
 use Rattle.timestamp_cache.proofs.Earliest.{clear_later, one_more, none_more, clear_of_all_reads}
 use Rattle.timestamp_cache.proofs.AskingAll.{asks_all}
 use Rattle.tsc_ffi_store.specs.declared.ctypes.TscSpan.{TscSpan}
@@ -160,7 +162,7 @@ one_refused why keys words i d lt refused = (
 abbrev pub AsksFrom : Owner → SeatView → SeatView → List Interval → Option Time → Option Time → Type
     0
 AsksFrom by old new rest None told = (told ≡ None) × (new ≡ old)
-AsksFrom by old new rest (Some from) told = AsksInTurn by old new rest from told
+AsksFrom by old new rest (Some from) told = AsksInTurn shared_seat by old new rest from told
 
 asks_in_front : (by : Owner) (old next new : SeatView) (s : Interval) (rest : List Interval)
     (time later told : Option Time)
@@ -171,9 +173,11 @@ asks_in_front by old next new s rest None later told is asks =
     (λ (l : Option Time). AsksFrom by next new rest l told) is.0 asks in
     (at_none.0, at_none.1 ∙ is.1)
 asks_in_front by old next new s rest (Some from) None told first asks =
-    let none : AsksInTurn by old next (s ∷ rest) from None = none_told old next s rest from first in
-    subst (λ (n : SeatView). AsksInTurn by old n (s ∷ rest) from told) (sym asks.1)
-    (subst (λ (o : Option Time). AsksInTurn by old next (s ∷ rest) from o) (sym asks.0) none)
+    let none : AsksInTurn shared_seat by old next (s ∷ rest) from None =
+    none_told old next s rest from first in
+    subst (λ (n : SeatView). AsksInTurn shared_seat by old n (s ∷ rest) from told) (sym asks.1)
+    (subst (λ (o : Option Time). AsksInTurn shared_seat by old next (s ∷ rest) from o)
+    (sym asks.0) none)
 asks_in_front by old next new s rest (Some from) (Some at) told first asks = one_told old next new s
     rest from at told first asks
 
@@ -181,7 +185,7 @@ pub record AsksAll (old new : SeatView) (keys : List ℕ) (words : List TscSpan)
     (from : Time) (told : Option Time) : Type 0 where
   pub spans : List Interval
   pub are : AreSpans keys words spans
-  pub turn : AsksInTurn by old new spans from told
+  pub turn : AsksInTurn shared_seat by old new spans from told
 
 pub record HasAsked (old now : SeatView) (keys : List ℕ) (words left : List TscSpan) (by : Owner)
     (from : Time) (time : Option Time) : Type 0 where
@@ -221,6 +225,6 @@ asked_all old now asked i time is le so_far =
     record {
       spans = all.spans;
       asked_for = all.are;
-      asks = asks_all asked.by old now all.spans
-          asked.time time is all.turn;
+      asks = asks_all shared_seat shared_seat_laws asked.by old now all.spans
+          asked.time time (shared_seat_rests old is) all.turn;
     }

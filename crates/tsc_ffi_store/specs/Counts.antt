@@ -50,20 +50,28 @@ pub record CountsLookup {A : Type 0} (Reads : CacheView → Result A Refusal →
   pub same : new.cache ≡ old.cache
   pub counted : new.counts ≡ lookup_counted old.counts did
 
+-- A seat stays that of its cache.
+pub record StaysWith (old new : CountedSeat) : Type 0 where
+  pub returns : new.seat.returns ≡ old.seat.returns
+  pub opened : new.opened_at ≡ old.opened_at
+
 -- An Add at a seat is counted there, with the pages that it dropped.
 pub record CountsSeatAdd {A : Type 0} (Works : SeatView → SeatView → Result A Refusal → Type 0)
     (dropped : ℕ) (old new : CountedSeat) (did : Result A Refusal) : Type 0 where
-  pub works : Works old.seat new.seat did
+  pub works : Works old.seat.seat new.seat.seat did
+  pub stays : StaysWith old new
   pub counted : new.counts ≡ add_counted old.counts did dropped
 
 -- A lookup at a seat is counted there.
 pub record CountsSeatLookup {A : Type 0} (Works : SeatView → SeatView → Result A Refusal → Type 0)
     (old new : CountedSeat) (did : Result A Refusal) : Type 0 where
-  pub works : Works old.seat new.seat did
+  pub works : Works old.seat.seat new.seat.seat did
+  pub stays : StaysWith old new
   pub counted : new.counts ≡ lookup_counted old.counts did
 
 -- A call at a seat is not counted.
 pub record CountsNothing {A : Type 0} (Works : SeatView → SeatView → Result A Refusal → Type 0)
     (old new : CountedSeat) (did : Result A Refusal) : Type 0 where
-  pub works : Works old.seat new.seat did
+  pub works : Works old.seat.seat new.seat.seat did
+  pub stays : StaysWith old new
   pub same : new.counts ≡ old.counts

@@ -7,9 +7,11 @@ pub mod Laws
 pub mod Lending
 pub mod Marks
 pub mod OpenHandles
+pub mod Owners
 pub mod Puts
 pub mod ReturnSlots
 pub mod ReturnSteps
+pub mod SameTable
 pub mod SeatCalls
 pub mod Seating
 pub mod Store

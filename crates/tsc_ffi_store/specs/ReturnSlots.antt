@@ -1,6 +1,6 @@
 -- The rule of the slots in which the seats of a cache are returned: what holds between any two
 -- steps of any threads.
-use Rattle.std.specs.Prelude.{◌≡◌, ℕ, ◌+◌, ◌<◌, ◌≤◌, List, length, slice_index, true, false, Option, Some}
+use Rattle.std.specs.Prelude.{◌≡◌, ℕ, ◌+◌, ◌<◌, ◌≤◌, List, [], ◌∷◌, ◌++◌, All, length, slice_index, true, false, Option, Some}
 use mathlib.Core.Option as maybe
 use lib.ListN.{get_elem?}
 use Rattle.atomic_table.specs.Table.{State}
@@ -11,9 +11,14 @@ use Rattle.tsc_ffi_store.specs.declared.seats.return_slots.Known.{Known}
 abbrev pub Returned : Type 0
 Returned = Option SeatView
 
--- who may take the slots from one on, up to another
+-- who may take the slots from one on, up to another, knows how many seats from 0 on are returned,
+-- and some that lie in their slots
+abbrev pub knowing : ℕ → ℕ → ℕ → List SeatView → Known
+knowing from to returned back =
+    record { from = from; to = to; taken = false; returned = returned; back = back }
+
 abbrev pub dealing : ℕ → ℕ → ℕ → Known
-dealing from to returned = record { from = from; to = to; taken = false; returned = returned }
+dealing from to returned = knowing from to returned []
 
 -- the token of a seat, which may take its slot
 abbrev pub token : ℕ → Known
@@ -21,12 +26,25 @@ token number = dealing number (number + 1) 0
 
 -- what an owner knows once it has taken its token
 abbrev pub spent : ℕ → Known
-spent number = record { from = number; to = number + 1; taken = true; returned = 0 }
+spent number =
+    record { from = number; to = number + 1; taken = true; returned = 0; back = [] }
+
+-- a token that may take no slot, and knows nothing
+abbrev pub spare : Known
+spare = dealing 0 0 0
+
+-- the token of a seat that was returned
+abbrev pub came : SeatView → Known
+came seat = knowing 0 0 0 (seat ∷ [])
 
 -- who has dealt the tokens of all `seats` seats, and knows that the first `returned` seats are
--- returned
-abbrev pub keeping : ℕ → ℕ → Known
-keeping seats returned = dealing seats seats returned
+-- returned, and some of them as what
+abbrev pub keeping : ℕ → ℕ → List SeatView → Known
+keeping seats returned back = knowing seats seats returned back
+
+-- one who knows of the seats, too, that another knows of
+abbrev pub also_back : Known → Known → Known
+also_back v w = record v { back = v.back ++ w.back }
 
 -- the first of all may take all slots
 abbrev pub first_known : SharedView → Known
@@ -52,12 +70,21 @@ pub record IsFree (cache : SharedView) (words : List ℕ) (slots : List (maybe.O
   pub held : Returned
   pub lies : get_elem? slots slot ≡ maybe.some (maybe.some held)
 
--- What one knows fits: the slots that it may take are there, and the first `v.returned` seats are
--- returned.
+-- This very seat lies in its slot.
+pub record IsBack (cache : SharedView) (words : List ℕ) (slots : List (maybe.Option Returned))
+    (seat : SeatView) : Type 0 where
+  pub low : seat.number < cache.seats
+  pub word : slice_index words seat.number ≡ 1
+  pub lies : get_elem? slots seat.number ≡ maybe.some (maybe.some (Some seat))
+
+-- What one knows fits: the slots that it may take are there, in one that it has taken no seat is
+-- returned, the first `v.returned` seats are returned, and those that it knows of lie there.
 pub record Fits (cache : SharedView) (words : List ℕ) (slots : List (maybe.Option Returned))
     (v : Known) : Type 0 where
   pub free : (slot : ℕ) → v.taken ≡ false → IsAmong v slot → IsFree cache words slots slot
+  pub out : (slot : ℕ) → v.taken ≡ true → IsAmong v slot → slice_index words slot ≡ 0
   pub returned : (slot : ℕ) → slot < v.returned → slice_index words slot ≡ 1
+  pub back : All (IsBack cache words slots) v.back
 
 -- There is a word and a slot for each seat. Where a word is 1, its slot has a seat of the cache. No
 -- two may take, or have taken, one slot.

@@ -1,8 +1,9 @@
 -- The steps at the slots in which seats are returned.
-use Rattle.std.specs.Prelude.{◌≡◌, ℕ, ◌+◌, ◌==◌, [], ◌∷◌, true, if◌then◌else◌}
+use Rattle.std.specs.Prelude.{◌≡◌, ◌≢◌, ◌⊎◌, ℕ, ◌+◌, ◌==◌, List, [], ◌∷◌, true, Some, None, if◌then◌else◌}
 use Rattle.atomic_table.specs.Table.{Step, Me}
+use Rattle.atomic_table.specs.Seated.{TableId}
 use Rattle.tsc_ffi_store.specs.declared.seats.return_slots.Known.{Known}
-use Rattle.tsc_ffi_store.specs.ReturnSlots.{Returned, dealing}
+use Rattle.tsc_ffi_store.specs.ReturnSlots.{Returned, dealing, spare, came, also_back}
 
 -- what one knows, and what it has in hand
 abbrev pub At : Type 0
@@ -20,9 +21,18 @@ abbrev pub takes_slot : Step Returned → At → ℕ → At → Type 0
 takes_slot st me found me' = (x : Returned) ×
     (me' ≡ (record me.0 { taken = true }, (me.0.from, x) ∷ []))
 
--- A seat is returned.
+-- what is known of what was laid in a slot
+abbrev pub came_as : Returned → Known
+came_as None = spare
+came_as (Some seat) = came seat
+
+abbrev pub came_in : List (ℕ × Returned) → Known
+came_in [] = spare
+came_in (x ∷ xs) = came_as x.1
+
+-- A seat is returned, as the token knows from then on.
 abbrev pub returns_seat : Step Returned → At → ℕ → At → Type 0
-returns_seat st me found me' = Unit {0}
+returns_seat st me found me' = me' ≡ (came_in me.1, [])
 
 -- one seat more is known to be returned, where its word is 1
 abbrev pub seen_returned : Known → ℕ → Known
@@ -31,3 +41,8 @@ seen_returned v found = if found == 1 then record v { returned = v.returned + 1 
 -- a look at whether the next seat is returned
 abbrev pub sees_returned : Step Returned → At → ℕ → At → Type 0
 sees_returned st me found me' = me' ≡ (seen_returned me.0 found, [])
+
+-- What another token knows is learned, just where it is of this table.
+abbrev pub LearnsBy : TableId → TableId → Known → At → At → Type 0
+LearnsBy table its knows me me' =
+    ((table ≡ its) × (me' ≡ (also_back me.0 knows, me.1))) ⊎ ((table ≢ its) × (me' ≡ me))

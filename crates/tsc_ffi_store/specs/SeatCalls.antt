@@ -13,8 +13,8 @@ use Rattle.tsc_shared.specs.declared.answers.Closed.{Closed as Ended}
 use Rattle.tsc_shared.specs.declared.answers.AddFault.TheVariants.{HistoryFull, NoMemory, TooLarge}
 use Rattle.tsc_shared.specs.declared.answers.TryAddFault.{TryAddFault}
 use Rattle.tsc_shared.specs.declared.answers.TryAddFault.TheVariants.{DeskBusy, SeatInside, Refused}
-use Rattle.tsc_shared.specs.Seats.{SharedView, SeatView, new_seats, is_seat_count}
-use Rattle.tsc_shared.specs.Answers.{GoesOn, Accepts, Refuses, AnswersLookup, IsAbove, TellsNoPart, ReadsFloor, ReadsFigures, Closes}
+use Rattle.tsc_shared.specs.Seats.{SeatView, new_seats, is_seat_count}
+use Rattle.tsc_shared.specs.Answers.{GoesOn, Accepts, Refuses, AnswersLookup, IsAbove, TellsNoPart, ReadsFloor, ReadsFigures}
 use Rattle.tsc_ffi_store.specs.declared.ctypes.TscFigures.{TscFigures}
 use Rattle.tsc_ffi_store.specs.declared.refusal.Refusal.{Refusal}
 use Rattle.tsc_ffi_store.specs.declared.refusal.Refusal.TheVariants as refusal
@@ -23,23 +23,27 @@ use Rattle.tsc_ffi_store.specs.declared.store.Slot.TheVariants.{Closed, Shared, 
 use Rattle.tsc_ffi_store.specs.Decode.{AskedSpan, AskedAdd, AskedBatch, AskedConfig, settings_asked, add_span, lookup_span, figures_told, RefusesTime, RefusesEnds, RefusesAddSpan, RefusesConfig}
 use Rattle.tsc_ffi_store.specs.Marks.{AreMarks, RefusesMarks}
 use Rattle.tsc_ffi_store.specs.declared.counts.CountedSeat.{CountedSeat}
-use Rattle.tsc_ffi_store.specs.Counts.{no_counts}
+use Rattle.tsc_ffi_store.specs.Owners.{HandleView, OwnerView, handle_of, EndsWith}
+use Rattle.tsc_ffi_store.specs.Counts.{no_counts, StaysWith}
 use Rattle.tsc_ffi_store.specs.Store.{cache_at, shared_at, seat_at, Keeps, RefusesHandles}
+use Rattle.atomic_table.specs.Seated.{TableId}
 
--- a seat of which nothing was asked
-abbrev pub unasked : SeatView → CountedSeat
-unasked seat = record { seat = seat; counts = no_counts }
+-- a seat of which nothing was asked, whose cache was opened at a handle
+abbrev pub unasked : ℕ → HandleView → CountedSeat
+unasked at seat = record { seat = seat; opened_at = at; counts = no_counts }
 
 -- A shared cache is opened at the next handle, and its seats, which nobody has used, at the handles
 -- behind it, in their order. All that was given stays.
 pub record OpensShared (old new : List Slot) (handle : ℕ) (settings : Settings) (count limit : ℕ) :
     Type 0 where
-  pub cache : SharedView
+  pub owner : OwnerView
   pub next : handle ≡ length old
-  pub given : new ≡ old ++ Shared cache ∷ map (λ s. Seat (unasked s)) (new_seats cache 0 count)
-  pub settings_kept : cache.config ≡ settings
-  pub count_kept : cache.seats ≡ count
-  pub limit_kept : cache.limit ≡ limit
+  pub given : new ≡ old ++ Shared owner ∷
+      map (λ s. Seat (unasked handle (handle_of owner.returns s))) (new_seats owner.cache 0 count)
+  pub settings_kept : owner.cache.config ≡ settings
+  pub count_kept : owner.cache.seats ≡ count
+  pub limit_kept : owner.cache.limit ≡ limit
+  pub none_back : owner.back ≡ []
 
 -- No shared cache may have `count` seats.
 abbrev pub RefusesSeats : Refusal → ℕ → Type 0
@@ -86,8 +90,9 @@ pub record AnswersSeatLowWater {A : Type 0} (seen : ℕ) (floor : Time) (old new
 pub record TellsFiguresAt (old new : CountedSeat) (seen : ℕ) (figures : TscFigures) : Type 0 where
   pub counted : Figures
   pub told : figures ≡ figures_told counted figures.memory old.counts
-  pub reads : ReadsFigures old.seat new.seat (record { figures = counted; front = seen })
+  pub reads : ReadsFigures old.seat.seat new.seat.seat (record { figures = counted; front = seen })
   pub same : new.counts ≡ old.counts
+  pub stays : StaysWith old new
 
 -- What a call answers that tells them.
 pub record AnswersSeatFigures {A : Type 0} (seen : ℕ) (figures : TscFigures)
@@ -269,24 +274,65 @@ pub record AnswersMove {A : Type 0} (handle m : ℕ) (from to from' to' : List S
   pub moved : IfOk did (λ _. Moves from to from' to' handle m)
   pub refused : IfErr did (λ why. RefusesMove why from to handle)
 
--- A shared cache is closed. All its seats were handed in, and what all of them saw was a beginning
--- of one history, which has `adds` Adds.
-pub record ClosesShared (held after : Option SharedView) (adds : ℕ) : Type 0 where
-  pub cache : SharedView
-  pub holds : held ≡ Some cache
+-- An owner learns that seats came back to its cache, as what they are.
+pub record KnowsBack (returns : TableId) (seats : List SeatView) (old new : Slot) : Type 0 where
+  pub owner : OwnerView
+  pub held : old ≡ Shared owner
+  pub its : owner.returns ≡ returns
+  pub knows : new ≡ Shared (record owner { back = owner.back ++ seats })
+
+-- What does not hold their cache learns nothing of seats that came back.
+pub record LearnsNothing (returns : TableId) (old new : Slot) : Type 0 where
+  pub other : (owner : OwnerView) → old ≡ Shared owner → owner.returns ≢ returns
+  pub same : new ≡ old
+
+abbrev pub Learns : TableId → List SeatView → Slot → Slot → Type 0
+Learns returns seats old new = KnowsBack returns seats old new ⊎ LearnsNothing returns old new
+
+abbrev pub LearnsIf : TableId → List SeatView → Option Slot → Option Slot → Type 0
+LearnsIf returns seats None new = new ≡ None
+LearnsIf returns seats (Some slot) new =
+    (after : Slot) × (new ≡ Some after) × Learns returns seats slot after
+
+-- What a handle names learns of seats that came back. What the others name is as before.
+pub record LearnsAt (returns : TableId) (seats : List SeatView) (old new : List Slot)
+    (handle : ℕ) : Type 0 where
+  pub there : LearnsIf returns seats (slice_get old handle) (slice_get new handle)
+  pub others : Keeps old new handle
+
+-- A seat is handed in, and its handle names nothing. Its cache's owner knows of it, as it is then,
+-- if the owner lies where both were opened.
+pub record ComesBack (old new : List Slot) (handle : ℕ) : Type 0 where
+  pub seat : CountedSeat
+  pub held : slice_get old handle ≡ Some (Seat seat)
+  pub left : List Slot
+  pub goes : left ≡ slice_set old handle Closed
+  pub learns : LearnsAt seat.seat.returns (seat.seat.seat ∷ []) left new seat.opened_at
+
+-- What a call does that hands in the seat that a handle names.
+pub record AnswersCloseSeat {A : Type 0} (handle : ℕ) (old new : List Slot)
+    (did : Result A Refusal) : Type 0 where
+  pub closed : IfOk did (λ _. ComesBack old new handle)
+  pub refused : IfErr did (λ why. (why ≡ refusal.Closed) × (seat_at old handle ≡ None))
+
+-- A shared cache is closed. All its seats were handed in, those that its owner knows of among them.
+-- What all of them saw was a beginning of one history, which has `adds` Adds: as many as the seats
+-- count together.
+pub record ClosesShared (held after : Option OwnerView) (adds : ℕ) : Type 0 where
+  pub owner : OwnerView
+  pub holds : held ≡ Some owner
   pub none : after ≡ None
-  pub seats : List SeatView
   pub ended : Ended
-  pub closes : Closes cache seats ended
+  pub ends : EndsWith owner.cache owner.back ended
   pub long : adds ≡ ended.adds
 
 -- Why a shared cache was not closed: there is none, or a seat is still out.
-abbrev pub RefusesCloseShared : Refusal → Option SharedView → Type 0
+abbrev pub RefusesCloseShared : Refusal → Option OwnerView → Type 0
 RefusesCloseShared why held = ((why ≡ refusal.Closed) × (held ≡ None)) ⊎
     ((why ≡ refusal.StillOut) × (held ≢ None))
 
 -- What becomes of a shared cache that is to be closed, and how many Adds its history has.
-pub record EndsShared {A : Type 0} (adds : ℕ) (held after : Option SharedView)
+pub record EndsShared {A : Type 0} (adds : ℕ) (held after : Option OwnerView)
     (did : Result A Refusal) : Type 0 where
   pub closed : IfOk did (λ _. ClosesShared held after adds)
   pub refused : IfErr did (λ why. RefusesCloseShared why held)

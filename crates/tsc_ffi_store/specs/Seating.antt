@@ -37,11 +37,13 @@ pub record Deals (shared : SharedHandleView) (table : TableId) (me : At) (number
   pub sized : IsSized shared.table shared.cache.seats
   pub others : me ≡ (dealing number shared.cache.seats 0, [])
 
--- A token of a table for `seats` seats, which knows that the first `returned` of them are returned.
-pub record KnowsReturned (table its : TableId) (me : At) (seats returned : ℕ) : Type 0 where
+-- A token of a table for `seats` seats, which knows that the first `returned` of them are returned,
+-- and of some as what.
+pub record KnowsReturned (table its : TableId) (me : At) (seats returned : ℕ)
+    (back : List SeatView) : Type 0 where
   pub its_table : its ≡ table
   pub sized : IsSized table seats
-  pub known : me ≡ (keeping seats returned, [])
+  pub known : me ≡ (keeping seats returned back, [])
   pub some : returned ≤ seats
 
 -- An empty list, which has room for `seats` seats.
@@ -49,10 +51,11 @@ pub record IsRoomFor (items : List SeatView) (capacity seats : ℕ) : Type 0 whe
   pub empty : items ≡ []
   pub room : seats ≤ capacity
 
--- The keeper's token knows that the first `returned` seats are returned.
-pub record IsKeeper (shared : SharedHandleView) (table : TableId) (me : At) (seats returned : ℕ) :
-    Type 0 where
+-- The keeper's token knows that the first `returned` seats are returned, and of some as what.
+pub record IsKeeper (shared : SharedHandleView) (table : TableId) (me : At) (seats returned : ℕ)
+    (back : List SeatView) : Type 0 where
   pub its_table : table ≡ shared.table
   pub all : seats ≡ shared.cache.seats
-  pub known : me ≡ (keeping seats returned, [])
+  pub known : me ≡ (keeping seats returned back, [])
   pub some : returned ≤ seats
+  pub any : 0 < seats

@@ -1,6 +1,6 @@
 -- A store: what its handles name, and what a call does to what a handle names.
 use Rattle.std.specs.Prelude.{◌≡◌, ◌≢◌, ◌+◌, ◌-◌, ◌^◌, ◌<◌, ◌⊎◌, ℕ, List, [], length, slice_get, slice_set, Option, Some, None, Result, Err, IfOk, IfErr}
-use Rattle.tsc_shared.specs.Seats.{SharedView}
+use Rattle.tsc_ffi_store.specs.Owners.{OwnerView}
 use Rattle.tsc_ffi_store.specs.declared.counts.CountedCache.{CountedCache}
 use Rattle.tsc_ffi_store.specs.declared.counts.CountedSeat.{CountedSeat}
 use Rattle.tsc_ffi_store.specs.declared.refusal.Refusal.{Refusal}
@@ -24,18 +24,18 @@ abbrev pub cache_at : List Slot → ℕ → Option CountedCache
 cache_at slots handle = cache_in (slice_get slots handle)
 
 -- the shared cache that a slot holds
-abbrev pub shared_of : Slot → Option SharedView
+abbrev pub shared_of : Slot → Option OwnerView
 shared_of Closed = None
 shared_of (Own cache) = None
 shared_of (Shared cache) = Some cache
 shared_of (Seat seat) = None
 
-abbrev pub shared_in : Option Slot → Option SharedView
+abbrev pub shared_in : Option Slot → Option OwnerView
 shared_in None = None
 shared_in (Some slot) = shared_of slot
 
 -- the shared cache that a handle names, if it names one
-abbrev pub shared_at : List Slot → ℕ → Option SharedView
+abbrev pub shared_at : List Slot → ℕ → Option OwnerView
 shared_at slots handle = shared_in (slice_get slots handle)
 
 -- the seat that a slot holds, with what was asked of it

@@ -7,6 +7,7 @@ use Rattle.tsc_cache.specs.CacheView.{CacheView, cache_answer}
 use Rattle.tsc_shared.specs.Seats.{SeatView}
 use Rattle.timestamp_cache.specs.Clear.{IsClearOf, AsksEarliestAt}
 use Rattle.timestamp_cache.specs.Earliest.{TellsEarliest}
+use Rattle.timestamp_cache.specs.SeatKinds.{shared_seat}
 
 -- what a cache tells of one span more
 abbrev pub TellsLater : CacheView → Interval → Owner → Option Time → Option Time → Type 0
@@ -17,4 +18,4 @@ TellsLater cache s by (Some from) told =
 -- what a seat is told of one span more
 abbrev pub AsksLater : SeatView → SeatView → Interval → Owner → Option Time → Option Time → Type 0
 AsksLater old new s by None told = (told ≡ None) × (new ≡ old)
-AsksLater old new s by (Some from) told = AsksEarliestAt old new s by from told
+AsksLater old new s by (Some from) told = AsksEarliestAt shared_seat old new s by from told

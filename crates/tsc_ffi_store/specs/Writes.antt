@@ -11,6 +11,7 @@ use Rattle.tsc_cache.specs.CacheView.{CacheView, RepresentsState}
 use Rattle.tsc_shared.specs.Seats.{SeatView}
 use Rattle.timestamp_cache.specs.Clear.{IsClearOfAnswers, IsClearOfAllReads, AsksOfAllAt}
 use Rattle.timestamp_cache.specs.Earliest.{TellsEarliest}
+use Rattle.timestamp_cache.specs.SeatKinds.{shared_seat}
 use Rattle.tsc_ffi_store.specs.declared.ctypes.TscSpan.{TscSpan}
 use Rattle.tsc_ffi_store.specs.declared.ctypes.TscValue.{TscValue}
 use Rattle.tsc_ffi_store.specs.declared.ctypes.WriteArgs.{WriteArgs}
@@ -90,7 +91,7 @@ pub record TellsWrite (cache : CacheView) (asked : AskedWrite) (told : Option Ti
 pub record AsksWrite (old new : SeatView) (asked : AskedWrite) (told : Option Time) : Type 0 where
   pub spans : List Interval
   pub asked_for : AreSpans asked.keys asked.spans spans
-  pub asks : AsksOfAllAt old new spans asked.by asked.time told
+  pub asks : AsksOfAllAt shared_seat old new spans asked.by asked.time told
 
 -- Why what a call says of a write was refused.
 abbrev pub RefusesWrite : Refusal → AskedWrite → Type 0

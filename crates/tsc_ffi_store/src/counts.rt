@@ -78,16 +78,19 @@ impl CountedCache {
 #[derive(Drop)]
 pub struct CountedSeat {
     pub seat: SeatHandle,
+    /// The handle of its cache, in the store where both were opened.
+    pub opened_at: u64,
     pub counts: Counts,
 }
 
 impl CountedSeat {
     /// A seat of which nothing was asked.
-    pub fn new(seat: SeatHandle) -> CountedSeat
-        ensures { result ≡ record { seat = seat; counts = no_counts } }
+    pub fn new(seat: SeatHandle, opened_at: u64) -> CountedSeat
+        ensures { result ≡ record { seat = seat; opened_at = opened_at; counts = no_counts } }
     {
         CountedSeat {
             seat,
+            opened_at,
             counts: Counts::new(),
         }
     }

@@ -1,13 +1,13 @@
 //! The requests for caches that threads share, and for their seats.
 
-ghost use Rattle.std.specs.Prelude.{◌≡◌, ◌⊎◌, ◌++◌, ◌∷◌, ◌+◌, ◌-◌, ◌^◌, ◌<◌, ◌≤◌, IfOk, IfErr, OnErr, None, map, length};
+ghost use Rattle.std.specs.Prelude.{◌≡◌, ◌⊎◌, ◌++◌, ◌∷◌, ◌+◌, ◌-◌, ◌^◌, ◌<◌, ◌≤◌, IfOk, IfErr, OnErr, IfSome, IfNone, None, Some, [], map, length, slice_get, slice_set};
 ghost use Rattle.std.specs.Vec.{vec_len, vec_capacity};
 ghost use Rattle.tsc_shared.specs.Seats.{is_seat_count};
 ghost use Rattle.tsc_shared.specs.Answers.{ReadsFloor, ReadsFigures};
 ghost use Rattle.tsc_ffi_store.specs.Decode.{time_of, value_of, added_of, asked_span, asked_add, asked_batch};
-ghost use Rattle.tsc_ffi_store.specs.Store.{seat_of, seat_at, shared_of, LetsGo, AnswersClose, RefusesHandles};
-ghost use Rattle.tsc_ffi_store.specs.SeatCalls.{unasked, OpensShared, RefusesSeats, RefusesRoom, AnswersSeatLookup, TellsFiguresAt, AnswersSeatAdd, AnswersSeatAddAll, AnswersTriedAdd, AnswersTriedAddAll, AnswersMove, IsCodeOf, EndsShared, AnswersCloseShared};
-ghost use Rattle.tsc_ffi_store.specs.Counts.{CountsSeatLookup, CountsSeatAdd};
+ghost use Rattle.tsc_ffi_store.specs.Store.{seat_of, seat_at, shared_of, RefusesHandles};
+ghost use Rattle.tsc_ffi_store.specs.SeatCalls.{unasked, OpensShared, RefusesSeats, RefusesRoom, AnswersSeatLookup, TellsFiguresAt, AnswersSeatAdd, AnswersSeatAddAll, AnswersTriedAdd, AnswersTriedAddAll, AnswersMove, IsCodeOf, Learns, LearnsAt, AnswersCloseSeat, EndsShared, AnswersCloseShared};
+ghost use Rattle.tsc_ffi_store.specs.Counts.{StaysWith, CountsSeatLookup, CountsSeatAdd};
 ghost use Rattle.tsc_ffi_store.specs.OpenHandles.{AreOpen, named_by};
 ghost use Rattle.tsc_ffi_store.specs.declared.store.Slot.TheVariants as kinds;
 
@@ -21,7 +21,7 @@ use crate::decode::{
 use crate::marks::marks;
 use crate::places::{lay, place_of};
 use crate::refusal::Refusal;
-use crate::seats::{Owner, SeatHandle};
+use crate::seats::{Owner, SeatHandle, SlotToken};
 use crate::store::{Slot, Store};
 use std::alloc::Global;
 use std::mem::replace;
@@ -36,20 +36,31 @@ pub fn may_seat(seats: u32) -> bool
 }
 
 impl Slot {
-    /// Hands in the seat that is held.
-    fn close_seat(&mut self) -> Result<(), Refusal>
-        ensures closed { LetsGo (seat_of self.old) (seat_of self.new) result }
-        ensures unchanged { OnErr result (self.new ≡ self.old) }
+    /// The seat that is held, in whose stead nothing is left.
+    fn take_seat(&mut self) -> Option<CountedSeat>
+        ensures taken { IfSome result
+            (λ seat. (self.old ≡ kinds.Seat seat) × (self.new ≡ kinds.Closed)) }
+        ensures none { IfNone result (seat_of self.old ≡ None) }
+        ensures unchanged { IfNone result (self.new ≡ self.old) }
     {
         match replace(self, Slot::Closed) {
-            Slot::Seat(held) => {
-                held.seat.close();
-                Ok(())
-            }
+            Slot::Seat(held) => Some(held),
             slot @ (Slot::Closed | Slot::Own(_) | Slot::Shared(_)) => {
                 *self = slot;
-                Err(Refusal::Closed)
+                None
             }
+        }
+    }
+
+    /// Learns what a token knows of seats that came back, if that is of the shared cache that is
+    /// held.
+    fn learn(&mut self, token: SlotToken)
+        requires free { token.me.1 ≡ [] }
+        ensures { Learns token.table_id token.me.0.back self.old self.new }
+    {
+        match self {
+            Slot::Shared(owner) => owner.learn(token),
+            Slot::Closed | Slot::Own(_) | Slot::Seat(_) => {}
         }
     }
 
@@ -119,25 +130,44 @@ impl Store {
         }
     }
 
-    /// Hands in a seat.
+    /// Returns a seat. The owner of its cache learns of it, if it lies where both were opened.
     pub fn close_seat(&mut self, handle: u64) -> Result<(), Refusal>
-        ensures answers { AnswersClose seat_at handle self.old self.new result }
+        ensures answers { AnswersCloseSeat handle self.old self.new result }
         ensures kept { OnErr result (self.new ≡ self.old) }
     {
-        let did = self.close_seat_there(handle);
+        let Some(held) = self.take_seat(handle) else {
+            return Err(Refusal::Closed);
+        };
         self.forget(handle);
-        did
+        let opened_at = held.opened_at;
+        self.learn(opened_at, held.seat.close());
+        Ok(())
     }
 
-    /// Hands in a seat, and keeps the place of its handle.
-    fn close_seat_there(&mut self, handle: u64) -> Result<(), Refusal>
-        ensures answers { AnswersClose seat_at handle self.old self.new result }
-        ensures kept { OnErr result (self.new ≡ self.old) }
+    /// The seat that a handle names, which names nothing from then on.
+    fn take_seat(&mut self, handle: u64) -> Option<CountedSeat>
+        ensures taken { IfSome result
+            (λ seat. (slice_get self.old handle ≡ Some (kinds.Seat seat)) ×
+            (self.new ≡ slice_set self.old handle kinds.Closed)) }
+        ensures none { IfNone result (seat_at self.old handle ≡ None) }
+        ensures unchanged { IfNone result (self.new ≡ self.old) }
     {
         let place = place_of(&self.handles, handle);
         match self.slots.get_mut(place) {
-            Some(slot) => slot.close_seat(),
-            None => Err(Refusal::Closed),
+            Some(slot) => slot.take_seat(),
+            None => None,
+        }
+    }
+
+    /// What a handle names learns what a token knows of seats that came back.
+    fn learn(&mut self, handle: u64, token: SlotToken)
+        requires free { token.me.1 ≡ [] }
+        ensures { LearnsAt token.table_id token.me.0.back self.old self.new handle }
+    {
+        let place = place_of(&self.handles, handle);
+        match self.slots.get_mut(place) {
+            Some(slot) => slot.learn(token),
+            None => {}
         }
     }
 
@@ -169,7 +199,7 @@ impl Store {
         let alloc = *self.slots.allocator();
         for slot in replace(&mut self.slots, Vec::new(alloc)) {
             if let Slot::Seat(held) = slot {
-                held.seat.close();
+                let _token = held.seat.close();
             }
         }
     }
@@ -218,11 +248,13 @@ fn put(
     ensures laid { AreOpen handles.new.items slots.new.items next.new }
     ensures named { named_by handles.new.items slots.new.items next.new ≡
         named_by handles.old.items slots.old.items next.old ++ kinds.Shared owner ∷
-        map (λ s. kinds.Seat (unasked s)) seats.items }
+        map (λ s. kinds.Seat (unasked next.old s)) seats.items }
 {
+    let opened_at = *next;
     lay(handles, slots, next, Slot::Shared(owner));
     for seat in seats {
-        lay(handles, slots, next, Slot::Seat(CountedSeat::new(seat)));
+        let held = CountedSeat::new(seat, opened_at);
+        lay(handles, slots, next, Slot::Seat(held));
     }
 }
 
@@ -247,9 +279,10 @@ pub fn look_at(
 
 /// Writes where the floor of the cache of a seat stands, and how many Adds the seat has seen then.
 pub fn floor_at(held: &mut CountedSeat, seen: &mut u64, out: &mut TscTime)
-    ensures floor { ReadsFloor held.old.seat held.new.seat
+    ensures floor { ReadsFloor held.old.seat.seat held.new.seat.seat
         (record { time = time_of out.new; front = seen.new }) }
     ensures counts { held.new.counts ≡ held.old.counts }
+    ensures stays { StaysWith held.old held.new }
 {
     let answer = held.seat.low_water();
     *seen = answer.front;
@@ -268,7 +301,8 @@ pub fn figures_at(held: &mut CountedSeat, seen: &mut u64, out: &mut TscFigures)
 /// The figures of the cache of a seat, and how much memory the copy takes that the seat reads. That
 /// is 0 where there are so many handles of the copy that the seat gets none.
 fn figures_and_memory(seat: &mut SeatHandle) -> (SeatFigures, u64)
-    ensures { ReadsFigures seat.old seat.new result.0 }
+    ensures figures { ReadsFigures seat.old.seat seat.new.seat result.0 }
+    ensures same { seat.new.returns ≡ seat.old.returns }
 {
     match seat.snapshot() {
         Ok(snapshot) => {
@@ -308,7 +342,8 @@ fn add_to_seat(
     out: &mut TscAdded,
 ) -> Result<(), Refusal>
     ensures answers { AnswersSeatAdd (asked_add args.now) tries place.new (added_of out.new)
-        seat.old seat.new result }
+        seat.old.seat seat.new.seat result }
+    ensures same { seat.new.returns ≡ seat.old.returns }
     ensures kept { OnErr result ((place.new ≡ place.old) × (out.new ≡ out.old)) }
 {
     if tries == 0 {
@@ -326,8 +361,9 @@ fn try_add_to_seat(
     place: &mut u64,
     out: &mut TscAdded,
 ) -> Result<(), Refusal>
-    ensures answers { AnswersTriedAdd (asked_add args.now) place.new (added_of out.new) seat.old
-        seat.new result }
+    ensures answers { AnswersTriedAdd (asked_add args.now) place.new (added_of out.new)
+        seat.old.seat seat.new.seat result }
+    ensures same { seat.new.returns ≡ seat.old.returns }
     ensures kept { OnErr result ((place.new ≡ place.old) × (out.new ≡ out.old)) }
 {
     let value = value(args.value)?;
@@ -368,7 +404,8 @@ fn add_all_to_seat(
     out: &mut TscAdded,
 ) -> Result<(), Refusal>
     ensures answers { AnswersSeatAddAll (asked_batch args.now) tries place.new (added_of out.new)
-        seat.old seat.new result }
+        seat.old.seat seat.new.seat result }
+    ensures same { seat.new.returns ≡ seat.old.returns }
     ensures kept { OnErr result ((place.new ≡ place.old) × (out.new ≡ out.old)) }
 {
     if tries == 0 {
@@ -387,7 +424,8 @@ fn try_add_all_to_seat(
     out: &mut TscAdded,
 ) -> Result<(), Refusal>
     ensures answers { AnswersTriedAddAll (asked_batch args.now) place.new (added_of out.new)
-        seat.old seat.new result }
+        seat.old.seat seat.new.seat result }
+    ensures same { seat.new.returns ≡ seat.old.returns }
     ensures kept { OnErr result ((place.new ≡ place.old) × (out.new ≡ out.old)) }
 {
     let moment = time(args.moment)?;

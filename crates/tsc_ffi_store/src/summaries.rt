@@ -72,10 +72,12 @@ fn bytes_at(
     alloc: Global,
     args: &SummaryArgs<'_>,
 ) -> Result<SeatBytes, Refusal>
-    ensures told { IfOk result (λ told. TellsSeatSummary seat.old seat.new (asked_summary args.now)
-        told.front told.bytes.items) }
+    ensures told { IfOk result (λ told. TellsSeatSummary seat.old.seat seat.new.seat
+        (asked_summary args.now) told.front told.bytes.items) }
     ensures refused { IfErr result (λ why. RefusesSummary why (asked_summary args.now)) }
-    ensures looked { (seat.new ≡ seat.old) ⊎ HasLookedOn seat.old seat.new }
+    ensures looked { (seat.new.seat ≡ seat.old.seat) ⊎
+        HasLookedOn seat.old.seat seat.new.seat }
+    ensures same { seat.new.returns ≡ seat.old.returns }
 {
     let span = added_span(alloc, &args.span)?;
     let Ok(told) = seat.summary(alloc, &span, args.most) else {

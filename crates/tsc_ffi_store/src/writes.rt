@@ -118,9 +118,11 @@ fn earliest_in(cache: &Cache, args: &WriteArgs<'_>) -> Result<Option<Timestamp>,
 /// The earliest time at which a write is clear of what a seat answers to some spans, one after
 /// another. All of them are read before the first lookup, so that a refused write has seen nothing.
 fn earliest_at(seat: &mut SeatHandle, args: &WriteArgs<'_>) -> Result<Option<Timestamp>, Refusal>
-    ensures told { IfOk result (λ told. AsksWrite seat.old seat.new (asked_write args.now) told) }
+    ensures told { IfOk result
+        (λ told. AsksWrite seat.old.seat seat.new.seat (asked_write args.now) told) }
     ensures refused { IfErr result (λ why. RefusesWrite why (asked_write args.now)) }
     ensures unchanged { OnErr result (seat.new ≡ seat.old) }
+    ensures same { seat.new.returns ≡ seat.old.returns }
 {
     let _seen = seat.seen();
     let mut time = Some(value_time(args.write)?);
@@ -168,7 +170,8 @@ fn later_at(
     time: Option<Timestamp>,
     by: Uuid,
 ) -> Option<Timestamp>
-    ensures { AsksLater seat.old seat.new span.now by time result }
+    ensures told { AsksLater seat.old.seat seat.new.seat span.now by time result }
+    ensures same { seat.new.returns ≡ seat.old.returns }
 {
     match time {
         Some(time) => earliest_clear_of(seat.get_max_ref(span).value, time, by),

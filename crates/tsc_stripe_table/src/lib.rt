@@ -22,8 +22,8 @@
 //! - [`try_acquire`] acquires the lock of a stripe where it is free, and [`is_free`] looks whether
 //!   it is. A seat that holds several locks acquires them in ascending order.
 //! - [`Participant::slot_mut`](atomic_table::Seat::slot_mut) lends what is in hand. By
-//!   [`Stripe::add`] the seat adds there in place, and by [`Stripe::replace`] the next version of
-//!   the cache takes its place.
+//!   [`Stripe::add`] the seat adds there, and by [`Stripe::replace`] the next version of the cache
+//!   takes its place. What either leaves behind is dropped when the lock is released.
 //! - Each of four calls releases the lock that was acquired last. After [`commit`] the Add is the
 //!   last entry of the history, and the seat has seen it all. After [`commit_batch`] a batch of
 //!   marks is one entry, also one that lies on several stripes, all of which are held then. After
@@ -46,5 +46,5 @@ pub use closing::{close, merge};
 pub use fronts::{catch_up, new_front, see_front};
 pub use locking::{commit, commit_batch, is_free, release, release_seen, try_acquire};
 pub use opening::{deal, new_table};
-pub use stripe::{PendingAdd, PendingBatch, Stripe};
+pub use stripe::{PendingAdd, PendingBatch, Stripe, StripeAdd, Version};
 pub use table::{Knowledge, OneHistory, Participant, SeatState, Setup, SharedStripes, StripeTable};

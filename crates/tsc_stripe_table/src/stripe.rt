@@ -1,8 +1,10 @@
 //! A stripe: a cache, and what was added last on it.
-ghost use Rattle.std.specs.Prelude.{◌≡◌, ◌↔◌, true, false, IsOk, IfOk, IsErrOf, OnOk, OnErr};
+ghost use Rattle.std.specs.Prelude.{◌≡◌, ◌≢◌, true, false, IsOk, IfOk, IfSome, OnOk, OnErr};
 ghost use Rattle.tsc_cache.specs.Settings.{fits};
+ghost use Rattle.tsc_cache.specs.Batch.{all_fit};
 ghost use Rattle.tsc_cache.specs.State.{opening, is_kept};
 ghost use Rattle.tsc_cache.specs.CacheView.{RepresentsState, StandsAfter, TellsAdded};
+ghost use Rattle.tsc_cache.specs.CacheView.{StandsAfterAll, TellsAddedAll};
 
 use std::alloc::Global;
 use std::mem;
@@ -54,6 +56,51 @@ impl PendingBatch {
     }
 }
 
+/// The next version of a stripe's cache, and what was added there.
+#[derive(Drop)]
+pub struct Version {
+    pub cache: Cache,
+    pub added: Added,
+}
+
+/// What an Add did on a stripe. A cache that it replaced is to be dropped once the stripe's lock is
+/// released.
+#[derive(Drop)]
+pub struct StripeAdd {
+    pub added: Added,
+    pub replaced: Option<Cache>,
+}
+
+/// Why an Add of what fits was refused: memory was.
+fn of_fitting(fault: CacheFault) -> NoMemory
+    requires { fault ≢ CacheFault.TooLarge }
+{
+    let _refused = fault;
+    NoMemory
+}
+
+/// The version after an Add of a span that fits.
+fn next_version(
+    cache: &Cache,
+    span: &Span,
+    value: Value,
+    now: Timestamp,
+) -> Result<Version, NoMemory>
+    requires fits { fits cache.now.settings span.now ≡ true }
+    ensures stands { IfOk result (λ next. StandsAfter cache.now next.cache
+        (record { span = span.now; value = value }) now) }
+    ensures added { IfOk result (λ next. TellsAdded cache.now
+        (record { span = span.now; value = value }) now next.added) }
+{
+    match cache.next(span, value, now) {
+        Ok(made) => Ok(Version {
+            cache: made.0,
+            added: made.1,
+        }),
+        Err(fault) => Err(of_fitting(fault)),
+    }
+}
+
 /// The cache of a stripe. What lies before and after it keeps it on lines of its own.
 #[derive(Drop)]
 pub struct Stripe {
@@ -82,31 +129,83 @@ impl Stripe {
         })
     }
 
-    /// Adds a span with its value at the moment `now`, as [`TimestampCache::add`] does. That is
-    /// then the Add that was made last.
+    /// Adds a span that fits with its value at the moment `now`, as [`TimestampCache::add`] does.
+    /// That is then the Add that was made last.
+    ///
+    /// It adds in place. Where the pages rotate, the next version of the cache takes its place
+    /// instead, which takes the memory of a list of pages. So no page is dropped here.
     #[inline]
-    pub fn add(&mut self, span: &Span, value: Value, now: Timestamp) -> Result<Added, CacheFault>
+    pub fn add(&mut self, span: &Span, value: Value, now: Timestamp) -> Result<StripeAdd, NoMemory>
+        requires fits { fits self.old.cache.settings span.now ≡ true }
         ensures pending { OnOk result ((self.new.pending.span.value ≡ span.now)
             × (self.new.pending.value.value ≡ value) × (self.new.pending.moment.value ≡ now)) }
         ensures stands { OnOk result (StandsAfter self.old.cache self.new.cache
             (record { span = span.now; value = value }) now) }
-        ensures added { IfOk result
-            (TellsAdded self.old.cache (record { span = span.now; value = value }) now) }
-        ensures too_large { IsErrOf result CacheFault.TooLarge ↔
-            (fits self.old.cache.settings span.now ≡ false) }
+        ensures made { IfOk result (λ made. TellsAdded self.old.cache
+            (record { span = span.now; value = value }) now made.added
+            × IfSome made.replaced (λ cache. cache ≡ self.old.cache)) }
         ensures unchanged { OnErr result (self.new.cache ≡ self.old.cache) }
-        ensures memory { fits self.old.cache.settings span.now ≡ true →
-            is_kept self.old.cache.floor (record { span = span.now; value = value }) ≡ false →
-            IsOk result }
+        ensures memory { is_kept self.old.cache.floor (record { span = span.now; value = value })
+            ≡ false → IsOk result }
     {
-        let added = self.cache.add(span, value, now)?;
+        if let Some(added) = self.cache.add_without_rotation(span, value)? {
+            self.pending = PendingAdd::of(span, value, now);
+            return Ok(StripeAdd {
+                added,
+                replaced: None,
+            });
+        }
+        self.add_by_version(span, value, now)
+    }
+
+    /// The same, where the next version of the cache takes its place.
+    fn add_by_version(
+        &mut self,
+        span: &Span,
+        value: Value,
+        now: Timestamp,
+    ) -> Result<StripeAdd, NoMemory>
+        requires fits { fits self.old.cache.settings span.now ≡ true }
+        ensures pending { OnOk result ((self.new.pending.span.value ≡ span.now)
+            × (self.new.pending.value.value ≡ value) × (self.new.pending.moment.value ≡ now)) }
+        ensures stands { OnOk result (StandsAfter self.old.cache self.new.cache
+            (record { span = span.now; value = value }) now) }
+        ensures made { IfOk result (λ made. TellsAdded self.old.cache
+            (record { span = span.now; value = value }) now made.added
+            × IfSome made.replaced (λ cache. cache ≡ self.old.cache)) }
+        ensures unchanged { OnErr result (self.new.cache ≡ self.old.cache) }
+    {
+        let next = next_version(&self.cache, span, value, now)?;
+        let replaced = self.replace(next.cache);
         self.pending = PendingAdd::of(span, value, now);
-        Ok(added)
+        Ok(StripeAdd {
+            added: next.added,
+            replaced: Some(replaced),
+        })
+    }
+
+    /// The next version of the cache after marks that fit, as [`Cache::next_all`] gives it. The
+    /// stripe stays as it is.
+    pub fn next_all(&self, marks: &[Mark], now: Timestamp) -> Result<Version, NoMemory>
+        requires fits { all_fit self.now.cache.settings marks.now ≡ true }
+        ensures stands { IfOk result
+            (λ next. StandsAfterAll self.now.cache next.cache marks.now now) }
+        ensures added { IfOk result
+            (λ next. TellsAddedAll self.now.cache marks.now now next.added) }
+    {
+        match self.cache.next_all(marks, now) {
+            Ok(made) => Ok(Version {
+                cache: made.0,
+                added: made.1,
+            }),
+            Err(fault) => Err(of_fitting(fault)),
+        }
     }
 
     /// Replaces the cache by its next version, and gives the one before.
     pub fn replace(&mut self, next: Cache) -> Cache
         ensures cache { self.new.cache ≡ next }
+        ensures before { result ≡ self.old.cache }
     {
         mem::replace(&mut self.cache, next)
     }
@@ -115,6 +214,7 @@ impl Stripe {
     /// last.
     pub fn replace_by_batch(&mut self, next: Cache, marks: &Vec<Mark>, moment: Timestamp) -> Cache
         ensures cache { self.new.cache ≡ next }
+        ensures before { result ≡ self.old.cache }
         ensures marks { self.new.batch.marks.value.items ≡ marks.now.items }
         ensures moment { self.new.batch.moment.value ≡ moment }
     {

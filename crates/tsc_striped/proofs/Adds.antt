@@ -19,13 +19,16 @@ use Rattle.tsc_striped.specs.declared.answers.AddFault.{AddFault}
 use Rattle.tsc_striped.specs.declared.answers.AddFault.TheVariants as fault
 use Rattle.tsc_striped.specs.declared.answers.TryAddFault.{TryAddFault}
 use Rattle.tsc_striped.specs.declared.answers.TryAddFault.TheVariants.{Busy, Refused}
+use Rattle.tsc_striped.specs.declared.fault.StripeFault.{StripeFault}
+use Rattle.tsc_striped.specs.declared.fault.StripeFault.TheVariants as stopped
 use Rattle.tsc_striped.specs.Limits.{most_adds, least_page_max}
 use Rattle.tsc_striped.specs.Touching.{first_touched, last_touched}
 use Rattle.tsc_striped.specs.Seats.{SeatView, IsSeat, IsSettled}
 use Rattle.tsc_striped.specs.Keeping.{seat_view}
 use Rattle.tsc_striped.specs.Looks.{added_from, counted}
 use Rattle.tsc_striped.specs.Cutting.{LieWithin}
-use Rattle.tsc_striped.specs.Moves.{LiesIn, AddsIn}
+use Rattle.tsc_striped.specs.Waiting.{HasEnd}
+use Rattle.tsc_striped.specs.Moves.{LiesIn, AddsIn, IsStripeFault}
 use Rattle.tsc_striped.specs.Batches.{AddsAll}
 use Rattle.tsc_striped.specs.Answers.{AnswersTriedAdd, CanCount, IsNoTry}
 use Rattle.tsc_striped.specs.Adding.{IsWaited}
@@ -167,7 +170,34 @@ refused_memory old ms now tries is may some = record {
   no_tries = λ none _. absurd (some (none_is tries none));
 }
 
-abbrev IsAccepted : Result Added TryAddFault → Type 0
+-- What an Add answers that is refused in the stripes for this.
+abbrev pub Gives : StripeFault → TryAddFault → Type 0
+Gives by answer = (by ≡ stopped.Busy → answer ≡ Busy)
+    × (by ≡ stopped.NoMemory → answer ≡ Refused fault.NoMemory)
+
+pub answers_refused : (old : SeatView) (ms : List Mark) (now : Time) (tries : Option ℕ)
+    (by : StripeFault) (answer : TryAddFault) → IsSeat old → CanCount old → Gives by answer
+    → (tries ≡ Some 0 → by ≡ stopped.Busy) → AnswersTriedAdd old old ms now tries (Err answer)
+answers_refused old ms now tries stopped.Busy answer is may gives busy =
+    subst (λ (f : TryAddFault). AnswersTriedAdd old old ms now tries (Err f)) (sym (gives.0 refl))
+    (refused_busy old ms now tries is may)
+answers_refused old ms now tries stopped.NoMemory answer is may gives busy =
+    subst (λ (f : TryAddFault). AnswersTriedAdd old old ms now tries (Err f)) (sym (gives.1 refl))
+    (refused_memory old ms now tries is may (λ none. other (busy none)))
+  where
+    other : stopped.NoMemory ≡ stopped.Busy → ⊥
+    other same = cc
+
+-- the tries have an end, if it is busy
+pub ended_by : (tries : Option ℕ) (by : StripeFault) (answer : TryAddFault)
+    → IsStripeFault tries by → Gives by answer → answer ≡ Busy → HasEnd tries
+ended_by tries stopped.Busy answer why gives is = why
+ended_by tries stopped.NoMemory answer why gives is = absurd (other (sym (gives.1 refl) ∙ is))
+  where
+    other : Refused fault.NoMemory ≡ Busy → ⊥
+    other same = cc
+
+abbrev IsAccepted : Result Added StripeFault → Type 0
 IsAccepted (Ok added) = Unit {0}
 IsAccepted (Err fault) = ⊥
 
@@ -197,6 +227,6 @@ told_waited (Err (Refused fault)) result T told is =
     subst (λ (r : Result Receipt AddFault). OnOk r T) (sym is) tt
 
 pub was_tried : (tries : Option ℕ) (added : Added)
-    → (tries ≡ Some 0 → IsErrOf {T = Added} {E = TryAddFault} (Ok added) Busy)
+    → (tries ≡ Some 0 → IsErrOf {T = Added} {E = StripeFault} (Ok added) stopped.Busy)
     → tries ≡ Some 0 → ⊥
 was_tried tries added tried none = absurd (subst IsAccepted (tried none) tt)

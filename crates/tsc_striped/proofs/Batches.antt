@@ -8,10 +8,13 @@ use Rattle.tsc_span.specs.Span.{KeyBytes}
 use Rattle.tsc_page_nodes.specs.Page.{Mark}
 use Rattle.tsc_cache.specs.declared.added.Added.{Added}
 use Rattle.tsc_cache.specs.declared.history.Entry.{Entry}
+use Rattle.tsc_cache.specs.Settings.{Settings}
 use Rattle.tsc_cache.specs.State.{step_all, not_kept, added_with}
-use Rattle.tsc_cache.specs.CacheView.{CacheView, RepresentsState}
+use Rattle.tsc_cache.specs.CacheView.{CacheView, RepresentsState, StandsAfterAll, TellsAddedAll}
 use Rattle.tsc_cache.specs.History.{History, CanAllBeAdded}
 use Rattle.tsc_cache.proofs.Steps.{answer_alone}
+use Rattle.tsc_time.specs.declared.memory.NoMemory.{NoMemory}
+use Rattle.tsc_stripe_table.specs.declared.stripe.Version.{Version}
 use Rattle.tsc_stripe_table.specs.declared.table.Knowledge.{Knowledge}
 use Rattle.tsc_stripe_table.specs.Stripes.{Terms, stripe_count, marks_in, entry_with, entry_in}
 use Rattle.tsc_stripe_table.specs.Stripes.{part_of, state_on, IsStateOn}
@@ -24,11 +27,13 @@ use Rattle.tsc_stripe_table.proofs.Parts.{same_or_not}
 use Rattle.tsc_striped.specs.declared.batch.Batch.{Batch}
 use Rattle.tsc_striped.specs.declared.wide_adds.Stop.{Stop}
 use Rattle.tsc_striped.specs.Looks.{added_on, added_from, added_over, counted}
-use Rattle.tsc_striped.specs.Cutting.{LieWithin, SkipsTo, IsCut}
+use Rattle.tsc_striped.specs.Limits.{least_page_max}
+use Rattle.tsc_striped.specs.Cutting.{LieWithin, SkipsTo, IsCut, CanAddBatch}
 use Rattle.tsc_striped.specs.Batches.{entry_of_marks, entry_for, with_added, CanAddFrom, AddsFrom}
 use Rattle.tsc_striped.specs.Batches.{StaysOn, AddsAll, IsVersion}
 use Rattle.tsc_striped.proofs.InStripes.{state_on_push, held_itself}
 use Rattle.tsc_striped.proofs.Holding.{holding, acquired_is, can_acquire, can_release}
+use Rattle.tsc_striped.proofs.Holding.{same_in_hand}
 use Rattle.tsc_striped.proofs.Several.{held_more, still_stands, can_acquire_next}
 use Rattle.tsc_striped.proofs.Touches.{in_or_past}
 
@@ -120,6 +125,20 @@ can_acquire_above v stripe next can up is = record {
     above : (holds : List ℕ) → Descends (stripe ∷ holds) → Descends (next ∷ holds)
     above [] d = tt
     above (i ∷ others) d = (omega (arith, d.0, up), d.1)
+
+-- what is the next version of a cache, if one was made, is that of the same cache
+pub is_version_of : (cache same : CacheView) (ms these : List Mark) (now : Time)
+    (r : Result Version NoMemory) → cache ≡ same → ms ≡ these
+    → IfOk r (λ next. StandsAfterAll cache next.cache ms now)
+    → IfOk r (λ next. TellsAddedAll cache ms now next.added)
+    → IfOk r (λ next. IsVersion same next.cache these now next.added)
+is_version_of cache same ms these now (Ok next) is are stands tells =
+    subst (λ (v : CacheView). IsVersion v next.cache these now next.added) is
+    (subst (λ (ns : List Mark). IsVersion cache next.cache ns now next.added) are (record {
+      stands = stands;
+      added_is = tells;
+    }))
+is_version_of cache same ms these now (Err fault) is are stands tells = tt
 
 -- the next version of a cache stands for the history with the entry
 pub version_stands : (terms : Terms) (stripe : ℕ) (h g : History) (e : Entry)
@@ -235,6 +254,13 @@ module _ (me me1 : At) (batch : Batch) (from stripe : ℕ)
       batch.moment own) (sym is) tells x has_it
       (subst (λ (t : Terms). IsCut t.bounds batch) (sym setup_same) can.cut))
 
+  -- it has room for what lies there
+  pub room_in : (y : LaidStripe) → HasStripe me1 stripe y
+      → least_page_max ≤ y.value.cache.settings.page_max
+  room_in y has = subst (λ (z : LaidStripe). least_page_max ≤ z.value.cache.settings.page_max)
+      (same_in_hand me1.1 stripe stripe x y me.1 (rest me1.1) q.hand has.hand)
+      (subst (λ (s : Settings). least_page_max ≤ s.page_max) (sym a.stands.set_up) can.room)
+
   -- it may release it again
   pub can_release_it : CanRelease me1 stripe x
   can_release_it = can_release me me1 stripe a.history x there same a.stands
@@ -248,6 +274,7 @@ module _ (me me1 : At) (batch : Batch) (from stripe : ℕ)
     reached = refl;
     cut = can.cut;
     can = can.can;
+    room = can.room;
     among = (omega (arith, can.among.0, up), omega (arith, lower));
     covered = λ other lower'. elim (same_or_not other stripe) [
       | inl is ↦ inr (subst (λ (i : ℕ). 0 < times_held i (stripe ∷ holds_of me.0)) (sym is)
@@ -417,17 +444,17 @@ stays_there me me' batch from can is = record {
 }
 
 -- A seat between two calls may add a batch.
-pub can_add : (me : At) (batch : Batch) → IsAtRest me → IsCut me.0.setup.bounds batch
-    → CanAllBeAdded me.0.setup.config batch.marks.items batch.moment
+pub can_add : (me : At) (batch : Batch) → IsAtRest me → CanAddBatch me.0.setup batch
     → CanAddFrom me batch batch.first
-can_add me batch rested cut can = record {
-  acquire = can_acquire me batch.first rested (omega (arith, cut.has.order, cut.there));
+can_add me batch rested can = record {
+  acquire = can_acquire me batch.first rested (omega (arith, can.cut.has.order, can.cut.there));
   reached = subst (λ (m : At). reached_with (holds_of m.0) (reached_of m.0) ≡ reached_of m.0)
       (sym rested) refl;
-  cut = cut;
-  can = can;
-  among = (omega arith, cut.has.order);
-  covered = λ other low. inl (cut.within other (inl low));
+  cut = can.cut;
+  can = can.can;
+  room = can.room;
+  among = (omega arith, can.cut.has.order);
+  covered = λ other low. inl (can.cut.within other (inl low));
 }
 
 -- once it has added it, it rests again

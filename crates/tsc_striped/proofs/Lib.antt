@@ -9,6 +9,7 @@ pub mod Several
 pub mod Adds
 pub mod Cutting
 pub mod Slices
+pub mod Sizes
 pub mod Outside
 pub mod Overlaps
 pub mod Histories

@@ -78,28 +78,34 @@ ends_high ks g d up lt =
     not_not true e = refl
     not_not false e = sym e
 
-greater_least : (a b c : Cut) → Le a c → Le b c → Le (greater_cut a b) c
+pub greater_least : (a b c : Cut) → Le a c → Le b c → Le (greater_cut a b) c
 greater_least a b c p q = elim (Lt-or_Le a b) [
   | inl lt ↦ rw lt q
   | inr ge ↦ rw ge p
 ]
 
-smaller_most : (a b c : Cut) → Lt c a → Lt c b → Lt c (smaller_cut a b)
+pub smaller_most : (a b c : Cut) → Lt c a → Lt c b → Lt c (smaller_cut a b)
 smaller_most a b c p q = elim (Lt-or_Le a b) [
   | inl lt ↦ rw lt p
   | inr ge ↦ rw ge q
 ]
 
-greater_first : (a b : Cut) → Le a (greater_cut a b)
+pub greater_first : (a b : Cut) → Le a (greater_cut a b)
 greater_first a b = elim (Lt-or_Le a b) [
   | inl lt ↦ rw lt (Le-from_Lt a b lt)
   | inr ge ↦ rw ge (Le-itself a)
 ]
 
-greater_second_ : (a b : Cut) → Le b (greater_cut a b)
+pub greater_second_ : (a b : Cut) → Le b (greater_cut a b)
 greater_second_ a b = elim (Lt-or_Le a b) [
   | inl lt ↦ rw lt (Le-itself b)
   | inr ge ↦ rw ge ge
+]
+
+greater_below : (a b c : Cut) → Lt a c → Lt b c → Lt (greater_cut a b) c
+greater_below a b c p q = elim (Lt-or_Le a b) [
+  | inl lt ↦ rw lt q
+  | inr ge ↦ rw ge p
 ]
 
 -- The stripe in which two spans overlap, and what lies of the first one there.
@@ -122,8 +128,8 @@ meets_in bounds (between a b) (between c d) up over =
     let i : ℕ = stripe_above bounds g in
     let start : Cut = stripe_start bounds i in
     let end : Cut = stripe_end bounds i in
-    let below_b : Lt g b = below_each b m.0 m.2 in
-    let below_d : Lt g d = below_each d m.1 m.3 in
+    let below_b : Lt g b = greater_below a c b m.0 m.2 in
+    let below_d : Lt g d = greater_below a c d m.1 m.3 in
     let low : Le (greater_cut a start) g =
     greater_least a start g (greater_first a c) (starts_low bounds i g up (omega arith)) in
     let high : Lt g (smaller_cut b end) =
@@ -143,9 +149,58 @@ meets_in bounds (between a b) (between c d) up over =
         m.3,
       );
     }
-  where
-    below_each : (x : Cut) → Lt a x → Lt c x → Lt (greater_cut a c) x
-    below_each x p q = elim (Lt-or_Le a c) [
-      | inl lt ↦ rw lt q
-      | inr ge ↦ rw ge p
-    ]
+
+-- Where two spans overlap, and what lies of both of them there.
+pub record MeetsAt (bounds : List KeyBytes) (t s : Interval) : Type 0 where
+  pub start : Cut
+  pub stop : Cut
+  pub meet : MeetsIn bounds t (between start stop)
+  pub first : first_touched bounds s ≤ meet.stripe
+  pub last_ : meet.stripe ≤ last_touched bounds s
+  pub part : piece_of bounds meet.stripe s ≡ between start stop
+  pub below : Lt start stop
+
+pub meets_at : (bounds : List KeyBytes) (t s : Interval) → are_in_order bounds ≡ true
+    → overlaps t s ≡ true → MeetsAt bounds t s
+meets_at bounds nothing s up over = absurd (true≢false (sym over))
+meets_at bounds (between a b) nothing up over = absurd (true≢false (sym over))
+meets_at bounds (between a b) (between c d) up over =
+    let m = overlaps-tells a b c d over in
+    let g : Cut = greater_cut a c in
+    let i : ℕ = stripe_above bounds g in
+    let start : Cut = stripe_start bounds i in
+    let end : Cut = stripe_end bounds i in
+    let below_b : Lt g b = greater_below a c b m.0 m.2 in
+    let below_d : Lt g d = greater_below a c d m.1 m.3 in
+    let starts : Le start g = starts_low bounds i g up (omega arith) in
+    let ends : Lt g end = ends_high bounds g d up below_d in
+    let low_a : Le (greater_cut a start) g = greater_least a start g (greater_first a c) starts in
+    let low_c : Le (greater_cut c start) g = greater_least c start g (greater_second_ a c) starts in
+    let high_b : Lt g (smaller_cut b end) = smaller_most b end g below_b ends in
+    let high_d : Lt g (smaller_cut d end) = smaller_most d end g below_d ends in
+    let of_t : is_below (greater_cut a start) (smaller_cut b end) ≡ true =
+    Le_Lt-chain (greater_cut a start) g (smaller_cut b end) low_a high_b in
+    let of_s : is_below (greater_cut c start) (smaller_cut d end) ≡ true =
+    Le_Lt-chain (greater_cut c start) g (smaller_cut d end) low_c high_d in record {
+      start = greater_cut c start;
+      stop = smaller_cut d end;
+      meet = record {
+        stripe = i;
+        first = above_rises bounds (greater_cut c start) g low_c;
+        last_ = above_below bounds g (smaller_cut d end) high_d;
+        from = greater_cut a start;
+        to = smaller_cut b end;
+        piece = rw of_t refl;
+        over = overlaps-from (greater_cut a start) (smaller_cut b end) (greater_cut c start)
+            (smaller_cut d end) (
+          of_t,
+          Le_Lt-chain (greater_cut a start) g (smaller_cut d end) low_a high_d,
+          Le_Lt-chain (greater_cut c start) g (smaller_cut b end) low_c high_b,
+          of_s,
+        );
+      };
+      first = above_rises bounds c g (greater_second_ a c);
+      last_ = above_below bounds g d below_d;
+      part = rw of_s refl;
+      below = of_s;
+    }

@@ -1,5 +1,5 @@
 -- What becomes of the participant of a seat that adds a batch. (For private contracts.)
-use Rattle.std.specs.Prelude.{◌≡◌, ◌⊎◌, ℕ, suc, ◌-◌, ◌<◌, List, [], ◌∷◌, ◌++◌}
+use Rattle.std.specs.Prelude.{◌≡◌, ◌⊎◌, ℕ, suc, ◌-◌, ◌<◌, ◌≤◌, List, [], ◌∷◌, ◌++◌}
 use Rattle.std.specs.Prelude.{vec_capacity, length}
 use Rattle.tsc_page_nodes.specs.Page.{Mark}
 use Rattle.tsc_time.specs.Time.{Time}
@@ -16,6 +16,7 @@ use Rattle.tsc_stripe_table.specs.Participating.{CanAcquire, HasStripe}
 use Rattle.tsc_striped.specs.declared.batch.Batch.{Batch}
 use Rattle.tsc_striped.specs.declared.wide_adds.Stop.{Stop}
 use Rattle.tsc_striped.specs.declared.wide_adds.Stop.TheVariants.{Busy, NoMemory}
+use Rattle.tsc_striped.specs.Limits.{least_page_max}
 use Rattle.tsc_striped.specs.Cutting.{IsCut, IsAmong}
 use Rattle.tsc_striped.specs.Looks.{added_from, added_over, counted}
 
@@ -43,6 +44,7 @@ pub record CanAddFrom (me : At) (batch : Batch) (stripe : ℕ) : Type 0 where
   pub reached : reached_with (holds_of me.0) (reached_of me.0) ≡ reached_of me.0
   pub cut : IsCut me.0.setup.bounds batch
   pub can : CanAllBeAdded me.0.setup.config batch.marks.items batch.moment
+  pub room : least_page_max ≤ me.0.setup.config.page_max
   pub among : IsAmong batch stripe
   pub covered : (other : ℕ) → other < stripe
       → (marks_in me.0.setup.bounds other batch.marks.items ≡ [])

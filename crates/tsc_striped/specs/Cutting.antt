@@ -3,7 +3,9 @@ use Rattle.std.specs.Prelude.{◌≡◌, ◌⊎◌, ℕ, suc, ◌+◌, ◌-◌, 
 use Rattle.std.specs.Prelude.{slice_index_or}
 use Rattle.tsc_span.specs.Span.{KeyBytes}
 use Rattle.tsc_page_nodes.specs.Page.{Mark}
-use Rattle.tsc_stripe_table.specs.Stripes.{marks_in}
+use Rattle.tsc_cache.specs.History.{CanAllBeAdded}
+use Rattle.tsc_stripe_table.specs.Stripes.{Terms, marks_in}
+use Rattle.tsc_striped.specs.Limits.{least_page_max}
 use Rattle.tsc_striped.specs.declared.batch.Batch.{Batch}
 
 -- nothing of some marks lies in the stripes below one, and in those above another
@@ -24,6 +26,13 @@ pub record IsCut (bounds : List KeyBytes) (batch : Batch) : Type 0 where
   pub pieces : (i : ℕ) (d : List Mark) → i < length batch.pieces.items
       → slice_index_or batch.pieces.items i d
       ≡ marks_in bounds (batch.first + i) batch.marks.items
+
+-- A batch may be added under some terms: it is cut to their stripes, it can be an entry, and the
+-- largest page has room for what lies of it in a stripe.
+pub record CanAddBatch (terms : Terms) (batch : Batch) : Type 0 where
+  pub cut : IsCut terms.bounds batch
+  pub can : CanAllBeAdded terms.config batch.marks.items batch.moment
+  pub room : least_page_max ≤ terms.config.page_max
 
 -- a stripe between the first and the last
 abbrev pub IsAmong : Batch → ℕ → Type 0

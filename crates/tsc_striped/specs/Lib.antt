@@ -6,6 +6,7 @@ pub mod Keeping
 pub mod Answers
 pub mod Waiting
 pub mod Moves
+pub mod Sizes
 pub mod Cutting
 pub mod Batches
 pub mod Laws

@@ -10,9 +10,8 @@ use Rattle.tsc_stripe_table.specs.Stripes.{piece_of}
 use Rattle.tsc_stripe_table.specs.declared.table.Knowledge.{Knowledge}
 use Rattle.tsc_stripe_table.specs.Steps.{At, seated, number_of, seen_of, count_of, reached_of}
 use Rattle.tsc_stripe_table.specs.Steps.{holds_of, state_in, with_state, AgreeOn}
-use Rattle.tsc_striped.specs.declared.answers.AddFault.TheVariants.{NoMemory, SeatFull}
-use Rattle.tsc_striped.specs.declared.answers.TryAddFault.{TryAddFault}
-use Rattle.tsc_striped.specs.declared.answers.TryAddFault.TheVariants.{Busy, Refused}
+use Rattle.tsc_striped.specs.declared.fault.StripeFault.{StripeFault}
+use Rattle.tsc_striped.specs.declared.fault.StripeFault.TheVariants.{Busy, NoMemory}
 use Rattle.tsc_striped.specs.Looks.{added_on}
 use Rattle.tsc_striped.specs.Waiting.{HasEnd}
 
@@ -48,11 +47,11 @@ pub record AddsIn (me me' : At) (stripe : ℕ) (m : Mark) (now : Time) (added : 
     pub own : own_count (number_of me.0) (before ++ entry_at me m now ∷ []) ≡ suc (count_of me.0)
     pub added_is : added ≡ added_on me.0.setup before (m ∷ []) now stripe
 
--- Why an Add in a stripe is refused: its lock was held at each of the tries, or memory was refused.
-abbrev pub IsStripeFault : Option ℕ → TryAddFault → Type 0
+-- Why a call in stripes is refused: a lock was held at each of the tries, which have an end, or
+-- memory was refused.
+abbrev pub IsStripeFault : Option ℕ → StripeFault → Type 0
 IsStripeFault tries Busy = HasEnd tries
-IsStripeFault tries (Refused NoMemory) = Unit {0}
-IsStripeFault tries (Refused SeatFull) = ⊥
+IsStripeFault tries NoMemory = Unit {0}
 
 -- What a seat that holds locks has reached: a legal history that begins with what it had seen, and
 -- that has all its Adds.

@@ -61,8 +61,10 @@ impl StripedCache {
     /// `NoMemory`. A refused Add is in no history, and cache and seat are as they were. The empty
     /// span touches stripe 0.
     ///
-    /// In one stripe the span is added in place. A span that touches several stripes is added under
-    /// all of their locks, as [`add_all`](StripedCache::add_all) adds a batch of it alone.
+    /// In one stripe the span is added in place. Where the pages rotate there, the next version of
+    /// the stripe's cache takes its place, which takes the memory of a list of pages. The pages
+    /// that go are dropped when the lock is released. A span that touches several stripes is added
+    /// under all of their locks, as [`add_all`](StripedCache::add_all) adds a batch of it alone.
     ///
     /// The call waits until the lock of the stripe is free: it pauses for longer and longer, and
     /// then leaves the processor to others between its tries. Nothing bounds how often others
@@ -121,7 +123,7 @@ impl StripedCache {
     ///
     /// The call takes the memory of a copy of the marks, of what lies of them in each stripe, and
     /// of what [`Cache::next_all`] takes there. What the versions replace is dropped when all locks
-    /// are released.
+    /// are released, as are the versions of an Add that finds a lock held.
     pub fn add_all<R: Wait>(
         &self,
         rt: &R,

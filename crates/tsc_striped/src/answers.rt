@@ -1,3 +1,4 @@
+use crate::fault::StripeFault;
 use crate::{Dealer, Front, Seat, StripedCache};
 use thiserror::Error;
 use tsc_cache::{Added, Cache};
@@ -60,6 +61,23 @@ pub enum TryAddFault {
     /// The Add was refused as an Add that waits is.
     #[error("{0}")]
     Refused(AddFault),
+}
+
+impl From<StripeFault> for TryAddFault {
+    ghost use Rattle.std.specs.Prelude.{◌≡◌};
+    ghost use Rattle.tsc_striped.specs.declared.fault.StripeFault.TheVariants as stopped;
+    ghost use Rattle.tsc_striped.specs.declared.answers.AddFault.TheVariants as refused;
+    ghost use Rattle.tsc_striped.specs.declared.answers.TryAddFault.TheVariants.{Busy, Refused};
+
+    ghost from_gives = { λ by fault. (by ≡ stopped.Busy → fault ≡ Busy)
+        × (by ≡ stopped.NoMemory → fault ≡ Refused refused.NoMemory) };
+
+    fn from(by: StripeFault) -> TryAddFault {
+        match by {
+            StripeFault::Busy => TryAddFault::Busy,
+            StripeFault::NoMemory => TryAddFault::Refused(AddFault::NoMemory),
+        }
+    }
 }
 
 /// Another seat held one of the locks at each try.

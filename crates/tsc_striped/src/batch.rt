@@ -5,6 +5,7 @@ ghost use Rattle.tsc_stripe_table.specs.Stripes.{marks_in};
 ghost use Rattle.tsc_striped.specs.Limits.{most_stripes};
 ghost use Rattle.tsc_striped.specs.Touching.{are_in_order};
 ghost use Rattle.tsc_striped.specs.Answers.{one_mark};
+ghost use Rattle.tsc_striped.specs.Sizes.{are_small};
 
 use crate::bounds::find_touched_by;
 use crate::pieces::pieces_in;
@@ -14,7 +15,7 @@ use tsc_cache::Mark;
 use tsc_span::{Key, Span};
 use tsc_time::{NoMemory, Timestamp, Value};
 
-/// What lies of a batch in one stripe.
+/// What lies of a batch in one stripe. It fits each page that has room for any span.
 #[derive(Drop)]
 pub(crate) struct Pieces {
     marks: Vec<Mark>,
@@ -27,12 +28,35 @@ impl Model for Pieces {
     ghost Value = { List Mark };
 
     ghost view = { λ p. p.marks.items };
+
+    ghost use Rattle.std.specs.Prelude.{◌≡◌, true};
+    ghost use Rattle.tsc_striped.specs.Sizes.{are_small};
+
+    ghost invariant = { λ p. are_small p.marks.items ≡ true };
+}
+
+/// No span costs more than any page that is large enough has room for. It does nothing.
+fn know_small(marks: &[Mark])
+    ensures { are_small marks.now ≡ true }
+{
+    for mark in marks {
+        let _cost = mark.span.cost();
+    }
 }
 
 impl Pieces {
+    /// These marks, which lie in one stripe.
+    fn of(marks: Vec<Mark>) -> Pieces
+        ensures { result ≡ marks.items }
+    {
+        know_small(marks.as_slice());
+        Pieces { marks }
+    }
+
     /// The marks that lie there, each cut to the stripe.
     fn as_slice(&self) -> &[Mark]
-        ensures { result.now ≡ self.now }
+        ensures value { result.now ≡ self.now }
+        ensures small { are_small result.now ≡ true }
     {
         self.marks.as_slice()
     }
@@ -69,7 +93,7 @@ impl Batch {
         let mut pieces = Vec::new(alloc);
         for stripe in touched.first..touched.last + 1 {
             let there = pieces_in(alloc, bounds, stripe, marks.as_slice())?;
-            pieces.push(Pieces { marks: there })?;
+            pieces.push(Pieces::of(there))?;
         }
         Ok(Batch {
             marks,
@@ -84,8 +108,9 @@ impl Batch {
     pub(crate) fn pieces_in(&self, stripe: u32) -> &[Mark]
         requires has { HasPieces self.now }
         requires among { IsAmong self.now stripe }
-        ensures { (bounds : List KeyBytes) → IsCut bounds self.now
+        ensures there { (bounds : List KeyBytes) → IsCut bounds self.now
             → result.now ≡ marks_in bounds stripe self.now.marks.items }
+        ensures small { are_small result.now ≡ true }
     {
         self.pieces[(stripe - self.first) as usize].as_slice()
     }

@@ -18,6 +18,7 @@ mod adding;
 mod answers;
 mod batch;
 mod bounds;
+mod fault;
 mod gathering;
 mod gating;
 pub mod laws;

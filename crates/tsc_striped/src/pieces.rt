@@ -99,6 +99,14 @@ fn stop_at(place: Cut<'_>) -> SpanEnd<'_>
     }
 }
 
+/// Why bytes that are those of a key were not copied: memory was refused.
+fn of_key(fault: SpanFault) -> NoMemory
+    requires { fault ≡ SpanFault.NoMemory }
+{
+    let _refused = fault;
+    NoMemory
+}
+
 /// A copy of bytes that are those of a key.
 fn key_of(alloc: Global, bytes: &[u8]) -> Result<Key, NoMemory>
     requires { IsKey bytes.now }
@@ -106,8 +114,7 @@ fn key_of(alloc: Global, bytes: &[u8]) -> Result<Key, NoMemory>
 {
     match Key::new(alloc, bytes) {
         Ok(key) => Ok(key),
-        Err(SpanFault::NoMemory) => Err(NoMemory),
-        Err(_) => unreachable!(),
+        Err(fault) => Err(of_key(fault)),
     }
 }
 
@@ -116,10 +123,7 @@ fn range_between(from: Key, to: Key, ends: Ends) -> Span
     requires { is_below (start_cut from ends.exclude_from) (end_cut to ends.exclude_to) ≡ true }
     ensures { result ≡ between (start_cut from ends.exclude_from) (end_cut to ends.exclude_to) }
 {
-    match Span::range(from, to, ends) {
-        Ok(span) => span,
-        Err(_) => unreachable!(),
-    }
+    Span::for_lookup(from, to, ends)
 }
 
 /// The span between two places, over keys of its own.
@@ -143,7 +147,7 @@ fn span_between(alloc: Global, from: Cut<'_>, to: Cut<'_>) -> Result<Span, NoMem
 }
 
 /// What lies of a mark in a stripe, if anything does.
-fn piece_in(
+pub(crate) fn piece_in(
     alloc: Global,
     bounds: &[Key],
     stripe: u32,

@@ -26,10 +26,8 @@ fn copy_in_hand(
         → IfOk result (λ copy. IsCopy x.value.cache copy) }
 {
     let laid = who.slot_mut(shared, stripe as usize);
-    match laid.cache.next_all(&[], Timestamp::ZERO) {
-        Ok(made) => Ok(made.0),
-        Err(_refused) => Err(NoMemory),
-    }
+    let made = laid.next_all(&[], Timestamp::ZERO)?;
+    Ok(made.cache)
 }
 
 /// Copies the caches of the stripes from one to the last, which lie above all that the seat holds.

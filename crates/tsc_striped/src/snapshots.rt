@@ -3,8 +3,9 @@ ghost use Rattle.std.specs.Prelude.{◌≡◌, IfOk, OnErr, IsErrOf};
 ghost use Rattle.tsc_striped.specs.Waiting.{HasEnd};
 ghost use Rattle.tsc_striped.specs.Answers.{TakesSnapshot};
 
-use crate::answers::{Snapshot, SnapshotFault, TryAddFault};
+use crate::answers::{Snapshot, SnapshotFault};
 use crate::bounds::find_touched;
+use crate::fault::StripeFault;
 use crate::seat::Seat;
 use crate::striped::StripedCache;
 use crate::waiting::{Blocking, Bounded, WaitPolicy};
@@ -34,8 +35,8 @@ impl StripedCache {
     {
         match self.take(&Blocking(rt), seat, span) {
             Ok(snapshot) => Ok(snapshot),
-            Err(TryAddFault::Refused(_)) => Err(NoMemory),
-            Err(TryAddFault::Busy) => unreachable!(),
+            Err(StripeFault::NoMemory) => Err(NoMemory),
+            Err(StripeFault::Busy) => unreachable!(),
         }
     }
 
@@ -54,8 +55,8 @@ impl StripedCache {
     {
         match self.take(&Bounded(tries), seat, span) {
             Ok(snapshot) => Ok(snapshot),
-            Err(TryAddFault::Refused(_)) => Err(SnapshotFault::NoMemory),
-            Err(TryAddFault::Busy) => Err(SnapshotFault::Busy),
+            Err(StripeFault::NoMemory) => Err(SnapshotFault::NoMemory),
+            Err(StripeFault::Busy) => Err(SnapshotFault::Busy),
         }
     }
 
@@ -65,12 +66,12 @@ impl StripedCache {
         policy: &P,
         seat: &mut Seat,
         span: &Span,
-    ) -> Result<Snapshot, TryAddFault>
+    ) -> Result<Snapshot, StripeFault>
         requires cache { seat.old.cache ≡ self.now }
         ensures taken { IfOk result
             (λ snapshot. TakesSnapshot seat.old seat.new span.now snapshot) }
         ensures refused { OnErr result (seat.new ≡ seat.old) }
-        ensures ended { IsErrOf result TryAddFault.Busy → HasEnd (P.tries policy.now) }
+        ensures ended { IsErrOf result StripeFault.Busy → HasEnd (P.tries policy.now) }
     {
         let touched = find_touched(self.bounds.as_slice(), &span.borrowed());
         let first = touched.first;

@@ -1,6 +1,6 @@
 ghost use Rattle.std.specs.Prelude.{◌≡◌, ◌↔◌, ◌<◌, IsOk, IfOk, IfErr, IfSome, IfNone};
 ghost use Rattle.std.specs.Prelude.{All, length, [], ◌≤◌, vec_capacity};
-ghost use Rattle.tsc_stripe_table.specs.Stripes.{stripe_count};
+ghost use Rattle.tsc_stripe_table.specs.Stripes.{stripe_count, piece_of};
 ghost use Rattle.tsc_striped.specs.Seats.{IsSettled};
 ghost use Rattle.tsc_striped.specs.Answers.{Opens, open_fault, Deals, DealsNone};
 ghost use Rattle.tsc_striped.specs.Answers.{Learns, Meets, Closes};
@@ -8,16 +8,23 @@ ghost use Rattle.tsc_striped.specs.Answers.{Learns, Meets, Closes};
 use crate::answers::{Closed, OpenFault, StillOut};
 use crate::bounds::are_in_order;
 use crate::gathering::gather;
+use crate::pieces::piece_in;
 use crate::seat::{Dealer, Front, Seat};
 use std::alloc::Global;
 use std::marker::Model;
 use std::snapshot::Snapshot;
-use tsc_cache::{Cache, Config};
-use tsc_span::Key;
+use tsc_cache::{Cache, Config, Mark};
+use tsc_span::{Ends, Key, Span};
 use tsc_stripe_table::{
     Setup, StripeTable, catch_up, close, deal, new_front, new_table, see_front,
 };
-use tsc_time::NoMemory;
+use tsc_time::{NoMemory, Timestamp, Value};
+
+/// Both ends of a span are left out.
+const NEITHER: Ends = Ends {
+    exclude_from: true,
+    exclude_to: true,
+};
 
 /// How many stripes a cache may have at the most.
 const MOST_STRIPES: usize = 1024;
@@ -146,6 +153,21 @@ impl StripedCache {
         ensures settled { IsSettled self.now.terms }
     {
         self.bounds.len() as u32 + 1
+    }
+
+    /// What lies of a span in a stripe, over keys of its own: the empty span where nothing does.
+    pub fn piece_of(&self, alloc: Global, stripe: u32, span: &Span) -> Result<Span, NoMemory>
+        requires stripe { stripe < stripe_count self.now.terms.bounds }
+        ensures { IfOk result (λ piece. piece ≡ piece_of self.now.terms.bounds stripe span.now) }
+    {
+        let whole = Mark {
+            span: span.try_copy()?,
+            value: Value::unowned(Timestamp::ZERO),
+        };
+        match piece_in(alloc, self.bounds.as_slice(), stripe, &whole)? {
+            Some(piece) => Ok(piece.span),
+            None => Ok(Span::for_lookup(Key::empty(alloc), Key::empty(alloc), NEITHER)),
+        }
     }
 
     /// All that a seat has seen.

@@ -9,7 +9,7 @@ ghost use Rattle.tsc_striped.specs.Waiting.{HasEnd};
 ghost use Rattle.tsc_striped.specs.Looks.{look_on};
 ghost use Rattle.tsc_striped.specs.Moves.{HasLooked, AddsIn, LiesIn, IsStripeFault};
 
-use crate::answers::{AddFault, TryAddFault};
+use crate::fault::StripeFault;
 use crate::waiting::WaitPolicy;
 use tsc_cache::{Added, Figures, TimestampCache};
 use tsc_span::{Span, SpanRef};
@@ -24,7 +24,8 @@ pub(crate) struct MarkRef<'m> {
     pub(crate) moment: Timestamp,
 }
 
-/// An Add in one stripe, which has the whole span. Where it is refused, nothing changes.
+/// An Add in one stripe, which has the whole span. Where it is refused, nothing changes. What it
+/// replaces is dropped once the lock is released.
 #[inline]
 pub(crate) fn add_in<P: WaitPolicy>(
     policy: &P,
@@ -32,7 +33,7 @@ pub(crate) fn add_in<P: WaitPolicy>(
     who: &mut Participant,
     stripe: u32,
     mark: MarkRef<'_>,
-) -> Result<Added, TryAddFault>
+) -> Result<Added, StripeFault>
     requires rest { IsOf who.old shared.now.table_id × IsAtRest who.old.me }
     requires mark { IsStripe who.old.me.0 stripe
         × LiesIn who.old.me.0.setup.bounds stripe mark.span.now
@@ -44,20 +45,20 @@ pub(crate) fn add_in<P: WaitPolicy>(
         (record { span = mark.entry.span.now; value = mark.entry.value }) mark.entry.moment added) }
     ensures refused { OnErr result (who.new.me ≡ who.old.me) }
     ensures why { IfErr result (λ fault. IsStripeFault (P.tries policy.now) fault)
-        × (P.tries policy.now ≡ Some 0 → IsErrOf result TryAddFault.Busy) }
+        × (P.tries policy.now ≡ Some 0 → IsErrOf result StripeFault.Busy) }
 {
     if !policy.acquire(shared, who, stripe) {
-        return Err(TryAddFault::Busy);
+        return Err(StripeFault::Busy);
     }
     let laid = who.slot_mut(shared, stripe as usize);
     match laid.add(mark.span, mark.value, mark.moment) {
-        Ok(added) => {
+        Ok(made) => {
             commit(shared, who, stripe);
-            Ok(added)
+            Ok(made.added)
         }
         Err(_refused) => {
             release(shared, who, stripe);
-            Err(TryAddFault::Refused(AddFault::NoMemory))
+            Err(StripeFault::NoMemory)
         }
     }
 }

@@ -5,19 +5,18 @@
 //! it waits.
 ghost use Rattle.std.specs.Prelude.{◌≡◌, ◌∷◌, ◌-◌, ◌<◌, ◌≤◌, ℕ, Option, Some, None, true, false};
 ghost use Rattle.std.specs.Prelude.{IfOk, IfErr, IfSome, IfNone, IsErrOf, OnErr};
-ghost use Rattle.tsc_cache.specs.History.{CanAllBeAdded};
 ghost use Rattle.tsc_stripe_table.specs.Rule.{LaidStripe, lock_word};
 ghost use Rattle.tsc_stripe_table.specs.Steps.{Acquires};
 ghost use Rattle.tsc_stripe_table.specs.Participating.{IsOf, IsAtRest, IsStripe, CanAcquire};
 ghost use Rattle.tsc_striped.specs.Waiting.{HasEnd};
 ghost use Rattle.tsc_striped.specs.Looks.{look_from};
 ghost use Rattle.tsc_striped.specs.Moves.{HasLooked, IsStripeFault};
-ghost use Rattle.tsc_striped.specs.Cutting.{IsCut};
+ghost use Rattle.tsc_striped.specs.Cutting.{CanAddBatch};
 ghost use Rattle.tsc_striped.specs.Batches.{AddsAll};
 ghost use Rattle.tsc_striped.specs.Sharing.{AreCopies};
 
-use crate::answers::{AddFault, TryAddFault};
 use crate::batch::Batch;
+use crate::fault::StripeFault;
 use crate::gating::Publication;
 use crate::sharing::share_under_all;
 use crate::wide::look_under_all;
@@ -73,11 +72,9 @@ pub(crate) trait WaitPolicy {
         who: &mut Participant,
         batch: &Batch,
         notice: &mut Publication<'_, G>,
-    ) -> Result<Added, TryAddFault>
+    ) -> Result<Added, StripeFault>
         requires rest { IsOf who.old shared.now.table_id × IsAtRest who.old.me }
-        requires can { IsCut who.old.me.0.setup.bounds batch.now
-            × CanAllBeAdded who.old.me.0.setup.config batch.now.marks.items batch.now.moment
-            × (notice.old.told ≡ false) }
+        requires can { CanAddBatch who.old.me.0.setup batch.now × (notice.old.told ≡ false) }
         ensures table { who.new.table_id ≡ who.old.table_id }
         ensures added { IfOk result
             (λ added. AddsAll who.old.me who.new.me batch.now.marks.items batch.now.moment added
@@ -94,7 +91,7 @@ pub(crate) trait WaitPolicy {
         who: &mut Participant,
         first: u32,
         last: u32,
-    ) -> Result<Vec<Cache>, TryAddFault>
+    ) -> Result<Vec<Cache>, StripeFault>
         requires rest { IsOf who.old shared.now.table_id × IsAtRest who.old.me }
         requires onward { (first ≤ last) × IsStripe who.old.me.0 last }
         ensures table { who.new.table_id ≡ who.old.table_id }
@@ -151,11 +148,11 @@ impl<'r, R: Wait> WaitPolicy for Blocking<'r, R> {
         who: &mut Participant,
         batch: &Batch,
         notice: &mut Publication<'_, G>,
-    ) -> Result<Added, TryAddFault> {
+    ) -> Result<Added, StripeFault> {
         for _ in self.0.forever() {
             match add_under_all(alloc, shared, who, batch, notice) {
                 Ok(added) => return Ok(added),
-                Err(Stop::NoMemory) => return Err(TryAddFault::Refused(AddFault::NoMemory)),
+                Err(Stop::NoMemory) => return Err(StripeFault::NoMemory),
                 Err(Stop::Busy(busy)) => wait_until_free(self.0, shared, busy),
             }
         }
@@ -169,11 +166,11 @@ impl<'r, R: Wait> WaitPolicy for Blocking<'r, R> {
         who: &mut Participant,
         first: u32,
         last: u32,
-    ) -> Result<Vec<Cache>, TryAddFault> {
+    ) -> Result<Vec<Cache>, StripeFault> {
         for _ in self.0.forever() {
             match share_under_all(alloc, shared, who, first, last) {
                 Ok(copies) => return Ok(copies),
-                Err(Stop::NoMemory) => return Err(TryAddFault::Refused(AddFault::NoMemory)),
+                Err(Stop::NoMemory) => return Err(StripeFault::NoMemory),
                 Err(Stop::Busy(busy)) => wait_until_free(self.0, shared, busy),
             }
         }
@@ -228,16 +225,16 @@ impl WaitPolicy for Bounded {
         who: &mut Participant,
         batch: &Batch,
         notice: &mut Publication<'_, G>,
-    ) -> Result<Added, TryAddFault> {
+    ) -> Result<Added, StripeFault> {
         let backoff = Backoff::new();
         for _ in 0..self.0 {
             match add_under_all(alloc, shared, who, batch, notice) {
                 Ok(added) => return Ok(added),
-                Err(Stop::NoMemory) => return Err(TryAddFault::Refused(AddFault::NoMemory)),
+                Err(Stop::NoMemory) => return Err(StripeFault::NoMemory),
                 Err(Stop::Busy(_)) => backoff.spin(),
             }
         }
-        Err(TryAddFault::Busy)
+        Err(StripeFault::Busy)
     }
 
     fn share_over(
@@ -247,16 +244,16 @@ impl WaitPolicy for Bounded {
         who: &mut Participant,
         first: u32,
         last: u32,
-    ) -> Result<Vec<Cache>, TryAddFault> {
+    ) -> Result<Vec<Cache>, StripeFault> {
         let backoff = Backoff::new();
         for _ in 0..self.0 {
             match share_under_all(alloc, shared, who, first, last) {
                 Ok(copies) => return Ok(copies),
-                Err(Stop::NoMemory) => return Err(TryAddFault::Refused(AddFault::NoMemory)),
+                Err(Stop::NoMemory) => return Err(StripeFault::NoMemory),
                 Err(Stop::Busy(_)) => backoff.spin(),
             }
         }
-        Err(TryAddFault::Busy)
+        Err(StripeFault::Busy)
     }
 
     fn has_no_try(&self) -> bool {

@@ -2,7 +2,7 @@
 //!
 //! Each stripe makes the next version of its cache first, so a refusal changes nothing. The
 //! versions take their places once the last stripe has one. What they replace is dropped when all
-//! locks are released.
+//! locks are released, as are the versions of an Add that stops.
 ghost use Rattle.std.specs.Prelude.{◌≡◌, [], ◌∷◌, ◌++◌, ◌+◌, ◌-◌, ◌<◌, ◌≤◌, IfOk, IfErr, OnErr, false};
 ghost use Rattle.std.specs.Prelude.{length, vec_capacity, vec_len};
 ghost use Rattle.atomic_table.specs.Table.{rest};
@@ -14,7 +14,8 @@ ghost use Rattle.tsc_stripe_table.specs.Steps.{Commits, IsCovered, state_in, wit
 ghost use Rattle.tsc_stripe_table.specs.Steps.{reached_of, holds_of};
 ghost use Rattle.tsc_stripe_table.specs.Participating.{IsOf, IsAtRest, HasStripe};
 ghost use Rattle.tsc_striped.specs.Looks.{counted};
-ghost use Rattle.tsc_striped.specs.Cutting.{HasPieces, IsAmong, IsCut};
+ghost use Rattle.tsc_striped.specs.Limits.{least_page_max};
+ghost use Rattle.tsc_striped.specs.Cutting.{HasPieces, IsAmong, IsCut, CanAddBatch};
 ghost use Rattle.tsc_striped.specs.Batches.{CanAddFrom, AddsFrom, StaysOn, AddsAll, IsStop, IsVersion};
 ghost use Rattle.tsc_striped.specs.Batches.{entry_for};
 
@@ -23,7 +24,7 @@ use crate::gating::Publication;
 use std::alloc::Global;
 use tsc_cache::{Added, Cache};
 use tsc_left_right::Gate;
-use tsc_stripe_table::{Participant, SharedStripes, commit_batch, release, try_acquire};
+use tsc_stripe_table::{Participant, SharedStripes, Version, commit_batch, release, try_acquire};
 use tsc_time::NoMemory;
 
 /// Why an Add of a batch stopped.
@@ -33,13 +34,6 @@ pub(crate) enum Stop {
     Busy(u32),
     /// A growth was refused.
     NoMemory,
-}
-
-/// The next version of a stripe's cache, and what was added there.
-#[derive(Drop)]
-struct Version {
-    cache: Cache,
-    added: Added,
 }
 
 /// What an Add did in one stripe and in others together. A count of dropped pages stays at its end.
@@ -71,6 +65,8 @@ fn next_version(
     requires of { IsOf who.old shared.now.table_id }
     requires has { (x : LaidStripe) × HasStripe who.old.me stripe x }
     requires pieces { HasPieces batch.now × IsAmong batch.now stripe }
+    requires room { (x : LaidStripe) → HasStripe who.old.me stripe x
+        → least_page_max ≤ x.value.cache.settings.page_max }
     ensures same { (who.new.table_id ≡ who.old.table_id) × (who.new.me ≡ who.old.me) }
     ensures made { (x : LaidStripe) → HasStripe who.old.me stripe x
         → IsCut who.old.me.0.setup.bounds batch.now → IfOk result (λ made. IsVersion x.value.cache
@@ -78,13 +74,7 @@ fn next_version(
         batch.now.moment made.added) }
 {
     let laid = who.slot_mut(shared, stripe as usize);
-    match laid.cache.next_all(batch.pieces_in(stripe), batch.moment) {
-        Ok(made) => Ok(Version {
-            cache: made.0,
-            added: made.1,
-        }),
-        Err(_refused) => Err(NoMemory),
-    }
+    laid.next_all(batch.pieces_in(stripe), batch.moment)
 }
 
 /// The next version takes the place of the cache in hand, and the lock is released.
@@ -129,7 +119,7 @@ fn put_last(
 
 /// Adds a batch in the stripes from one on, which lie above all that the seat holds. The gate is
 /// called once all of them have their next version. Where the Add stops, no stripe has changed.
-/// What it replaces comes to `dropped`, which has room for that.
+/// What it replaces, or made in vain, comes to `dropped`, which has room for that.
 fn add_from<G: Gate>(
     shared: &SharedStripes,
     who: &mut Participant,
@@ -174,6 +164,7 @@ fn add_from<G: Gate>(
         }
         Err(stop) => {
             release(shared, who, stripe);
+            dropped.push_reserved(version.cache);
             Err(stop)
         }
     }
@@ -198,9 +189,7 @@ pub(crate) fn add_under_all<G: Gate>(
     notice: &mut Publication<'_, G>,
 ) -> Result<Added, Stop>
     requires rest { IsOf who.old shared.now.table_id × IsAtRest who.old.me }
-    requires can { IsCut who.old.me.0.setup.bounds batch.now
-        × CanAllBeAdded who.old.me.0.setup.config batch.now.marks.items batch.now.moment
-        × (notice.old.told ≡ false) }
+    requires can { CanAddBatch who.old.me.0.setup batch.now × (notice.old.told ≡ false) }
     ensures table { who.new.table_id ≡ who.old.table_id }
     ensures added { IfOk result
         (λ added. AddsAll who.old.me who.new.me batch.now.marks.items batch.now.moment added

@@ -1,1 +1,3 @@
 pub mod Leases
+pub mod Looking
+pub mod Parts

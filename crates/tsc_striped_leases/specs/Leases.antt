@@ -1,12 +1,13 @@
 -- What a seat of a cache in stripes is told of the reads of a span, and takes over.
-use Rattle.std.specs.Prelude.{◌≡◌, ℕ, suc, ◌-◌, List, length, true}
-use Rattle.std.specs.List.{Contains, AllZip}
+use Rattle.std.specs.Prelude.{◌≡◌, ℕ, suc, ◌-◌, List, [], ◌∷◌, length, true}
+use Rattle.std.specs.List.{Contains}
 use Rattle.tsc_time.specs.Joint.{IsAtMost}
-use Rattle.tsc_span.specs.Span.{Interval, overlaps}
+use Rattle.tsc_span.specs.Span.{KeyBytes, Interval, overlaps}
 use Rattle.tsc_page_nodes.specs.Page.{Mark}
 use Rattle.tsc_cache.specs.CacheView.{CacheView}
 use Rattle.tsc_cache.specs.declared.history.Entry.{Entry}
 use Rattle.tsc_cache.specs.History.{History}
+use Rattle.tsc_stripe_table.specs.Stripes.{piece_of}
 use Rattle.tsc_striped.specs.Touching.{first_touched, last_touched}
 use Rattle.tsc_striped.specs.Looks.{StandFrom, look_over}
 use Rattle.tsc_striped.specs.Seats.{SeatView}
@@ -18,20 +19,33 @@ pub record HasLookedOn (old new : SeatView) : Type 0 where
   pub goes_on : GoesOn old new
   pub count : new.count ≡ old.count
 
--- One of some summaries tells no less than a mark of a span.
+-- One of some summaries tells no less than a mark, of a part of a span.
 pub record TellsMark (told : List Summary) (m : Mark) (inner : Interval) : Type 0 where
   pub one : Summary
   pub there : Contains told one
-  pub no_less : IsAtMost m.value (summary_answer one inner)
+  pub part : Interval
+  pub within : IsWithin part inner
+  pub its : IsWithin part one.span
+  pub no_less : IsAtMost m.value (summary_answer one part)
 
 -- Some summaries of a span tell no less than each read of a history within it.
 abbrev pub TellReads : History → Interval → List Summary → Type 0
 TellReads h of told = (inner : Interval) (e : Entry) (m : Mark) → IsWithin inner of
     → Contains h e → Contains e.marks m → overlaps m.span inner ≡ true → TellsMark told m inner
 
+-- Summaries of caches, each of what lies of a span in its stripe, and in at most `most` marks: the
+-- first cache is that of a stripe, and each other one that of the next.
+abbrev pub SummarizeFrom : List KeyBytes → Interval → ℕ → ℕ → List CacheView → List Summary → Type 0
+SummarizeFrom bounds of most stripe [] [] = Unit {0}
+SummarizeFrom bounds of most stripe [] (one ∷ told) = ⊥
+SummarizeFrom bounds of most stripe (cache ∷ caches) [] = ⊥
+SummarizeFrom bounds of most stripe (cache ∷ caches) (one ∷ told) =
+    Summarizes cache (piece_of bounds stripe of) most one
+    × SummarizeFrom bounds of most (suc stripe) caches told
+
 -- A seat summarizes a span, in at most `most` marks for each stripe that the span touches: for each
 -- of them a cache stands for its state after all that the seat has seen then, and a summary is of
--- that cache. So these tell no less than each read there.
+-- that cache, on what lies of the span in that stripe. So these tell no less than each read there.
 pub record SummarizesInStripes (old new : SeatView) (of : Interval) (most : ℕ)
     (told : List Summary) : Type 0 where
   pub looked : HasLookedOn old new
@@ -39,11 +53,23 @@ pub record SummarizesInStripes (old new : SeatView) (of : Interval) (most : ℕ)
   pub all : length caches ≡ suc (last_touched old.cache.terms.bounds of
       - first_touched old.cache.terms.bounds of)
   pub stand : StandFrom old.cache.terms new.seen (first_touched old.cache.terms.bounds of) caches
-  pub summarize : AllZip (λ cache one. Summarizes cache of most one) caches told
+  pub summarize : SummarizeFrom old.cache.terms.bounds of most
+      (first_touched old.cache.terms.bounds of) caches told
   pub reads : TellReads new.seen of told
 
--- What a seat has seen has taken over a summary: no answer within the summary's span is less than
--- what the summary tells there.
+-- What a seat has seen has taken over a summary: no answer is less than what the summary tells of
+-- any part of its span within the span that is asked for.
 abbrev pub TakesOverInStripes : SeatView → Summary → Type 0
-TakesOverInStripes seat told = (inner : Interval) → IsWithin inner told.span
-    → IsAtMost (summary_answer told inner) (look_over seat.cache.terms seat.seen inner)
+TakesOverInStripes seat told = (part inner : Interval) → IsWithin part told.span
+    → IsWithin part inner
+    → IsAtMost (summary_answer told part) (look_over seat.cache.terms seat.seen inner)
+
+-- Where what a seat has seen has taken over all summaries that tell of a history's reads, no answer
+-- on a span is below a read of that history there.
+abbrev pub ReadsAreHandedOn : Type 0
+ReadsAreHandedOn = (h : History) (of : Interval) (told : List Summary) (seat : SeatView)
+    → TellReads h of told
+    → ((one : Summary) → Contains told one → TakesOverInStripes seat one)
+    → (inner : Interval) (e : Entry) (m : Mark) → IsWithin inner of → Contains h e
+    → Contains e.marks m → overlaps m.span inner ≡ true
+    → IsAtMost m.value (look_over seat.cache.terms seat.seen inner)

@@ -1,31 +1,85 @@
-//! Leases of spans at a cache in stripes, which goes on: [`summary_in_stripes`] tells what was read
-//! of a span, and [`apply_in_stripes`] adds it to the cache of the new holder.
+//! What a lease holder asks at a cache in stripes, which goes on: [`summary_in_stripes`] tells what
+//! was read of a span, and [`apply_in_stripes`] adds it to the cache of the new holder.
+//!
+//! `may_write_at` and `earliest_write_at` of `timestamp_cache` ask at a seat here by a [`Waiting`],
+//! whose lookups wait for locks, or a [`Trying`], whose lookups give up.
+//!
+//! # Examples
+//!
+//! These lines stand before all examples of this crate:
+//!
+//! ```
+//! use std::alloc::Global;
+//! use std::test::Fail;
+//! use timestamp_cache::{
+//!     Config, ConfigFault, Key, Span, SpanFault, Timestamp, Uuid, Value, earliest_write_at,
+//!     may_write_at,
+//! };
+//! use tsc_striped::StripedCache;
+//! use tsc_striped_leases::*;
+//!
+//! fn at(wall: u64) -> Timestamp {
+//!     Timestamp::new(wall, 0).unwrap_or(Timestamp::MAX)
+//! }
+//!
+//! fn id(name: char) -> Uuid {
+//!     Uuid::from_u128(u128::from(u32::from(name)))
+//! }
+//!
+//! fn keys(alloc: Global, from: &str, to: &str) -> Result<Span, SpanFault> {
+//!     Span::of(Key::new(alloc, from.as_bytes())?, Key::new(alloc, to.as_bytes())?)
+//! }
+//!
+//! fn config() -> Result<Config, ConfigFault> {
+//!     Config::new(1 << 10, 1 << 20, 2, 10_000_000_000, at(5))
+//! }
+//! ```
 #![tactic(auto)]
 
-ghost use Rattle.std.specs.Prelude.{◌≡◌, IfOk, OnOk};
-ghost use Rattle.std.specs.List.{AllZip};
+ghost use Rattle.std.specs.Prelude.{◌≡◌, ◌+◌, ◌≤◌, length, IfOk, OnOk};
 ghost use Rattle.tsc_striped.specs.Answers.{AnswersAdd};
-ghost use Rattle.timestamp_cache.specs.HandOver.{Summarizes, marks_told};
-ghost use Rattle.tsc_striped_leases.specs.Leases.{HasLookedOn, SummarizesInStripes};
+ghost use Rattle.tsc_stripe_table.specs.Stripes.{stripe_count};
+ghost use Rattle.timestamp_cache.specs.HandOver.{marks_told};
+ghost use Rattle.tsc_striped_leases.specs.Leases.{HasLookedOn, SummarizeFrom, SummarizesInStripes};
 ghost use Rattle.tsc_striped_leases.specs.Leases.{TakesOverInStripes};
+
+pub mod laws;
+mod lookups;
+
+pub use lookups::{Trying, Waiting};
 
 use std::alloc::Global;
 use std::sync::Wait;
 use timestamp_cache::{ReadSummary, summary};
-use tsc_cache::{Cache, Mark};
+use tsc_cache::Mark;
 use tsc_span::Span;
-use tsc_striped::{AddFault, Receipt, Seat, StripedCache};
+use tsc_striped::{AddFault, Receipt, Seat, Snapshot, StripedCache};
 use tsc_time::{NoMemory, Timestamp, Value};
 
-/// A summary of a span for each stripe that the span touches, each in at most `most` marks, as
-/// [`summary`] makes it of a cache. All are of one moment: of the stripes after one history that
-/// begins with all that the seat has seen. The seat has then seen all of it.
+/// A summary for each stripe that the span touches, of what lies of the span there, each in at most
+/// `most` marks, as [`summary`] makes it of a cache. All are of one moment: of the stripes after
+/// one history that begins with all that the seat has seen. The seat has then seen all of it.
 ///
 /// Together the summaries tell no less than each read of that history on the span. So each of them
-/// is to be applied, in any order.
+/// is to be applied, in any order. The floor of a stripe stands in its own summary alone, so a
+/// stripe that is read much lifts no other.
+///
+/// The history has what the seat has seen, and each Add in these stripes whose locks were released
+/// before. So who hands a lease on first stops its readers, and then makes this call. No clause
+/// says that an Add which has returned is seen, since no contract speaks of time. A seat that has
+/// learned each reader's last [`Front`](tsc_striped::Front) has seen them all by contract.
 ///
 /// The call is made over a [`snapshot`](StripedCache::snapshot), and waits as that does. Where
 /// memory is refused, the seat has seen as much as before, or as after a lookup.
+///
+/// ```
+/// let bounds = vec![in alloc; Key::new(alloc, b"m")?]?;
+/// let (cache, mut dealer) = StripedCache::open(alloc, config()?, bounds, 1)?;
+/// let mut seat = cache.deal(&mut dealer).ok_or("a seat")?;
+/// cache.add(&rt, &mut seat, &keys(alloc, "b", "")?, Value::of(at(20), id('A')), at(20))?;
+/// let told = summary_in_stripes(&rt, alloc, &cache, &mut seat, &keys(alloc, "a", "z")?, 8)?;
+/// assert_eq!(rt; (told.len(), told[0].marks.len(), told[1].marks.len()), (2, 1, 0));
+/// ```
 pub fn summary_in_stripes<R: Wait>(
     rt: &R,
     alloc: Global,
@@ -41,24 +95,31 @@ pub fn summary_in_stripes<R: Wait>(
 {
     let _number = seat.number();
     let snapshot = cache.snapshot(rt, seat, span)?;
-    let told = summaries(alloc, &snapshot.caches, span, most)?;
+    let told = summaries(alloc, cache, &snapshot, span, most)?;
     Ok(told)
 }
 
-/// A summary of each of some caches, in their order.
+/// A summary of each cache of a snapshot, in their order.
 fn summaries(
     alloc: Global,
-    caches: &[Cache],
+    cache: &StripedCache,
+    snapshot: &Snapshot,
     span: &Span,
     most: usize,
 ) -> Result<Vec<ReadSummary>, NoMemory>
-    ensures { IfOk result
-        (λ told. AllZip (λ cache one. Summarizes cache span.now most one) caches.now told.items) }
+    requires { snapshot.now.first + length snapshot.now.caches.items
+        ≤ stripe_count cache.now.terms.bounds }
+    ensures { IfOk result (λ told. SummarizeFrom cache.now.terms.bounds span.now most
+        snapshot.now.first snapshot.now.caches.items told.items) }
 {
+    let _stripes = cache.stripes();
     let mut told = Vec::new(alloc);
-    for cache in caches {
-        let one = summary(alloc, cache, span, most)?;
+    let mut stripe = snapshot.first;
+    for copy in &snapshot.caches {
+        let piece = cache.piece_of(alloc, stripe, span)?;
+        let one = summary(alloc, copy, &piece, most)?;
         told.push(one)?;
+        stripe += 1;
     }
     Ok(told)
 }
@@ -69,6 +130,20 @@ fn summaries(
 ///
 /// The call is one [`add_all`](StripedCache::add_all) of the whole span at the summary's floor,
 /// without an owner, and of the summary's marks. It waits, and is refused, as that is.
+///
+/// ```
+/// let (cache, mut dealer) = StripedCache::open(alloc, config()?, Vec::new(alloc), 1)?;
+/// let mut seat = cache.deal(&mut dealer).ok_or("a seat")?;
+/// let (key, span) = (keys(alloc, "b", "")?, keys(alloc, "a", "z")?);
+/// cache.add(&rt, &mut seat, &key, Value::of(at(20), id('A')), at(20))?;
+/// let told = summary_in_stripes(&rt, alloc, &cache, &mut seat, &span, 8)?;
+/// let (next, mut next_dealer) = StripedCache::open(alloc, config()?, Vec::new(alloc), 1)?;
+/// let mut next_seat = next.deal(&mut next_dealer).ok_or("a seat")?;
+/// for one in &told {
+///     apply_in_stripes(&rt, &next, &mut next_seat, one, at(30))?;
+/// }
+/// assert_eq!(rt; next.get_max(&rt, &mut next_seat, &key), Value::of(at(20), id('A')));
+/// ```
 pub fn apply_in_stripes<R: Wait>(
     rt: &R,
     cache: &StripedCache,

@@ -375,6 +375,12 @@ a delete without a read ends a list [in real time] -> nothing
     4@6-7: x-
     5@8-9: x=
 
+a read of nothing that began before the list [in real time] -> nothing
+    1@0-20: x=
+    2@1-2: x+1
+    3@3-4: x=1
+    4@25-26: x-
+
 a list is gone before it was deleted [in real time] -> G-single-realtime
     1@0-1: x= x+1
     2@10-30: x= y=

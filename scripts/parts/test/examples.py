@@ -8,7 +8,7 @@ import re
 import shutil
 
 from parts.frame import ROOT, needs_rt, outcome, say, temporary, text_of, write
-from parts.repository import EXAMPLE_CRATES, doc_examples
+from parts.repository import EXAMPLE_CRATES, EXAMPLE_LIBRARIES, doc_examples
 
 CRATE = "doc_examples"
 TEST = """/// {path}, line {line}
@@ -48,7 +48,8 @@ def run(cases, _):
             wanted += [f"in_{crate}::{name}" for name in names]
             write(f"{room}/crates/{CRATE}/src/in_{crate}.rt", source)
         write(f"{room}/crates/{CRATE}/src/lib.rt", f"#![tactic(auto)]\n\n{modules}")
-        write(f"{room}/crates.txt", f"{text_of('crates.txt')}{CRATE}: {' '.join(EXAMPLE_CRATES)}\n")
+        libraries = " ".join(EXAMPLE_CRATES + EXAMPLE_LIBRARIES)
+        write(f"{room}/crates.txt", f"{text_of('crates.txt')}{CRATE}: {libraries}\n")
         _, told = outcome("rt", "try", "--test", cwd=f"{room}/crates/{CRATE}")
     ran = re.findall(r"^test (\S+) \.\.\. ok$", told, re.M)
     if len(ran) < len(wanted):

@@ -477,6 +477,7 @@ EXAMPLES = {
     "crates/mvcc_range/src/range.rt": SHOWN_CALL,
     "crates/example_hand_over/src/lease.rt": "let a = 1;",
     "crates/timestamp_cache/src/writes.rt": SHOWN_CALL,
+    "crates/tsc_striped_leases/src/lib.rt": SHOWN_CALL,
     "bindings/rust/examples/leased_store.rs": "",
     "README.md": CODE,
     "docs/EMBEDDING.md": CODE,

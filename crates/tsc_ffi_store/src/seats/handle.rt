@@ -1,11 +1,13 @@
 //! A seat whose holder needs to know no other.
-ghost use Rattle.std.specs.Prelude.{◌≡◌, ◌<◌, ◌+◌, IfOk, Some, length};
+ghost use Rattle.std.specs.Prelude.{◌≡◌, ◌<◌, ◌+◌, [], IfOk, Some, length, map};
 ghost use Rattle.std.specs.Arc.{arc_value};
 ghost use Rattle.tsc_cache.specs.Settings.{fits};
 ghost use Rattle.tsc_cache.specs.Batch.{all_fit};
-ghost use Rattle.tsc_shared.specs.Seats.{SeatView, IsSeat, new_seats};
+ghost use Rattle.tsc_shared.specs.Seats.{IsSeat, new_seats};
 ghost use Rattle.tsc_shared.specs.Answers.{AnswersTriedAdd, one_mark, AnswersLookup, IsAbove, TellsNoPart, ReadsFloor, ReadsFigures, HasLookedOn, TakesSnapshot};
 ghost use Rattle.timestamp_cache.specs.SeatSummaries.{SummarizesAt};
+ghost use Rattle.tsc_ffi_store.specs.Owners.{HandleView, handle_of};
+ghost use Rattle.tsc_ffi_store.specs.ReturnSlots.{came};
 ghost use Rattle.tsc_ffi_store.specs.Seating.{Sits, Deals, IsKeeper};
 
 use crate::seats::owner::SharedHandle;
@@ -29,9 +31,9 @@ pub struct SeatHandle {
 }
 
 impl Model for SeatHandle {
-    ghost Value = { SeatView };
+    ghost Value = { HandleView };
 
-    ghost view = { λ c. c.seat };
+    ghost view = { λ c. handle_of (arc_value c.shared).table c.seat };
 
     ghost invariant = { λ c. Sits (arc_value c.shared) c.seat c.slot.table_id c.slot.me };
 }
@@ -39,8 +41,8 @@ impl Model for SeatHandle {
 impl SeatHandle {
     /// How many Adds the seat has seen, of whichever seats.
     pub fn seen(&self) -> u64
-        ensures value { result ≡ length self.now.seen }
-        ensures seat { IsSeat self.now }
+        ensures value { result ≡ length self.now.seat.seen }
+        ensures seat { IsSeat self.now.seat }
     {
         self.seat.seen()
     }
@@ -48,9 +50,10 @@ impl SeatHandle {
     /// The latest time on a span over keys that lie elsewhere, as
     /// [`SharedCache::get_max_ref`](tsc_shared::SharedCache::get_max_ref) answers.
     pub fn get_max_ref(&mut self, span: &SpanRef<'_>) -> Answer
-        ensures looked { AnswersLookup self.old self.new span.now result }
-        ensures above { IsAbove self.new span.now result.value }
-        ensures whole { TellsNoPart self.new span.now result.value }
+        ensures looked { AnswersLookup self.old.seat self.new.seat span.now result }
+        ensures above { IsAbove self.new.seat span.now result.value }
+        ensures whole { TellsNoPart self.new.seat span.now result.value }
+        ensures same { self.new.returns ≡ self.old.returns }
     {
         match self.shared.cache.get_max_ref(&mut self.seat, span) {
             Ok(answer) => answer,
@@ -61,7 +64,8 @@ impl SeatHandle {
     /// Where the floor stands, as [`SharedCache::low_water`](tsc_shared::SharedCache::low_water)
     /// answers.
     pub fn low_water(&mut self) -> LowWater
-        ensures { ReadsFloor self.old self.new result }
+        ensures floor { ReadsFloor self.old.seat self.new.seat result }
+        ensures same { self.new.returns ≡ self.old.returns }
     {
         match self.shared.cache.low_water(&mut self.seat) {
             Ok(answer) => answer,
@@ -72,7 +76,8 @@ impl SeatHandle {
     /// What can be counted of the cache, as
     /// [`SharedCache::figures`](tsc_shared::SharedCache::figures) answers.
     pub fn figures(&mut self) -> SeatFigures
-        ensures { ReadsFigures self.old self.new result }
+        ensures figures { ReadsFigures self.old.seat self.new.seat result }
+        ensures same { self.new.returns ≡ self.old.returns }
     {
         match self.shared.cache.figures(&mut self.seat) {
             Ok(answer) => answer,
@@ -83,8 +88,10 @@ impl SeatHandle {
     /// The cache as the seat sees it then, as
     /// [`SharedCache::snapshot`](tsc_shared::SharedCache::snapshot) takes it.
     pub fn snapshot(&mut self) -> Result<Snapshot, NoMemory>
-        ensures taken { IfOk result (λ snapshot. TakesSnapshot self.old self.new snapshot) }
-        ensures looked { HasLookedOn self.old self.new }
+        ensures taken { IfOk result
+            (λ snapshot. TakesSnapshot self.old.seat self.new.seat snapshot) }
+        ensures looked { HasLookedOn self.old.seat self.new.seat }
+        ensures same { self.new.returns ≡ self.old.returns }
     {
         self.shared.cache.snapshot(&mut self.seat)
     }
@@ -96,8 +103,10 @@ impl SeatHandle {
         span: &Span,
         most: usize,
     ) -> Result<SeatSummary, NoMemory>
-        ensures told { IfOk result (λ told. SummarizesAt self.old self.new span.now most told) }
-        ensures looked { HasLookedOn self.old self.new }
+        ensures told { IfOk result
+            (λ told. SummarizesAt self.old.seat self.new.seat span.now most told) }
+        ensures looked { HasLookedOn self.old.seat self.new.seat }
+        ensures same { self.new.returns ≡ self.old.returns }
     {
         summary_at(alloc, &self.shared.cache, &mut self.seat, span, most)
     }
@@ -111,8 +120,9 @@ impl SeatHandle {
         now: Timestamp,
         tries: u32,
     ) -> Result<Receipt, TryAddFault>
-        ensures { AnswersTriedAdd self.old self.new (one_mark span.now value) now
-            (fits self.old.cache.config span.now) (Some tries) result }
+        ensures answers { AnswersTriedAdd self.old.seat self.new.seat (one_mark span.now value) now
+            (fits self.old.seat.cache.config span.now) (Some tries) result }
+        ensures same { self.new.returns ≡ self.old.returns }
     {
         self.shared
             .cache
@@ -127,20 +137,25 @@ impl SeatHandle {
         now: Timestamp,
         tries: u32,
     ) -> Result<Receipt, TryAddFault>
-        ensures { AnswersTriedAdd self.old self.new marks.now now
-            (all_fit self.old.cache.config marks.now) (Some tries) result }
+        ensures answers { AnswersTriedAdd self.old.seat self.new.seat marks.now now
+            (all_fit self.old.seat.cache.config marks.now) (Some tries) result }
+        ensures same { self.new.returns ≡ self.old.returns }
     {
         self.shared
             .cache
             .try_add_all(&mut self.seat, marks, now, tries)
     }
 
-    /// Returns the seat. The cache can be closed once all its seats are returned.
+    /// Returns the seat, and gives the token that knows of it. The cache can be closed once all its
+    /// seats are returned.
     ///
     /// The return takes no memory, and does not wait.
-    pub fn close(self) {
+    pub(crate) fn close(self) -> SlotToken
+        ensures table { result.table_id ≡ self.returns }
+        ensures came { result.me ≡ (came self.seat, []) }
+    {
         let SeatHandle { shared, seat, slot } = self;
-        return_seat(&shared.slots.shared, slot, seat);
+        return_seat(&shared.slots.shared, slot, seat)
     }
 }
 
@@ -153,12 +168,14 @@ pub(crate) fn seat_all(
     seats: u32,
 ) -> Result<Vec<SeatHandle>, NoMemory>
     requires seats { seats ≡ (arc_value shared.now).cache.seats }
+    requires any { 0 < seats }
     requires all { all.items ≡ new_seats (arc_value shared.now).cache 0 seats }
     requires dealer { Deals (arc_value shared.now) dealer.old.table_id dealer.old.me 0 }
     ensures keeper { IfOk result
-        (λ _. IsKeeper (arc_value shared.now) dealer.new.table_id dealer.new.me seats 0) }
-    ensures handles { IfOk result (λ handles. handles.items ≡ new_seats (arc_value shared.now).cache
-        0 seats) }
+        (λ _. IsKeeper (arc_value shared.now) dealer.new.table_id dealer.new.me seats 0 []) }
+    ensures handles { IfOk result
+        (λ handles. handles.items ≡ map (handle_of (arc_value shared.now).table)
+        (new_seats (arc_value shared.now).cache 0 seats)) }
 {
     let mut handles = Vec::with_capacity(alloc, seats as usize)?;
     for seat in all {
@@ -179,7 +196,7 @@ fn seat_one(
     requires low { seat.number < (arc_value shared.now).cache.seats }
     ensures dealt { IfOk result (λ _. Deals (arc_value shared.now) dealer.new.table_id dealer.new.me
         (seat.number + 1)) }
-    ensures handle { IfOk result (λ handle. handle ≡ seat) }
+    ensures handle { IfOk result (λ handle. handle ≡ handle_of (arc_value shared.now).table seat) }
 {
     let clone = Arc::try_clone(shared)?;
     let slot = next_token(&shared.slots.shared, dealer);

@@ -1,14 +1,14 @@
 //! A shared cache as its seats share it, and its owner.
-ghost use Rattle.std.specs.Prelude.{◌≡◌, List, IfOk, IfErr};
+ghost use Rattle.std.specs.Prelude.{◌≡◌, [], IfOk, IfErr};
 ghost use Rattle.std.specs.Arc.{arc_value};
 ghost use Rattle.std.specs.Vec.{vec_capacity};
-ghost use Rattle.tsc_shared.specs.Seats.{SharedView, SeatView};
-ghost use Rattle.tsc_shared.specs.Answers.{Opens, Closes, open_fault};
+ghost use Rattle.tsc_shared.specs.Answers.{open_fault};
+ghost use Rattle.tsc_ffi_store.specs.Owners.{OwnerView, OpensAt, LearnsOf, EndsWith};
 ghost use Rattle.tsc_ffi_store.specs.Seating.{SharedHandleView, IsSized, IsKeeper, IsRoomFor};
 
 use crate::seats::handle::{SeatHandle, seat_all};
 use crate::seats::return_slots::{
-    ReturnSlots, SlotToken, are_all_returned, collect_seats, new_return_slots,
+    ReturnSlots, SlotToken, are_all_returned, collect_seats, learn_back, new_return_slots,
 };
 use std::alloc::Global;
 use std::marker::Model;
@@ -44,12 +44,16 @@ pub struct Owner {
 }
 
 impl Model for Owner {
-    ghost Value = { SharedView };
+    ghost Value = { OwnerView };
 
-    ghost view = { λ h. (arc_value h.shared).cache };
+    ghost view = { λ h. record {
+      cache = (arc_value h.shared).cache;
+      returns = (arc_value h.shared).table;
+      back = h.keeper.me.0.back;
+    } };
 
     ghost invariant = { λ h. IsKeeper (arc_value h.shared) h.keeper.table_id h.keeper.me h.seats
-        h.returned × IsRoomFor h.room.items (vec_capacity h.room) h.seats };
+        h.returned h.keeper.me.0.back × IsRoomFor h.room.items (vec_capacity h.room) h.seats };
 }
 
 impl Owner {
@@ -62,7 +66,7 @@ impl Owner {
         history_limit: u64,
     ) -> Result<(Owner, Vec<SeatHandle>), OpenFault>
         ensures opened { IfOk result
-            (λ opened. Opens config seats history_limit opened.0 opened.1.items) }
+            (λ opened. OpensAt config seats history_limit opened.0 opened.1.items) }
         ensures refused { IfErr result (λ fault. fault ≡ open_fault seats) }
     {
         let (cache, all) = SharedCache::open(alloc, config, seats, history_limit)?;
@@ -80,14 +84,21 @@ impl Owner {
         Ok((owner, handles))
     }
 
+    /// Learns what a token knows of seats that came back, if it is one of this cache.
+    pub(crate) fn learn(&mut self, token: SlotToken)
+        requires free { token.me.1 ≡ [] }
+        ensures { LearnsOf token.table_id token.me.0.back self.old self.new }
+    {
+        learn_back(&self.shared.slots.shared, &mut self.keeper, token);
+    }
+
     /// Ends the cache if all its seats are returned and nobody else has it, and gives what it
     /// holds. Otherwise it hands itself back. A handle that was dropped, and not
     /// [closed](SeatHandle::close), is missing for good.
     ///
     /// The call takes no memory, and does not wait.
     pub fn close(mut self) -> Result<Closed, Owner>
-        ensures closed { IfOk result
-            (λ closed. (seats : List SeatView) × Closes self seats closed) }
+        ensures closed { IfOk result (λ closed. EndsWith self.cache self.back closed) }
         ensures still_out { IfErr result (λ owner. owner ≡ self) }
     {
         let slots = &self.shared.slots.shared;
@@ -117,9 +128,9 @@ impl Owner {
 impl SharedHandle {
     /// Ends the cache with all its seats, which are returned.
     fn end(self, keeper: SlotToken, seats: u32, room: Vec<Seat>) -> Closed
-        requires known { IsKeeper self keeper.table_id keeper.me seats seats }
+        requires known { IsKeeper self keeper.table_id keeper.me seats seats keeper.me.0.back }
         requires room { IsRoomFor room.items (vec_capacity room) seats }
-        ensures { (all : List SeatView) × Closes self.cache all result }
+        ensures { EndsWith self.cache keeper.me.0.back result }
     {
         let SharedHandle { cache, slots } = self;
         let all = collect_seats(slots, keeper, seats, room);

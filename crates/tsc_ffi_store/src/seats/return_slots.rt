@@ -4,24 +4,30 @@
 //! *slot token*, which alone may take the slot of that number. A return has three steps: the token
 //! takes the slot, lays the seat there, and gives the slot back as the word becomes 1. The keeper
 //! reads the words one after another, and counts the seats that are returned.
-ghost use Rattle.std.specs.Prelude.{◌≡◌, [], ◌<◌, ◌+◌, length, All, IfOk, true};
+//!
+//! A token has no bytes. That of a returned seat knows what lies in the slot, and the keeper learns
+//! it where it gets the token.
+ghost use Rattle.std.specs.Prelude.{◌≡◌, [], ◌<◌, ◌+◌, length, All, IfOk, Some, slice_get, true};
 ghost use Rattle.std.specs.Vec.{vec_capacity};
-ghost use Rattle.tsc_ffi_store.specs.ReturnSlots.{IsKept, first_known, dealing, token};
-ghost use Rattle.tsc_ffi_store.specs.ReturnSteps.{others, first, takes_slot, returns_seat, sees_returned};
+ghost use Rattle.tsc_ffi_store.specs.ReturnSlots.{IsKept, first_known, dealing, token, spare, came, also_back};
+ghost use Rattle.tsc_ffi_store.specs.ReturnSteps.{others, first, takes_slot, returns_seat, sees_returned, LearnsBy};
 ghost use Rattle.tsc_ffi_store.specs.Seating.{IsSized, DealsOn, KnowsReturned, IsRoomFor};
 
-use atomic_table::{Play, Seat as TableSeat, Shared, Split, Table, TableRule};
+use crate::seats::same_table::swap_if_same;
+use atomic_table::{Join, Play, Seat as TableSeat, Shared, Split, Table, TableRule};
 use std::alloc::Global;
+use std::collections::LinkedList;
 use tsc_shared::{Seat, SharedCache};
 use tsc_time::NoMemory;
 
-/// What a token knows: which slots it alone may take, whether it has taken them, and how many seats
-/// from 0 on are returned. No value of it is made.
+/// What a token knows: which slots it alone may take, whether it has taken them, how many seats
+/// from 0 on are returned, and some of these as they lie there. No value of it is made.
 pub struct Known {
     pub from: u32,
     pub to: u32,
     pub taken: bool,
     pub returned: u32,
+    pub back: LinkedList<Seat>,
 }
 
 /// The slot of each word that is 1 has a seat. No two tokens may take one slot.
@@ -65,6 +71,24 @@ impl Play<Option<Seat>, Known> for ReturnSeat {
     ghost then = { returns_seat };
 }
 
+/// A token that knows nothing is made beside another.
+struct MakeSpare;
+
+impl Split<Known> for MakeSpare {
+    ghost left = { λ v. v };
+
+    ghost right = { λ v. spare };
+}
+
+/// A token learns which seats another knows to be returned.
+struct LearnBack;
+
+impl Join<Known> for LearnBack {
+    ghost both = { also_back };
+
+    ghost spent = { spare };
+}
+
 /// The keeper sees whether the next seat is returned.
 struct SeeReturned;
 
@@ -100,18 +124,34 @@ pub(crate) fn next_token(slots: &SharedSlots, dealer: &mut SlotToken) -> SlotTok
     slots.split_seat::<DealToken>(dealer)
 }
 
-/// Returns a seat, by its token.
-pub(crate) fn return_seat(slots: &SharedSlots, mut at: SlotToken, seat: Seat)
-    requires table { at.table_id ≡ slots.now.table_id }
-    requires token { at.me ≡ (token seat.number, []) }
+/// Returns a seat, by its token, which knows of it from then on.
+pub(crate) fn return_seat(slots: &SharedSlots, mut at: SlotToken, seat: Seat) -> SlotToken
+    requires token { (at.table_id ≡ slots.now.table_id) × (at.me ≡ (token seat.number, [])) }
     requires cache { seat.cache ≡ slots.now.key }
     requires sized { IsSized slots.now.table_id slots.now.key.seats }
     requires low { seat.number < slots.now.key.seats }
+    ensures table { result.table_id ≡ slots.now.table_id }
+    ensures came { result.me ≡ (came seat, []) }
 {
     let number = seat.number() as usize;
     slots.load::<TakeSlot>(&mut at, number);
     slots.exchange(&mut at, number, Some(seat));
     slots.store::<ReturnSeat>(&mut at, number, 1);
+    at
+}
+
+/// The keeper learns what a token knows, if that is of the same table.
+pub(crate) fn learn_back(slots: &SharedSlots, keeper: &mut SlotToken, mut token: SlotToken)
+    requires keeper { keeper.old.table_id ≡ slots.now.table_id }
+    requires words { 0 < slots.now.table_id.words }
+    requires free { token.me.1 ≡ [] }
+    ensures table { keeper.new.table_id ≡ keeper.old.table_id }
+    ensures learned { LearnsBy slots.now.table_id token.table_id token.me.0 keeper.old.me
+        keeper.new.me }
+{
+    let mut other = slots.split_seat::<MakeSpare>(keeper);
+    swap_if_same(&mut token, &mut other);
+    slots.join_seat::<LearnBack>(keeper, other);
 }
 
 /// Whether all seats are returned. It counts on from those that were known to be.
@@ -122,9 +162,9 @@ pub(crate) fn are_all_returned(
     returned: &mut u32,
 ) -> bool
     requires known { KnowsReturned slots.now.table_id keeper.old.table_id keeper.old.me seats
-        returned.old }
+        returned.old keeper.old.me.0.back }
     ensures known { KnowsReturned slots.now.table_id keeper.new.table_id keeper.new.me seats
-        returned.new }
+        returned.new keeper.old.me.0.back }
     ensures all { result ≡ true → returned.new ≡ seats }
 {
     while *returned < seats {
@@ -136,7 +176,8 @@ pub(crate) fn are_all_returned(
     true
 }
 
-/// The seats, all of which are returned, in a list that has room for them.
+/// The seats, all of which are returned, in the order of their slots, in a list that has room for
+/// them.
 pub(crate) fn collect_seats(
     slots: ReturnSlots,
     keeper: SlotToken,
@@ -144,10 +185,12 @@ pub(crate) fn collect_seats(
     mut room: Vec<Seat>,
 ) -> Vec<Seat>
     requires seats { seats ≡ slots.shared.key.seats }
-    requires known { KnowsReturned slots.shared.table_id keeper.table_id keeper.me seats seats }
+    requires known { KnowsReturned slots.shared.table_id keeper.table_id keeper.me seats seats
+        keeper.me.0.back }
     requires room { IsRoomFor room.items (vec_capacity room) seats }
     ensures cache { All (λ seat. seat.cache ≡ slots.shared.key) result.items }
     ensures all { length result.items ≡ seats }
+    ensures back { All (λ seat. slice_get result.items seat.number ≡ Some seat) keeper.me.0.back }
 {
     let mut closed = slots.close_with(keeper);
     for slot in 0..seats as usize {

@@ -1,9 +1,8 @@
--- The summaries so far, each of its cache.
+-- The summaries so far, and which stripe is the next.
 use Rattle.std.proofs.Common.{drop}
-use Rattle.timestamp_cache.specs.HandOver.{Summarizes}
-use Rattle.timestamp_cache.proofs.Rows.{IsPartWay}
+use Rattle.tsc_striped_leases.proofs.Leases.{AreSummed}
 use Rattle.tsc_striped_leases.proofs.summaries.Given as goal
 
-abbrev pub invariant-loop-cache : goal.invariant-loop-cache
-invariant-loop-cache l = IsPartWay (λ cache one. Summarizes cache l.fn.span l.fn.most one)
-    l.fn.caches l.told.items (drop l.cache-index l.fn.caches)
+abbrev pub invariant-loop-copy : goal.invariant-loop-copy
+invariant-loop-copy l = AreSummed l.fn.cache.terms.bounds l.fn.span l.fn.most l.fn.snapshot.first
+    l.copy-items (drop l.copy-index l.copy-items) l.told.items l.stripe

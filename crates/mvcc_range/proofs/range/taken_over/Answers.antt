@@ -2,6 +2,7 @@
 -- one tells of a span. The summary has at most `most` marks.
 use Rattle.std.proofs.Common.{◌≡◌, subst, inr, false}
 use Rattle.std.specs.Prelude.{◌↔◌, Ok, IsErrOf}
+use Rattle.tsc_cache.specs.State.{opening}
 use Rattle.tsc_cache.specs.Batch.{all_fit}
 use Rattle.tsc_cache.specs.declared.fault.CacheFault.TheVariants.{TooLarge}
 use Rattle.timestamp_cache.specs.Words.{Settings}
@@ -14,6 +15,14 @@ returns-clause-ok c =
     taken c.args.cache.now c.in_ok-next.next c.apply.new.cache c.args.span.now c.args.config
     c.args.most c.in_ok-told.told c.args.now c.in_ok-told.ensures c.in_ok-next.ensures.stands
     c.in_ok-apply.ensures.stands c.in_ok-apply.ensures.takes_over
+
+pub returns-clause-summed : goal.returns-clause-summed
+returns-clause-summed c = record {
+  summary = c.in_ok-told.told;
+  summarizes = c.in_ok-told.ensures;
+  stands = c.in_ok-apply.ensures.stands c.args.config (opening c.args.config)
+      c.in_ok-next.ensures.stands;
+}
 
 pub returns-clause-too_large : goal.returns-clause-too_large
 returns-clause-too_large c =

@@ -23,5 +23,6 @@ returns-clause-called g c =
     c.slot_mut-served.result.now c.deref_mut.result.now c.hand_on-handed.new.self c.requires.1
     c.slot_mut-served.ensures.value c.deref_mut.ensures.value c.hand_on-handed.ensures.made
     c.release.new.who.me
-    (λ old call new. HandsOnAt old call new c.args.config c.args.most c.hand_on-handed.result)
+    (λ old call new. HandsOnAt old call new c.args.config c.args.most c.args.now
+    c.hand_on-handed.result)
     c.release.ensures.released c.hand_on-handed.ensures.hands_on

@@ -1,5 +1,5 @@
 -- Proves the contract of `release`. The call that was made is the last of the history.
-use Rattle.std.proofs.Common.{◌∙◌, ap, arith}
+use Rattle.std.proofs.Common.{arith}
 use mathlib.Core.Option as maybe
 use Rattle.atomic_table.specs.Table.{step}
 use Rattle.mvcc_shared.proofs.Holding.{release_at, left_over}

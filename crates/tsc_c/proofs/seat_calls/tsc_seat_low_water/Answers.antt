@@ -22,6 +22,7 @@ returns-in-Some-seat_mut c = record {
         (search rules) (when_some c.seat_mut.result c.in-Some-seat_mut.seat c.in-Some-seat_mut.is
         (c.seat_mut.follows.holds c.floor_at.new.held)) (record {
           works = record { reads = c.floor_at.ensures.floor; done = refl };
+          stays = c.floor_at.ensures.stays;
           same = c.floor_at.ensures.counts;
         });
     kept = tt;

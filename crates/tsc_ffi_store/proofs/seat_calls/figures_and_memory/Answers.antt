@@ -2,7 +2,7 @@
 use Rattle.tsc_ffi_store.proofs.SeatFigures.{read_later}
 use Rattle.tsc_ffi_store.proofs.seat_calls.figures_and_memory.Goals as goal
 
-pub returns-in-Err : goal.returns-in-Err
-returns-in-Err c =
-    read_later c.args.seat.now c.snapshot.new.self c.figures.new.self c.figures.result
-    c.snapshot.ensures.looked c.figures.ensures
+pub returns-in-Err-clause-figures : goal.returns-in-Err-clause-figures
+returns-in-Err-clause-figures c =
+    read_later c.args.seat.now.seat c.snapshot.new.self.seat c.figures.new.self.seat
+    c.figures.result c.snapshot.ensures.looked c.figures.ensures.figures

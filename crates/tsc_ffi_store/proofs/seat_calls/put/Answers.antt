@@ -13,22 +13,22 @@ use Rattle.tsc_ffi_store.proofs.seat_calls.put.Goals as goal
 pub loop-seat-preserved : goal.loop-seat-preserved
 loop-seat-preserved c =
     let all = named_by c.lay.new.handles.items c.lay.new.slots.items c.lay.new.next ++
-    map (λ s. Seat (unasked s)) (into_iter_items c.into_iter-seat-iterator.result) in
-    let rest : List Slot = map (λ s. Seat (unasked s)) (into_iter_items c.next.new.self) in
+    map (λ s. Seat (unasked c.args.next.now s)) (into_iter_items c.into_iter-seat-iterator.result) in
+    let rest : List Slot = map (λ s. Seat (unasked c.args.next.now s)) (into_iter_items c.next.new.self) in
     let step : into_iter_items c.loop-seat.seat-iterator ≡
     c.in-Some.seat ∷ into_iter_items c.next.new.self = search rules in
     let so_far : IsLaying c.loop-seat.handles.items c.loop-seat.slots.items c.loop-seat.next
-    (Seat (unasked c.in-Some.seat) ∷ rest) all =
+    (Seat (unasked c.args.next.now c.in-Some.seat) ∷ rest) all =
     subst (λ its. IsLaying c.loop-seat.handles.items c.loop-seat.slots.items c.loop-seat.next
-    (map (λ s. Seat (unasked s)) its) all) step c.loop-seat.invariant.2 in (
+    (map (λ s. Seat (unasked c.args.next.now s)) its) all) step c.loop-seat.invariant.2 in (
       tt,
       tt,
-      one_laid (Seat (unasked c.in-Some.seat)) c.loop-seat.handles.items c.loop-seat.slots.items
+      one_laid (Seat (unasked c.args.next.now c.in-Some.seat)) c.loop-seat.handles.items c.loop-seat.slots.items
           c.loop-seat.next c.lay-in-loop-seat.new.handles.items
           c.lay-in-loop-seat.new.slots.items c.lay-in-loop-seat.new.next rest all so_far
           (subst (λ (held : CountedSeat). Lays (Seat held) c.loop-seat.handles.items
           c.loop-seat.slots.items c.loop-seat.next c.lay-in-loop-seat.new.handles.items
-          c.lay-in-loop-seat.new.slots.items c.lay-in-loop-seat.new.next) c.new.ensures
+          c.lay-in-loop-seat.new.slots.items c.lay-in-loop-seat.new.next) c.new-held.ensures
           c.lay-in-loop-seat.ensures.laid),
       omega (arith, ap length step, c.loop-seat.invariant.3, c.lay-in-loop-seat.ensures.room),
       omega (arith, ap length step, c.loop-seat.invariant.4, c.lay-in-loop-seat.ensures.slots),
@@ -49,11 +49,11 @@ returns-clause-named c =
     nil_from_length (into_iter_items c.loop-seat.seat-iterator)
     (grind (arith, c.in-None.ensures.steps.0, c.loop-seat.seat-iterator.rest.ok)) in
     let first : its ≡ c.args.seats.items = search rules in
-    sym (append-nil now) ∙ ap (λ l. now ++ map (λ s. Seat (unasked s)) l) (sym none) ∙
+    sym (append-nil now) ∙ ap (λ l. now ++ map (λ s. Seat (unasked c.args.next.now s)) l) (sym none) ∙
     c.loop-seat.invariant.2.named ∙
-    ap (λ (l : List Slot). l ++ map (λ s. Seat (unasked s)) its)
+    ap (λ (l : List Slot). l ++ map (λ s. Seat (unasked c.args.next.now s)) its)
     (laid_named (Shared c.args.owner) c.args.handles.now.items c.args.slots.now.items
     c.args.next.now c.lay.new.handles.items c.lay.new.slots.items c.lay.new.next whole
     c.requires.laid refl c.lay.ensures.laid) ∙
-    append_assoc whole (Shared c.args.owner ∷ []) (map (λ s. Seat (unasked s)) its) ∙
-    ap (λ l. whole ++ Shared c.args.owner ∷ map (λ s. Seat (unasked s)) l) first
+    append_assoc whole (Shared c.args.owner ∷ []) (map (λ s. Seat (unasked c.args.next.now s)) its) ∙
+    ap (λ l. whole ++ Shared c.args.owner ∷ map (λ s. Seat (unasked c.args.next.now s)) l) first

@@ -13,9 +13,9 @@ invariant-loop-seat l =
     (goal.iterator-loop-seat).can_next l.seat-iterator ×
     (goal.iterator-loop-seat).is_finite l.seat-iterator ×
     IsLaying l.handles.items l.slots.items l.next
-    (map (λ s. Seat (unasked s)) (into_iter_items l.seat-iterator))
+    (map (λ s. Seat (unasked l.fn.next s)) (into_iter_items l.seat-iterator))
     (named_by l.initial.handles.items l.initial.slots.items l.initial.next ++
-    map (λ s. Seat (unasked s)) (into_iter_items l.initial.seat-iterator)) ×
+    map (λ s. Seat (unasked l.fn.next s)) (into_iter_items l.initial.seat-iterator)) ×
     (vec_len l.handles + length (into_iter_items l.seat-iterator) ≤ vec_capacity l.handles) ×
     (vec_len l.slots + length (into_iter_items l.seat-iterator) ≤ vec_capacity l.slots) ×
     (l.next + length (into_iter_items l.seat-iterator) ≤ 2 ^ 64 - 1)

@@ -17,9 +17,9 @@ returns-in_err-receipt-clause-answers c =
     let p = err_from_is_err_and c.from_residual-in_err-receipt.result
     c.from_residual-in_err-receipt.ensures.1 in rw p.1 record {
       added = tt;
-      refused = inr (why_refused p.0 c.args.seat.now c.try_add_all.new.self _
-          c.in_err-receipt.field-0.0 p.2 c.in_err-receipt.ensures.why
-          c.in_err-receipt.ensures.too_large
+      refused = inr (why_refused p.0 c.args.seat.now.seat c.try_add_all.new.self.seat _
+          c.in_err-receipt.field-0.0 p.2 c.in_err-receipt.ensures.answers.why
+          c.in_err-receipt.ensures.answers.too_large
           (λ large told same. record {
             marks = c.deref.result.now;
             asked_for = subst (AreMarks c.args.args.now.keys.now c.args.args.now.marks.now)
@@ -36,7 +36,7 @@ returns-in_err-receipt-clause-answers c =
             told = told;
           }));
       spared = inr (record {
-        goes_on = c.in_err-receipt.ensures.seat;
-        refuses = c.in_err-receipt.ensures.refused;
+        goes_on = c.in_err-receipt.ensures.answers.seat;
+        refuses = c.in_err-receipt.ensures.answers.refused;
       });
     }

@@ -9,6 +9,7 @@ returns-in-Ok c = record {
   did = Ok c.in-Ok.told.bytes.items;
   answers = record {
     works = record { told = c.in-Ok.ensures.told; refused = tt; looked = c.in-Ok.ensures.looked };
+    stays = record { returns = c.in-Ok.ensures.same; opened = refl };
     same = refl;
   };
   put = subst (λ (text : List ℕ). Puts 0 text c.put.result c.args.out.now c.put.new.out
@@ -25,6 +26,7 @@ returns-in-Err c = record {
       refused = c.in-Err.ensures.refused;
       looked = c.in-Err.ensures.looked;
     };
+    stays = record { returns = c.in-Err.ensures.same; opened = refl };
     same = refl;
   };
   put = search rules;

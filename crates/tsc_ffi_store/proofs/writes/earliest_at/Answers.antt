@@ -1,5 +1,5 @@
 -- One span more.
-use Rattle.std.proofs.Common.{subst}
+use Rattle.std.proofs.Common.{◌∙◌, subst}
 use Rattle.tsc_time.specs.OwnedTime.{Owner}
 use Rattle.tsc_ffi_store.specs.Writes.{asked_write}
 use Rattle.tsc_ffi_store.specs.WriteSteps.{AsksLater}
@@ -9,20 +9,22 @@ use Rattle.tsc_ffi_store.proofs.writes.earliest_at.Goals as goal
 
 pub loop-words-preserved : goal.loop-words-preserved
 loop-words-preserved c =
-    let asked = asked_write c.args.args.now in
-    asked_more c.args.seat.now c.loop-words.seat c.later_at-time.new.seat asked.keys asked.spans
-    c.loop-words.words-index _ c.in-Ok.span asked.by asked.time c.loop-words.time
-    c.later_at-time.result c.loop-words-test.true c.in-Ok.ensures.value
-    (subst (λ (by : Owner). AsksLater c.loop-words.seat c.later_at-time.new.seat
-    c.in-Ok.span by c.loop-words.time c.later_at-time.result)
-    c.from_bytes-by.ensures c.later_at-time.ensures)
-    c.loop-words.invariant
+    let asked = asked_write c.args.args.now in (
+      asked_more c.args.seat.now.seat c.loop-words.seat.seat c.later_at-time.new.seat.seat
+          asked.keys asked.spans c.loop-words.words-index _ c.in-Ok.span asked.by asked.time
+          c.loop-words.time c.later_at-time.result c.loop-words-test.true c.in-Ok.ensures.value
+          (subst (λ (by : Owner). AsksLater c.loop-words.seat.seat c.later_at-time.new.seat.seat
+          c.in-Ok.span by c.loop-words.time c.later_at-time.result)
+          c.from_bytes-by.ensures c.later_at-time.ensures.told)
+          c.loop-words.invariant.0,
+      c.later_at-time.ensures.same ∙ c.loop-words.invariant.1,
+    )
 
 pub returns-clause-told : goal.returns-clause-told
 returns-clause-told c =
-    asked_all c.args.seat.now c.loop-words.seat (asked_write c.args.args.now)
+    asked_all c.args.seat.now.seat c.loop-words.seat.seat (asked_write c.args.args.now)
     c.loop-words.words-index c.loop-words.time c.seen-seen.ensures.seat c.loop-words-test.false
-    c.loop-words.invariant
+    c.loop-words.invariant.0
 
 pub unreachable-requires : goal.unreachable-requires
 unreachable-requires c =

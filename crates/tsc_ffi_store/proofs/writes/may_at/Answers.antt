@@ -1,5 +1,5 @@
 -- The write may be made just where the earliest time that the seat is told is its own.
-use Rattle.std.proofs.Common.{rules}
+use Rattle.std.proofs.Common.{refl, rules}
 use Rattle.tsc_ffi_store.proofs.writes.may_at.Goals as goal
 
 pub returns-clause-answers : goal.returns-clause-answers
@@ -13,5 +13,6 @@ returns-clause-answers c = record {
     front = search rules;
     refused = tt;
   };
+  stays = record { returns = c.in_ok-earliest.ensures.same; opened = refl };
   counted = c.answer.ensures;
 }

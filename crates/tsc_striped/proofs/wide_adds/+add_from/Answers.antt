@@ -6,7 +6,7 @@ use Rattle.tsc_striped.proofs.Batches.{has_acquired, can_acquire_above, has_it, 
 use Rattle.tsc_striped.proofs.Batches.{can_release_it, can_go_on, covers, can_add_all, stays}
 use Rattle.tsc_striped.proofs.Batches.{can_release_then, setup_stays, stays_at_once, stands_last}
 use Rattle.tsc_striped.proofs.Batches.{adds_last, setup_added, has_it_then, stands_then, adds_more}
-use Rattle.tsc_striped.proofs.Batches.{stays_there}
+use Rattle.tsc_striped.proofs.Batches.{stays_there, room_in}
 use Rattle.tsc_striped.proofs.wide_adds.+add_from.Goals as goal
 
 pub try_acquire-requires-clause-can : goal.try_acquire-requires-clause-can
@@ -50,6 +50,18 @@ next_version-requires-clause-has g t c =
     let q = has_acquired me c.try_acquire.new.who.me c.try_acquire.new.who.me b c.args.from stripe
     taken.0 taken.1 taken.2 refl c.requires.can.0 onward.0 onward.1 skips in
     (q.x, has_it me c.try_acquire.new.who.me b c.args.from stripe q)
+
+pub next_version-requires-clause-room : goal.next_version-requires-clause-room
+next_version-requires-clause-room g t c =
+    let me = c.args.who.now.me in
+    let b = c.args.batch.now in
+    let taken = c.try_acquire.ensures.acquired c.if-not-try_acquire.false in
+    let stripe = c.next_stripe-stripe.result in
+    let onward = c.next_stripe-stripe.ensures.onward in
+    let skips = c.next_stripe-stripe.ensures.skips me.0.setup.bounds c.requires.can.0.cut in
+    let q = has_acquired me c.try_acquire.new.who.me c.try_acquire.new.who.me b c.args.from stripe
+    taken.0 taken.1 taken.2 refl c.requires.can.0 onward.0 onward.1 skips in
+    room_in me c.try_acquire.new.who.me b c.args.from stripe q
 
 pub release-requires-clause-of : goal.release-requires-clause-of
 release-requires-clause-of g t c =

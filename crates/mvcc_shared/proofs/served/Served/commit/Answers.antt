@@ -1,5 +1,5 @@
 -- Proves the contract of `Served::commit`. A commit that is not refused is refused for no reason.
-use Rattle.std.proofs.Common.{ap, inr}
+use Rattle.std.proofs.Common.{ap}
 use Rattle.mvcc_range.specs.Serial.{Transaction}
 use Rattle.mvcc_range.specs.declared.error.RangeError.TheVariants.{OutOfRange, TooEarly, TooLarge}
 use Rattle.mvcc_shared.specs.History.{has_ended}
@@ -14,9 +14,9 @@ returns-in-Ok-clause-ends c = record {
   );
   err = tt;
   again = tt;
-  why = inr (record {
+  why = record {
     out_of_range = still_not c.in-Ok.outcome OutOfRange c.in-Ok.ensures.out_of_range;
     too_early = still_not c.in-Ok.outcome TooEarly c.in-Ok.ensures.too_early;
     too_large = still_not c.in-Ok.outcome TooLarge c.in-Ok.ensures.too_large;
-  });
+  };
 }

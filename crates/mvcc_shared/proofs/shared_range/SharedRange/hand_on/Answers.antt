@@ -8,12 +8,15 @@ use Rattle.mvcc_shared.proofs.shared_range.SharedRange.hand_on.Goals as goal
 pub invariant_of-client : goal.invariant_of-client
 invariant_of-client g c =
     kept_called c.client.inside.participant c.hand_on.new.who
-    (λ old call new. HandsOnAt old call new c.args.config c.args.most c.hand_on.result)
+    (λ old call new. HandsOnAt old call new c.args.config c.args.most c.args.now
+    c.hand_on.result)
     c.hand_on.ensures.table c.client.invariant c.hand_on.ensures.called
 
 pub returns : goal.returns
 returns g c = subst (λ old'. Calls old' (client_view c.hand_on.new.who)
-    (λ old call new. HandsOnAt old call new c.args.config c.args.most c.hand_on.result)) c.client.view_is
+    (λ old call new. HandsOnAt old call new c.args.config c.args.most c.args.now
+    c.hand_on.result)) c.client.view_is
     (calls c.client.inside.participant c.hand_on.new.who
-    (λ old call new. HandsOnAt old call new c.args.config c.args.most c.hand_on.result)
+    (λ old call new. HandsOnAt old call new c.args.config c.args.most c.args.now
+    c.hand_on.result)
     c.hand_on.ensures.table c.client.invariant c.hand_on.ensures.called)

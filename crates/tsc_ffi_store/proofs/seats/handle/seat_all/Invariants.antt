@@ -10,5 +10,6 @@ invariant-loop-seat l =
     (goal.iterator-loop-seat).can_next l.seat-iterator ×
     (goal.iterator-loop-seat).is_finite l.seat-iterator ×
     (l.dealer.table_id ≡ (arc_value l.shared).table) ×
-    Dealing (arc_value l.shared).cache l.seats l.dealer.me l.handles.items
+    Dealing (arc_value l.shared).cache (arc_value l.shared).table l.seats l.dealer.me
+    l.handles.items
     (into_iter_items l.seat-iterator)

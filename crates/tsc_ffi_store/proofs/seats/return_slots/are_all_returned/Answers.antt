@@ -12,6 +12,7 @@ load-requires c =
       omega (arith, words, low),
       look_at c.args.slots.now.key c.args.slots.now.table_id.slots
           (step c.args.slots.now.table_id.slots c.loop-returned.returned 0 0 maybe.none)
-          c.loop-returned.keeper.id c.args.seats c.loop-returned.returned c.loop-returned.keeper.me
+          c.loop-returned.keeper.id c.args.seats c.loop-returned.returned
+          c.args.keeper.now.me.0.back c.loop-returned.keeper.me
           c.loop-returned.invariant.1,
     )

@@ -4,7 +4,8 @@ use Rattle.tsc_ffi_store.specs.declared.store.Slot.{Slot}
 use Rattle.tsc_ffi_store.specs.declared.store.Slot.TheVariants.{Shared, Seat}
 use Rattle.tsc_ffi_store.specs.SeatCalls.{unasked}
 use Rattle.tsc_ffi_store.proofs.Laying.{long_as_next}
-use Rattle.tsc_ffi_store.proofs.NewSeats.{new_seats_long}
+use Rattle.tsc_shared.specs.Seats.{new_seats}
+use Rattle.tsc_ffi_store.proofs.NewSeats.{new_handles_long, slots_of_seats}
 use Rattle.tsc_ffi_store.proofs.store.Store.open_shared.Goals as goal
 
 pub put-requires-clause-laid : goal.put-requires-clause-laid
@@ -14,19 +15,22 @@ put-requires-clause-laid c =
 pub put-requires-clause-room : goal.put-requires-clause-room
 put-requires-clause-room c =
     let long : length c.in-Ok.seats.items ≡ c.args.seats =
-    ap length c.in-Ok.ensures.opened.in_order ∙ new_seats_long c.in-Ok.owner 0 c.args.seats in
+    new_handles_long c.in-Ok.owner.cache c.in-Ok.owner.returns c.args.seats c.in-Ok.seats.items
+    c.in-Ok.ensures.opened.in_order in
     search rules
 
 pub put-requires-clause-slots : goal.put-requires-clause-slots
 put-requires-clause-slots c =
     let long : length c.in-Ok.seats.items ≡ c.args.seats =
-    ap length c.in-Ok.ensures.opened.in_order ∙ new_seats_long c.in-Ok.owner 0 c.args.seats in
+    new_handles_long c.in-Ok.owner.cache c.in-Ok.owner.returns c.args.seats c.in-Ok.seats.items
+    c.in-Ok.ensures.opened.in_order in
     search rules
 
 pub put-requires-clause-left : goal.put-requires-clause-left
 put-requires-clause-left c =
     let long : length c.in-Ok.seats.items ≡ c.args.seats =
-    ap length c.in-Ok.ensures.opened.in_order ∙ new_seats_long c.in-Ok.owner 0 c.args.seats in
+    new_handles_long c.in-Ok.owner.cache c.in-Ok.owner.returns c.args.seats c.in-Ok.seats.items
+    c.in-Ok.ensures.opened.in_order in
     grind (arith, long, c.if-self-seats.false)
 
 pub returns-then-self-seats-clause-refused : goal.returns-then-self-seats-clause-refused
@@ -40,16 +44,20 @@ pub returns-in-Ok-clause-opened : goal.returns-in-Ok-clause-opened
 returns-in-Ok-clause-opened c =
     let opened = c.in-Ok.ensures.opened in
     record {
-      cache = c.in-Ok.owner;
+      owner = c.in-Ok.owner;
       next = sym (long_as_next c.self.inside.handles.items c.self.inside.slots.items
           c.self.inside.next c.args.self.now c.self.view_is);
       given = c.put.ensures.named ∙
           ap (λ (l : List Slot). l ++ Shared c.in-Ok.owner ∷
-          map (λ s. Seat (unasked s)) c.in-Ok.seats.items)
+          map (λ s. Seat (unasked c.self.inside.next s)) c.in-Ok.seats.items)
           (rw (c.reserve.ensures.items, c.reserve-else-is_err.ensures.items) c.self.view_is) ∙
-          ap (λ seats. c.args.self.now ++ Shared c.in-Ok.owner ∷ map (λ s. Seat (unasked s)) seats)
-          opened.in_order;
+          ap (λ seats. c.args.self.now ++ Shared c.in-Ok.owner ∷
+          map (λ s. Seat (unasked c.self.inside.next s)) seats) opened.in_order ∙
+          ap (λ (l : List Slot). c.args.self.now ++ Shared c.in-Ok.owner ∷ l)
+          (slots_of_seats c.self.inside.next c.in-Ok.owner.returns
+          (new_seats c.in-Ok.owner.cache 0 c.args.seats));
       settings_kept = search rules;
       count_kept = search rules;
       limit_kept = search rules;
+      none_back = opened.none_back;
     }

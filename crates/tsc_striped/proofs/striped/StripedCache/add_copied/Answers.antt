@@ -31,10 +31,13 @@ add_batch-requires-clause-can g c =
     let can = can_be_all _ p.me.0.setup.config _ _ c.args.marks.items c.args.moment
     c.fit_all.ensures c.can_all_be_added.ensures c.as_slice.ensures.value
     c.as_slice-2.ensures.value config in (
-      subst (λ (bs : List KeyBytes). IsCut bs b) bounds c.in-Ok.ensures.cut,
-      subst (λ (now : Time). CanAllBeAdded p.me.0.setup.config b.marks.items now) (sym is.1)
-          (subst (λ (ms : List Mark). CanAllBeAdded p.me.0.setup.config ms c.args.moment)
-          (sym is.0) can),
+      record {
+        cut = subst (λ (bs : List KeyBytes). IsCut bs b) bounds c.in-Ok.ensures.cut;
+        can = subst (λ (now : Time). CanAllBeAdded p.me.0.setup.config b.marks.items now) (sym is.1)
+            (subst (λ (ms : List Mark). CanAllBeAdded p.me.0.setup.config ms c.args.moment)
+            (sym is.0) can);
+        room = c.seat.invariant.seat.settled.room;
+      },
       c.due-notice.ensures.told,
     )
 

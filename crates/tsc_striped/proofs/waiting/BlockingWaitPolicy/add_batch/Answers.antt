@@ -1,18 +1,16 @@
 -- Proves the contract of `BlockingWaitPolicy::add_batch`.
 use Rattle.std.proofs.Common.{◌≡◌, ◌∙◌, sym, ap, subst}
-use Rattle.tsc_cache.specs.History.{CanAllBeAdded}
 use Rattle.tsc_stripe_table.specs.Steps.{At}
-use Rattle.tsc_striped.specs.Cutting.{IsCut}
+use Rattle.tsc_striped.specs.Cutting.{CanAddBatch}
 use Rattle.tsc_striped.specs.Batches.{AddsAll}
 use Rattle.tsc_striped.proofs.waiting.BlockingWaitPolicy.add_batch.Goals as goal
 
 pub add_under_all-requires-clause-can : goal.add_under_all-requires-clause-can
 add_under_all-requires-clause-can g c =
     let b = c.args.batch.now in
-    let can = subst (λ (m : At). IsCut m.0.setup.bounds b
-    × CanAllBeAdded m.0.setup.config b.marks.items b.moment) (sym c.loop.invariant.6)
-    (c.requires.can.0, c.requires.can.1) in
-    (can.0, can.1, ap (λ it. it.told) c.loop.invariant.7 ∙ c.requires.can.2)
+    let can = subst (λ (m : At). CanAddBatch m.0.setup b) (sym c.loop.invariant.6)
+    c.requires.can.0 in
+    (can, ap (λ it. it.told) c.loop.invariant.7 ∙ c.requires.can.1)
 
 pub returns-in-Ok-clause-added : goal.returns-in-Ok-clause-added
 returns-in-Ok-clause-added g c =

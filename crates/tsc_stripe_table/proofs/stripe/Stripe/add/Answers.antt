@@ -1,0 +1,26 @@
+-- Proves the contract of `Stripe::add`. It adds in place, or by the next version.
+use Rattle.std.proofs.Common.{◌≡◌, subst, rules}
+use Rattle.std.specs.Prelude.{Option, Some, None, IfSome, OnOk}
+use Rattle.tsc_time.specs.Time.{Time}
+use Rattle.tsc_page_nodes.specs.Page.{Mark}
+use Rattle.tsc_cache.specs.declared.added.Added.{Added}
+use Rattle.tsc_cache.specs.CacheView.{CacheView, StandsAfter, AddsWithoutRotation}
+use Rattle.tsc_stripe_table.proofs.stripe.Stripe.add.Goals as goal
+
+pub returns-in-Some-clause-stands : goal.returns-in-Some-clause-stands
+returns-in-Some-clause-stands c =
+    let m : Mark = record { span = c.args.span.now; value = c.args.value } in
+    let stands = subst (λ (r : Option Added). IfSome r (λ added. (now : Time)
+    → StandsAfter c.args.self.now.cache c.add_without_rotation.new.self m now)) c.in-Some.is
+    c.in_ok-added.ensures.stands in
+    stands c.args.now
+
+pub returns-clause-stands : goal.returns-clause-stands
+returns-clause-stands c =
+    let m : Mark = record { span = c.args.span.now; value = c.args.value } in
+    let none : c.in_ok-added.field-0 ≡ None = search rules in
+    let seen = subst (λ (r : Option Added). AddsWithoutRotation c.args.self.now.cache
+    c.add_without_rotation.new.self m r) none c.in_ok-added.ensures.seen in
+    subst (λ (v : CacheView). OnOk c.add_by_version.result
+    (StandsAfter v c.add_by_version.new.self.cache m c.args.now)) seen.1
+    c.add_by_version.ensures.stands
