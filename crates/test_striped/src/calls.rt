@@ -10,7 +10,8 @@ use test_support::{marks, told, told_added, told_value, written};
 use tsc_span::Key;
 use tsc_striped::{AddFault, Busy, OpenFault, StripedCache, TryAddFault};
 
-/// Calls on three stripes. After each Add the other seat makes the next call.
+/// Calls on three stripes. After each Add the other seat makes the next call. The last Add rotates
+/// the pages of its stripe.
 const CALLS: &str = "add [a] 20.0 A = 1 0 0
 get [a] = 20.0 A
 get [b] = 5.0 -
@@ -47,7 +48,12 @@ gated [c,z) 24.0 A = 1 0 0
 get [d] = 24.0 A
 gated_all [c,z) 24.0 A [a] 25.0 B = 1 0 0
 get [a] = 25.0 B
-meet = 10";
+meet = 10
+add [e*4000] 26.0 A = 1 0 0
+add [f*4000] 26.0 A = 1 0 0
+add [g*4000] 26.0 A = 1 1 0
+get [e*4000] = 26.0 A
+get [g*4000] = 26.0 A";
 
 /// Bounds, and what an opening with pages of so many bytes answers.
 const OPENINGS: &str = "8256 b = done

@@ -77,9 +77,7 @@ fn ask_beside<R: Wait>(
     };
     let waiting = Waiting { cache: striped, rt };
     let told = earliest_write_at(&waiting, seat, slice::from_ref(other), wanted, by);
-    let Ok(time) = told else {
-        unreachable!()
-    };
+    let Ok(time) = told else { unreachable!() };
     matches!(time, Some(later) if wanted < later)
 }
 

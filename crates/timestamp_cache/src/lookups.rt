@@ -48,6 +48,7 @@ pub trait Lookup {
 
 impl Lookup for SharedCache {
     type Seat = Seat;
+
     type Fault = Gone;
 
     ghost kind = { shared_seat };

@@ -193,11 +193,11 @@ meets_at bounds (between a b) (between c d) up over =
         piece = rw of_t refl;
         over = overlaps-from (greater_cut a start) (smaller_cut b end) (greater_cut c start)
             (smaller_cut d end) (
-          of_t,
-          Le_Lt-chain (greater_cut a start) g (smaller_cut d end) low_a high_d,
-          Le_Lt-chain (greater_cut c start) g (smaller_cut b end) low_c high_b,
-          of_s,
-        );
+              of_t,
+              Le_Lt-chain (greater_cut a start) g (smaller_cut d end) low_a high_d,
+              Le_Lt-chain (greater_cut c start) g (smaller_cut b end) low_c high_b,
+              of_s,
+            );
       };
       first = above_rises bounds c g (greater_second_ a c);
       last_ = above_below bounds g d below_d;

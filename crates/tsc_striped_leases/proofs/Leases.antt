@@ -166,15 +166,15 @@ pub one_more_summed : (bounds : List KeyBytes) (of : Interval) (most first : ℕ
     → AreSummed bounds of most first all others more next
 one_more_summed bounds of most first all left others told more stripe next x s so_far is last_ up
     one = record {
-  before = so_far.before ++ x ∷ [];
-  parts = so_far.parts ∙ ap (λ (xs : List CacheView). so_far.before ++ xs) is ∙
-      sym (append_assoc so_far.before (x ∷ []) others);
-  place = omega (arith, up, so_far.place, length-append so_far.before (x ∷ []));
-  summarize = subst (λ (ss : List Summary). SummarizeFrom bounds of most first
-      (so_far.before ++ x ∷ []) ss) (sym last_)
-      (summarize_push bounds of most first so_far.before told x s so_far.summarize
-      (subst (λ (i : ℕ). Summarizes x (piece_of bounds i of) most s) so_far.place one));
-}
+      before = so_far.before ++ x ∷ [];
+      parts = so_far.parts ∙ ap (λ (xs : List CacheView). so_far.before ++ xs) is ∙
+          sym (append_assoc so_far.before (x ∷ []) others);
+      place = omega (arith, up, so_far.place, length-append so_far.before (x ∷ []));
+      summarize = subst (λ (ss : List Summary). SummarizeFrom bounds of most first
+          (so_far.before ++ x ∷ []) ss) (sym last_)
+          (summarize_push bounds of most first so_far.before told x s so_far.summarize
+          (subst (λ (i : ℕ). Summarizes x (piece_of bounds i of) most s) so_far.place one));
+    }
 
 -- whose place is still below a bound on all of them
 pub stripe_there : (bounds : List KeyBytes) (of : Interval) (most first n : ℕ)

@@ -70,7 +70,7 @@ within_wider s e from to x y first end is below low high =
     Le_Lt-chain (greater_cut first s) x (smaller_cut end e) start
     (Lt_Le-chain x y (smaller_cut end e) below stop) in
     let piece : piece_between s e (between first end)
-        ≡ between (greater_cut first s) (smaller_cut end e) = rw there refl in
+    ≡ between (greater_cut first s) (smaller_cut end e) = rw there refl in
     subst (IsWithin (between x y)) (sym piece) (below, start, stop)
 
 -- What lies of a span in a stripe, where the span lies within a wider one.

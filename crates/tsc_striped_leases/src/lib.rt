@@ -47,7 +47,6 @@ pub mod laws;
 mod lookups;
 
 pub use lookups::{Trying, Waiting};
-
 use std::alloc::Global;
 use std::sync::Wait;
 use timestamp_cache::{ReadSummary, summary};

@@ -32,6 +32,7 @@ pub struct Waiting<'a, R> {
 
 impl<R: Wait> Lookup for Waiting<'_, R> {
     type Seat = Seat;
+
     type Fault = Infallible;
 
     ghost kind = { striped_seat };
@@ -74,6 +75,7 @@ pub struct Trying<'a> {
 
 impl Lookup for Trying<'_> {
     type Seat = Seat;
+
     type Fault = Busy;
 
     ghost kind = { striped_seat };

@@ -9,11 +9,12 @@ import io
 import os
 import re
 import shutil
+import subprocess
 import sys
 
 from parts.check.definitions import GROUPS
 from parts.draw.documents import drawn
-from parts.frame import ROOT, Cases, command_of, outcome, temporary, text_of, write
+from parts.frame import ROOT, Cases, command_of, outcome, temporary, text_at, text_of, write
 from parts.test.library import DROPPED
 
 # The parts of the gate, in their order, which stand in `scripts/`. The first one runs `rt ci`.
@@ -355,6 +356,19 @@ def try_gate(cases, room):
             lines, *others = gate.run(part, text)
             wanted = [f"{ALL * (len(PARTS) - 1) + passed} passed, {failed} failed", 1, PARTS]
             cases.expect(f"{part} ends with {what}", [lines[-1], *others], wanted)
+
+
+def try_measure(cases, room):
+    """The gate's watcher: it passes on what the gate prints, with its status, and leaves a table."""
+    said = "a case\n3 passed, 1 failed\n"
+    command_of(f"{room}/bin/rt", f"#!/bin/sh\nprintf '%s' '{said}'\nexit 3\n")
+    env = {**os.environ, "PATH": f"{room}/bin:{os.environ['PATH']}"}
+    words = [f"{ROOT}/scripts/measure", "gate", "--table", f"{room}/table", "rt", "ci"]
+    got = outcome(*words, env=env, stderr=subprocess.DEVNULL)
+    cases.expect("measure gate passes on what is printed, and the status", got, (3, said))
+    text = text_at(f"{room}/table") if os.path.exists(f"{room}/table") else ""
+    is_table = "by `rt ci`:" in text and "| `tsc_time` | 0.0 |" in text and "| all | 0.0 |" in text
+    cases.expect("measure gate leaves a table", is_table, told=text)
 
 
 def try_frame(cases, room):
@@ -729,6 +743,7 @@ def try_growths(cases, room):
 
 def run(cases, _):
     with temporary() as work:
-        for part in (try_gate, try_frame, try_library, try_store, try_checks, try_pictures, try_programs, try_growths):
+        parts = try_gate, try_measure, try_frame, try_library, try_store, try_checks, try_pictures, try_programs
+        for part in (*parts, try_growths):
             os.makedirs(f"{work}/{part.__name__}")
             part(cases, f"{work}/{part.__name__}/room")
