@@ -134,23 +134,25 @@ enum {
                            * was closed, moved, or never given */
     TSC_TIME = 2,         /* a wall time is above 2^63 - 1, or a logical count above 2^31 - 1 */
     TSC_ENDS = 3,         /* `ends` is none of the sums named below */
-    TSC_KEY_TOO_LONG = 4, /* a key of a span to be added has more than 4096 bytes; a lookup takes
-                           * any */
+    TSC_KEY_TOO_LONG = 4, /* a key of a span to be added, or a bound of stripes, has more than 4096
+                           * bytes; a lookup takes any */
     TSC_INVERTED = 5,     /* of a span that is to be added, written or summarized the first key is
                            * greater than the second */
     TSC_TOO_LARGE = 6,    /* a span to be added costs more than page_max: 32 and its bytes for each
                            * key */
-    TSC_OUTSIDE = 7,      /* a key of a mark or of a span does not lie among `keys` */
-    TSC_PAGE_SIZE = 8,    /* page_first is below 64 or above page_max, or that is above 2^30 */
+    TSC_OUTSIDE = 7,      /* a key of a mark or of a span does not lie among `keys`; or the lengths
+                           * of bounds do not use up `keys` */
+    TSC_PAGE_SIZE = 8,    /* page_first is below 64 or above page_max, or that is above 2^30, or in
+                           * stripes below 8,256 */
     TSC_MIN_PAGES = 9,    /* min_pages is 0 or above 64 */
     TSC_RETENTION = 10,   /* retention is above 2^63 - 1 */
     TSC_NO_MEMORY = 11,   /* malloc or realloc refused; told by no call that takes no memory */
-    TSC_SEATS = 12,       /* there were to be no seats, or more than 64 */
-    TSC_STILL_OUT = 13,   /* a seat of the shared cache was not handed in */
-    TSC_BUSY = 14,        /* others were in the way at each of the tries: another Add, or a
-                           * lookup */
-    TSC_FULL = 15,        /* the shared cache has had as many Adds as `limit` says; or the store
-                           * has given 2^64 - 1 handles */
+    TSC_SEATS = 12,       /* there were to be no seats, or more than 64 of a shared cache */
+    TSC_STILL_OUT = 13,   /* a seat of the shared cache, or of one in stripes, was not handed in */
+    TSC_BUSY = 14,        /* others were in the way at each of the tries: another Add, or a lookup;
+                           * in stripes a lookup is told so too */
+    TSC_FULL = 15,        /* the shared cache has had as many Adds as `limit` says; or a seat in
+                           * stripes has made 2^64 - 1; or the store has given 2^64 - 1 handles */
     TSC_REFUSED = 16,     /* of tsc_replay and tsc_check: the text says why the bytes are no trace,
                            * or no log */
     TSC_SHORT = 17,       /* of the same, and of tsc_summary and tsc_seat_summary: what is told is
@@ -165,6 +167,9 @@ enum {
     TSC_SUMMARY_FORM = 22,     /* the digest is right, and what it is of is no summary: its sender
                                 * made it wrong */
     TSC_TRIES = 23,       /* `tries` is 0, by which no Add is ever made */
+    TSC_STRIPES = 24,     /* there were to be more than 1,024 stripes */
+    TSC_BOUNDS = 25,      /* a bound of stripes is not above the one before it, or the first one is
+                           * the key without bytes */
     TSC_NULL = 255        /* a pointer is null: told by the calls with `checked_` in their names
                            * alone */
 };
@@ -355,6 +360,22 @@ uint32_t tsc_open_shared(tsc_store *store, uint32_t page_first, uint32_t page_ma
                          uint32_t min_pages, uint64_t retention, const tsc_time *low_water,
                          uint32_t seats, uint64_t limit, uint64_t *handle);
 
+/* Opens a cache in stripes, and writes its handle. Stripe 0 has the keys below the first bound, and
+ * each other one those from its bound on, below the next. Each is a cache of its own, under a lock
+ * of its own, so Adds of threads that call different stripes do not wait for one another. A bound
+ * is the next `lens[i]` bytes of `keys`, and together they use up `keys`. There are at most 1,023;
+ * with none there is one stripe. Its `seats` have the handles behind that of the cache, in their
+ * order: as many as there is memory for. What else it takes is as with `tsc_open`, for each stripe:
+ * so there may be as many pages as stripes times those of one cache.
+ *
+ * It is refused as `tsc_open` is, and then by TSC_SEATS, TSC_STRIPES, TSC_OUTSIDE,
+ * TSC_KEY_TOO_LONG, TSC_BOUNDS, TSC_PAGE_SIZE, TSC_FULL and TSC_NO_MEMORY, in this order. */
+TSC_NODISCARD
+uint32_t tsc_open_striped(tsc_store *store, uint32_t page_first, uint32_t page_max,
+                          uint32_t min_pages, uint64_t retention, const tsc_time *low_water,
+                          const void *keys, size_t keys_len, const size_t *lens, size_t lens_len,
+                          uint32_t seats, uint64_t *handle);
+
 /* The calls of a seat. Each answers after a history of Adds, of whichever seats, that begins with
  * all that the seat had seen before: its own Adds, and what its answers came from. None waits.
  *
@@ -381,7 +402,23 @@ uint32_t tsc_open_shared(tsc_store *store, uint32_t page_first, uint32_t page_ma
  * handle.
  * TSC_FULL means that `limit` Adds were made. `place_in_history` is the Add's position among all
  * Adds, from 0 on. Lookups wait for nobody, and are refused as those of `tsc_get_max` are. `seen`
- * is the number of Adds that the seat has seen then, which never sinks. */
+ * is the number of Adds that the seat has seen then, which never sinks.
+ *
+ * All this is of a shared cache. A seat in stripes takes the same calls, with these differences:
+ *
+ *   - An Add, a lookup and each other call acquires the locks of the stripes that its span touches.
+ *     So a lookup may be refused by TSC_BUSY too, where others held one of them at each of 64
+ *     tries. The seat is as it was then; after `tsc_seat_earliest_write`, `tsc_seat_may_write`,
+ *     `tsc_seat_low_water` and `tsc_seat_figures_of` it may have seen more Adds.
+ *   - Nobody counts the Adds of all seats. `place_in_history` is the Add's position among those of
+ *     its own seat, from 0 on, and `seen` is how many of its own the seat has made. A lookup that
+ *     begins after an Add of whichever seat has returned counts that Add: so another thread that
+ *     continues the work passes nothing on. That is tested and not proved.
+ *   - Adds and lookups of several stripes are of one moment. `tsc_seat_low_water` tells the
+ *     earliest floor of all stripes, and `tsc_seat_figures_of` what the figures of all come to,
+ *     where one stripe is read after another. `memory` is of one moment too, and takes some memory
+ *     for each page; it is 0 where that is refused, or locks are busy.
+ *   - No span costs too much. TSC_FULL means that the seat has made 2^64 - 1 Adds. */
 TSC_NODISCARD
 uint32_t tsc_seat_add(tsc_store *store, uint64_t seat, const void *from, size_t from_len,
                       const void *to, size_t to_len, uint32_t ends, const tsc_value *value,
@@ -407,11 +444,16 @@ TSC_NODISCARD
 uint32_t tsc_seat_low_water(tsc_store *store, uint64_t seat, uint64_t *seen, tsc_time *out);
 uint32_t tsc_seat_figures_of(tsc_store *store, uint64_t seat, uint64_t *seen, tsc_figures *out);
 
-/* What was read of a span of a shared cache, as bytes for the next holder of its lease, without
- * closing the cache. It is what `tsc_summary` tells, after a history that begins with all that the
- * seat has seen, and refused as that is. The caller stops answering reads of the span, and then
- * asks again and again until `*seen` is above the place of each thread's last Add; in practice
- * once. `*seen` is written with TSC_OK and with TSC_SHORT, and is as before with all else. */
+/* What was read of a span of a shared cache, or of one in stripes, as bytes for the next holder of
+ * its lease, without closing the cache. It is what `tsc_summary` tells, after a history that begins
+ * with all that the seat has seen, and refused as that is. The caller stops answering reads of the
+ * span, and then asks again and again until `*seen` is above the place of each thread's last Add;
+ * in practice once. `*seen` is written with TSC_OK and with TSC_SHORT, and is as before with all
+ * else.
+ *
+ * In stripes the caller asks once all Adds of reads of the span have returned. The summary is then
+ * of one moment of all stripes that the span touches. Each of them may have `most` marks, and one
+ * more where its floor is later than that of another. It is refused by TSC_BUSY too. */
 TSC_NODISCARD
 uint32_t tsc_seat_summary(tsc_store *store, uint64_t seat, const void *from, size_t from_len,
                           const void *to, size_t to_len, uint32_t ends, size_t most,
@@ -421,10 +463,11 @@ uint32_t tsc_seat_summary(tsc_store *store, uint64_t seat, const void *from, siz
  * it knows the seat as it was. */
 uint32_t tsc_seat_close(tsc_store *store, uint64_t seat);
 
-/* Closes a shared cache where all its seats were handed in, and writes how many Adds it had: as
- * many as its seats counted. The seats that it knows are among these, as they were. Else the call
- * is refused by TSC_STILL_OUT, and the cache stays as it is. So it is too while a call that hands
- * in the last seat has not returned yet. That it closes once all have, is tested and not proved. */
+/* Closes a shared cache, or one in stripes, where all its seats were handed in, and writes how
+ * many Adds it had: as many as its seats counted. The seats that it knows are among these, as they
+ * were. Else the call is refused by TSC_STILL_OUT, and the cache stays as it is. So it is too
+ * while a call that hands in the last seat has not returned yet. That it closes once all have, is
+ * tested and not proved. In stripes the number stays at 2^64 - 1 once it is there. */
 uint32_t tsc_close_shared(tsc_store *store, uint64_t handle, uint64_t *length);
 
 /* Recorded traces, from bytes to bytes. These two calls take no store, and threads may make them
@@ -447,6 +490,11 @@ uint32_t tsc_check(const void *trace, size_t trace_len, const void *log, size_t 
 /* The same calls where a pointer may be null. Then all but tsc_checked_free, which does nothing,
  * answer TSC_NULL. */
 
+static inline const void *tsc_bytes(const void *bytes)
+{
+    return bytes ? bytes : "";
+}
+
 TSC_NODISCARD
 static inline uint32_t tsc_checked_open(tsc_store *store, uint32_t page_first, uint32_t page_max,
                                         uint32_t min_pages, uint64_t retention,
@@ -467,6 +515,22 @@ static inline uint32_t tsc_checked_open_shared(tsc_store *store, uint32_t page_f
         return TSC_NULL;
     return tsc_open_shared(store, page_first, page_max, min_pages, retention, low_water, seats,
                            limit, handle);
+}
+
+TSC_NODISCARD
+static inline uint32_t tsc_checked_open_striped(tsc_store *store, uint32_t page_first,
+                                                uint32_t page_max, uint32_t min_pages,
+                                                uint64_t retention, const tsc_time *low_water,
+                                                const void *keys, size_t keys_len,
+                                                const size_t *lens, size_t lens_len,
+                                                uint32_t seats, uint64_t *handle)
+{
+    static const size_t none = 0;
+    if (!store || !low_water || !handle || (!keys && keys_len) || (!lens && lens_len))
+        return TSC_NULL;
+    return tsc_open_striped(store, page_first, page_max, min_pages, retention, low_water,
+                            tsc_bytes(keys), keys_len, lens ? lens : &none, lens_len, seats,
+                            handle);
 }
 
 TSC_NODISCARD
@@ -504,11 +568,6 @@ static inline void tsc_checked_free(tsc_store *store)
 {
     if (store)
         tsc_free(store);
-}
-
-static inline const void *tsc_bytes(const void *bytes)
-{
-    return bytes ? bytes : "";
 }
 
 TSC_NODISCARD
@@ -759,11 +818,12 @@ static inline const char *tsc_text(uint32_t answer)
     case TSC_INVERTED: return "the range is inverted";
     case TSC_TOO_LARGE: return "the span is too large for a page";
     case TSC_OUTSIDE: return "a key does not lie among the bytes";
-    case TSC_PAGE_SIZE: return "page_first is 64 to page_max, and page_max is at most 2^30";
+    case TSC_PAGE_SIZE:
+        return "page_first is 64 to page_max, and page_max at most 2^30, in stripes at least 8256";
     case TSC_MIN_PAGES: return "min_pages is 1 to 64";
     case TSC_RETENTION: return "retention is at most 2^63 - 1 nanoseconds";
     case TSC_NO_MEMORY: return "out of memory";
-    case TSC_SEATS: return "seats are 1 to 64";
+    case TSC_SEATS: return "seats are 1 or more, and of a shared cache at most 64";
     case TSC_STILL_OUT: return "a seat is still out";
     case TSC_BUSY: return "others were in the way";
     case TSC_FULL: return "there are as many Adds as there may be";
@@ -774,6 +834,8 @@ static inline const char *tsc_text(uint32_t answer)
     case TSC_SUMMARY_LENGTH: return "the summary has another length";
     case TSC_SUMMARY_CHECKSUM: return "the summary was changed";
     case TSC_SUMMARY_FORM: return "the bytes are no summary";
+    case TSC_STRIPES: return "stripes are at most 1024";
+    case TSC_BOUNDS: return "the bounds of stripes are out of order";
     case TSC_TRIES: return "with 0 tries no Add is ever made";
     case TSC_NULL: return "a pointer is null";
     default: return "no such answer";

@@ -55,6 +55,7 @@
 #include <stdexcept>
 #include <string>
 #include <string_view>
+#include <thread>
 #include <type_traits>
 #include <utility>
 
@@ -84,6 +85,8 @@ enum class Error : std::uint32_t {
     SummaryChecksum = TSC_SUMMARY_CHECKSUM,
     SummaryForm = TSC_SUMMARY_FORM,
     Tries = TSC_TRIES,
+    Stripes = TSC_STRIPES,
+    Bounds = TSC_BOUNDS,
 };
 
 /// What a refusal says. It stands in the program for good.
@@ -387,6 +390,18 @@ inline Value from_c(const tsc_value &value) noexcept
     return {{value.wall, value.logical}, owner};
 }
 
+/// What a call of a seat answers, which in stripes is made again while others hold a lock that it
+/// needs.
+template <class Call> std::uint32_t until_free(Call call) noexcept
+{
+    std::uint32_t code = call();
+    while (code == TSC_BUSY) {
+        std::this_thread::yield();
+        code = call();
+    }
+    return code;
+}
+
 /// What a call has written, unless it was refused.
 template <class T> Result<T> told(std::uint32_t code, T value) noexcept
 {
@@ -678,7 +693,9 @@ public:
     void close() noexcept { free(); }
 };
 
-/// A seat of a shared cache, which is handed in at its end. None of its calls waits.
+/// A seat of a shared cache, which is handed in at its end. None of its calls waits, but in stripes
+/// those that only read: they let other threads run, and try until they have the locks that they
+/// need.
 ///
 /// All Adds of the cache form one history, and a seat has seen a beginning of it. A lookup that
 /// has seen more Adds than the place of an Add counts that Add, whichever seat made it, and so does
@@ -720,9 +737,11 @@ public:
     {
         tsc_value latest = {};
         std::uint64_t seen = 0;
-        const std::uint32_t code = tsc_checked_seat_get_max(
-            &store_, handle_, span.from().data(), span.from().size(), span.to().data(),
-            span.to().size(), span.ends(), &seen, &latest);
+        const std::uint32_t code = detail::until_free([&] {
+            return tsc_checked_seat_get_max(&store_, handle_, span.from().data(),
+                                            span.from().size(), span.to().data(), span.to().size(),
+                                            span.ends(), &seen, &latest);
+        });
         return detail::told(code, Seen<Value>{detail::from_c(latest), seen});
     }
 
@@ -735,9 +754,11 @@ public:
         std::uint64_t seen = 0;
         if (!laid.is_laid())
             return Error::NoMemory;
-        const std::uint32_t code =
-            tsc_checked_seat_earliest_write(&store_, handle_, laid.keys(), laid.keys_len(),
-                                            laid.items(), laid.count(), &write, &seen, &time);
+        const std::uint32_t code = detail::until_free([&] {
+            return tsc_checked_seat_earliest_write(&store_, handle_, laid.keys(), laid.keys_len(),
+                                                   laid.items(), laid.count(), &write, &seen,
+                                                   &time);
+        });
         return detail::told(code, detail::from_c(time));
     }
 
@@ -750,26 +771,29 @@ public:
         std::uint64_t seen = 0;
         if (!laid.is_laid())
             return Error::NoMemory;
-        const std::uint32_t code =
-            tsc_checked_seat_may_write(&store_, handle_, laid.keys(), laid.keys_len(),
-                                       laid.items(), laid.count(), &write, &seen, &may);
+        const std::uint32_t code = detail::until_free([&] {
+            return tsc_checked_seat_may_write(&store_, handle_, laid.keys(), laid.keys_len(),
+                                              laid.items(), laid.count(), &write, &seen, &may);
+        });
         return detail::told(code, may);
     }
 
-    /// Where the floor stands.
+    /// Where the floor stands; in stripes the earliest floor of all.
     Result<Seen<Time>> low_water() noexcept
     {
         tsc_time floor = {};
         std::uint64_t seen = 0;
-        const std::uint32_t code = tsc_checked_seat_low_water(&store_, handle_, &seen, &floor);
+        const std::uint32_t code = detail::until_free(
+            [&] { return tsc_checked_seat_low_water(&store_, handle_, &seen, &floor); });
         return detail::told(code, Seen<Time>{detail::from_c(floor), seen});
     }
 
     Result<Seen<Figures>> figures() noexcept
     {
         Seen<Figures> told;
-        const std::uint32_t code =
-            tsc_checked_seat_figures_of(&store_, handle_, &told.seen, &told.answer);
+        const std::uint32_t code = detail::until_free([&] {
+            return tsc_checked_seat_figures_of(&store_, handle_, &told.seen, &told.answer);
+        });
         return detail::told(code, told);
     }
 
@@ -779,9 +803,12 @@ public:
     {
         std::uint64_t seen = 0;
         auto bytes = detail::written([&](char *out, std::size_t room, std::size_t *len) {
-            return tsc_checked_seat_summary(&store_, handle_, span.from().data(),
-                                            span.from().size(), span.to().data(), span.to().size(),
-                                            span.ends(), most, &seen, out, room, len);
+            return detail::until_free([&] {
+                return tsc_checked_seat_summary(&store_, handle_, span.from().data(),
+                                                span.from().size(), span.to().data(),
+                                                span.to().size(), span.ends(), most, &seen, out,
+                                                room, len);
+            });
         });
         if (!bytes.ok())
             return bytes.error();
@@ -826,6 +853,39 @@ public:
             &shared.store_, config.page_first, config.page_max, config.min_pages,
             static_cast<std::uint64_t>(config.retention.count()), &low, seats, limit,
             &shared.handle_);
+        shared.next_ = shared.handle_ + 1;
+        shared.end_ = shared.next_ + seats;
+        return detail::told(code, std::move(shared));
+    }
+
+    /// A cache in stripes to which nothing was added, with 1 seat or more. Stripe 0 has the keys
+    /// below the first bound, and each other one those from its bound on, below the next. The place
+    /// of an Add is that among its seat's own, and `seen` is how many of its own a seat has made.
+    /// `tsc_open_striped` says more.
+    static Result<Shared> open_striped(const Config &config, View<std::string_view> bounds,
+                                       std::uint32_t seats) noexcept
+    {
+        Shared shared;
+        const tsc_time low = detail::c_time(config.low_water);
+        std::size_t keys_len = 0;
+        for (const std::string_view bound : bounds)
+            keys_len += bound.size();
+        detail::Room<char, 1024> room_for_keys;
+        detail::Room<std::size_t, 8> room_for_lens;
+        char *const keys = room_for_keys.of(keys_len);
+        std::size_t *const lens = room_for_lens.of(bounds.size());
+        if (!keys || !lens)
+            return Error::NoMemory;
+        char *key = keys;
+        std::size_t *len = lens;
+        for (const std::string_view bound : bounds) {
+            key = std::copy(bound.begin(), bound.end(), key);
+            *len++ = bound.size();
+        }
+        const std::uint32_t code = tsc_checked_open_striped(
+            &shared.store_, config.page_first, config.page_max, config.min_pages,
+            static_cast<std::uint64_t>(config.retention.count()), &low, keys, keys_len, lens,
+            bounds.size(), seats, &shared.handle_);
         shared.next_ = shared.handle_ + 1;
         shared.end_ = shared.next_ + seats;
         return detail::told(code, std::move(shared));

@@ -92,6 +92,28 @@ static bool shared_caches(void) { return shared_ones(true); }
 
 static bool shared_caches_with_their_seats(void) { return shared_ones(false); }
 
+static bool striped_ones(bool closes)
+{
+    static const size_t ONES[] = {1, 1};
+    tsc_store store = {NULL}, other = {NULL};
+    uint64_t n, seat, adds;
+    bool is_right =
+        tsc_open_striped(&store, 132, 8256, 2, 10, &LOW, "gf", 2, ONES, 2, 2, &n) == TSC_BOUNDS &&
+        tsc_open_striped(&store, 132, 8256, 2, 10, &LOW, "fg", 2, ONES, 2, 2, &n) == TSC_OK &&
+        tsc_move(&store, n + 2, &other, &seat) == TSC_OK && seat_add(&other, seat) == TSC_OK;
+    if (closes)
+        is_right = is_right && tsc_seat_close(&other, seat) == TSC_OK &&
+                   tsc_seat_close(&store, n + 1) == TSC_OK &&
+                   tsc_close_shared(&store, n, &adds) == TSC_OK && adds == 1;
+    tsc_free(&store);
+    tsc_free(&other);
+    return is_right;
+}
+
+static bool striped_caches(void) { return striped_ones(true); }
+
+static bool striped_caches_with_their_seats(void) { return striped_ones(false); }
+
 static void leaves(bool (*run)(void), const char *what)
 {
     bool is_right = true;
@@ -173,6 +195,8 @@ int main(void)
     leaves(refused_ones, "refused ones");
     leaves(shared_caches, "shared caches");
     leaves(shared_caches_with_their_seats, "shared caches with their seats");
+    leaves(striped_caches, "caches in stripes");
+    leaves(striped_caches_with_their_seats, "caches in stripes with their seats");
     printf("%d passed, %d failed\n", passed, failed);
     return failed != 0;
 }

@@ -86,7 +86,7 @@ static void of_seats(void)
     uint64_t n = 77, moved = 77, at = 77, seen = 77;
     tsc_added added;
     tsc_value value;
-    asks("tsc_open_shared", tsc_checked_open_shared(&store, 1024, 1024, 2, 10, &LOW, 2, 9, &n), 22, 5060);
+    asks("tsc_open_shared", tsc_checked_open_shared(&store, 1024, 1024, 2, 10, &LOW, 2, 9, &n), 24, 5190);
     asks("tsc_seat_add of a first key", tsc_checked_seat_add(&store, n + 1, "x", 1, NULL, 0, TSC_POINT, &READ, &NOW, 1, &at, &added), 9, 316);
     asks("tsc_seat_add of a second key", tsc_checked_seat_add(&store, n + 1, "y", 1, NULL, 0, TSC_POINT, &READ, &NOW, 1, &at, &added), 13, 745);
     asks("tsc_seat_add of a known key", tsc_checked_seat_add(&store, n + 1, "y", 1, NULL, 0, TSC_POINT, &LATER, &NOW, 1, &at, &added), 6, 430);
@@ -108,6 +108,36 @@ static void of_seats(void)
     tsc_checked_free(&other);
 }
 
+static void of_stripes(void)
+{
+    static const size_t ONES[] = {1, 1};
+    tsc_store store = {NULL};
+    uint64_t n = 77, at = 77, seen = 77;
+    tsc_added added;
+    tsc_value value;
+    asks("tsc_open_striped", tsc_checked_open_striped(&store, 1024, 8256, 2, 10, &LOW, "gp", 2, ONES, 2, 2, &n), 29, 4220);
+    asks("tsc_seat_add of a first key in stripes", tsc_checked_seat_add(&store, n + 1, "x", 1, NULL, 0, TSC_POINT, &READ, &NOW, 64, &at, &added), 8, 312);
+    asks("tsc_seat_add of a known key in stripes", tsc_checked_seat_add(&store, n + 1, "x", 1, NULL, 0, TSC_POINT, &LATER, &NOW, 64, &at, &added), 1, 1);
+    asks("tsc_seat_add over stripes", tsc_checked_seat_add(&store, n + 1, "a", 1, "x", 1, 0, &LATER, &NOW, 64, &at, &added), 48, 4290);
+    asks("tsc_seat_get_max in stripes", tsc_checked_seat_get_max(&store, n + 2, "x", 1, NULL, 0, TSC_POINT, &seen, &value), 0, 0);
+    asks("tsc_seat_get_max over stripes", tsc_checked_seat_get_max(&store, n + 2, "a", 1, NULL, 0, TSC_ONWARD, &seen, &value), 0, 0);
+    uint8_t told[900];
+    size_t len = 0;
+    tsc_figures figures;
+    tsc_time first;
+    tsc_span span = {0, 1, 0, 0, TSC_POINT};
+    bool may = false;
+    asks("tsc_seat_figures_of in stripes", tsc_checked_seat_figures_of(&store, n + 2, &seen, &figures), 1, 392);
+    asks("tsc_seat_low_water in stripes", tsc_checked_seat_low_water(&store, n + 2, &seen, &first), 0, 0);
+    asks("tsc_seat_earliest_write in stripes", tsc_checked_seat_earliest_write(&store, n + 2, "x", 1, &span, 1, &LATER, &seen, &first), 0, 0);
+    asks("tsc_seat_may_write in stripes", tsc_checked_seat_may_write(&store, n + 2, "x", 1, &span, 1, &LATER, &seen, &may), 0, 0);
+    asks("tsc_seat_summary over stripes", tsc_checked_seat_summary(&store, n + 2, "a", 1, "x", 1, 0, SIZE_MAX, &seen, told, sizeof told, &len), 54, 5270);
+    asks("tsc_seat_close in stripes", tsc_checked_seat_close(&store, n + 2), 0, 0);
+    asks("tsc_seat_close of the other", tsc_checked_seat_close(&store, n + 1), 0, 0);
+    asks("tsc_close_shared of stripes", tsc_checked_close_shared(&store, n, &at), 0, 0);
+    tsc_checked_free(&store);
+}
+
 static void of_texts(void)
 {
     const char *trace = "{\"page_first\":132,\"page_max\":132,\"min_pages\":2,\"retention\":10,\"low_water\":[5,0],\"threads\":[["
@@ -123,6 +153,7 @@ int main(void)
 {
     of_a_cache();
     of_seats();
+    of_stripes();
     of_texts();
     printf("%d passed, %d failed\n", passed, failed);
     return failed != 0;

@@ -11,6 +11,7 @@
 #ifdef CHECKED
 #define tsc_open tsc_checked_open
 #define tsc_open_shared tsc_checked_open_shared
+#define tsc_open_striped tsc_checked_open_striped
 #define tsc_move tsc_checked_move
 #define tsc_add tsc_checked_add
 #define tsc_add_all tsc_checked_add_all
@@ -142,6 +143,8 @@ static const char *name_of(uint32_t answer)
     case TSC_SUMMARY_CHECKSUM: return "summary_checksum";
     case TSC_SUMMARY_FORM: return "summary_form";
     case TSC_TRIES: return "tries";
+    case TSC_STRIPES: return "stripes";
+    case TSC_BOUNDS: return "bounds";
     default: return tsc_text(answer);
     }
 }
@@ -149,8 +152,9 @@ static const char *name_of(uint32_t answer)
 /* What a case is played on: a cache where there are no seats. */
 struct table {
     tsc_store opened, stores[SEATS_MOST];
-    uint64_t handle, handles[SEATS_MOST], adds;
+    uint64_t handle, handles[SEATS_MOST], adds[SEATS_MOST]; /* in stripes of each seat, else of all */
     uint32_t seats, turn, tries;
+    bool is_striped;
     bool is_right; /* the places of Adds, and what seats have seen */
 };
 
@@ -159,7 +163,37 @@ static void close_table(struct table *t)
     for (uint32_t i = 0; i < t->seats; i++)
         tsc_free(&t->stores[i]);
     tsc_free(&t->opened);
-    t->adds = t->turn = 0;
+    t->turn = 0;
+    memset(t->adds, 0, sizeof t->adds);
+}
+
+static uint32_t seat_all(struct table *t, uint32_t answer)
+{
+    for (uint32_t i = 0; answer == TSC_OK && i < t->seats; i++)
+        answer = tsc_move(&t->opened, t->handle + 1 + i, &t->stores[i], &t->handles[i]);
+    return answer;
+}
+
+/* Opens a cache in stripes. What stands behind the words for settings is a bound each. */
+static uint32_t open_stripes(struct table *t, char *const *word, int words)
+{
+    static uint8_t keys[WORDS * LONGEST];
+    static size_t lens[WORDS];
+    tsc_time low = time_of(word[5]);
+    size_t len = 0, count = 0;
+    for (int i = 6; i < words; i++) {
+        struct span s = span_of(word[i]);
+        memcpy(keys + len, s.from, s.from_len);
+        len += s.from_len;
+        lens[count++] = s.from_len;
+    }
+    close_table(t);
+    t->is_striped = true;
+    return seat_all(t, tsc_open_striped(&t->opened, (uint32_t)strtoul(word[1], NULL, 10),
+                                        (uint32_t)strtoul(word[2], NULL, 10),
+                                        (uint32_t)strtoul(word[3], NULL, 10),
+                                        strtoull(word[4], NULL, 10), &low, keys, len, lens, count,
+                                        t->seats, &t->handle));
 }
 
 static uint32_t open_table(struct table *t, char *const *word)
@@ -170,27 +204,25 @@ static uint32_t open_table(struct table *t, char *const *word)
              pages = (uint32_t)strtoul(word[3], NULL, 10);
     uint64_t retention = strtoull(word[4], NULL, 10);
     close_table(t);
+    t->is_striped = false;
     if (t->seats == 0)
         return tsc_open(&t->opened, first, max, pages, retention, &low, &t->handle);
-    uint32_t answer = tsc_open_shared(&t->opened, first, max, pages, retention, &low, t->seats,
-                                      strtoull(word[6], NULL, 10), &t->handle);
-    for (uint32_t i = 0; answer == TSC_OK && i < t->seats; i++)
-        answer = tsc_move(&t->opened, t->handle + 1 + i, &t->stores[i], &t->handles[i]);
-    return answer;
+    return seat_all(t, tsc_open_shared(&t->opened, first, max, pages, retention, &low, t->seats,
+                                       strtoull(word[6], NULL, 10), &t->handle));
 }
 
 /* The seat whose turn it is. */
 static uint32_t next_seat(struct table *t) { return t->turn++ % t->seats; }
 
-static void has_seen(struct table *t, uint32_t answer, uint64_t seen)
+static void has_seen(struct table *t, uint32_t i, uint32_t answer, uint64_t seen)
 {
-    t->is_right = t->is_right && (answer != TSC_OK || seen == t->adds);
+    t->is_right = t->is_right && (answer != TSC_OK || seen == t->adds[t->is_striped ? i : 0]);
 }
 
-static void is_added(struct table *t, uint32_t answer, uint64_t place)
+static void is_added(struct table *t, uint32_t i, uint32_t answer, uint64_t place)
 {
-    has_seen(t, answer, place);
-    t->adds += answer == TSC_OK;
+    has_seen(t, i, answer, place);
+    t->adds[t->is_striped ? i : 0] += answer == TSC_OK;
 }
 
 static uint32_t add(struct table *t, const struct span *s, const tsc_value *v, const tsc_time *now,
@@ -203,7 +235,7 @@ static uint32_t add(struct table *t, const struct span *s, const tsc_value *v, c
     uint64_t place = 0;
     uint32_t answer = tsc_seat_add(&t->stores[i], t->handles[i], s->from, s->from_len, s->to,
                                    s->to_len, s->ends, v, now, t->tries, &place, out);
-    is_added(t, answer, place);
+    is_added(t, i, answer, place);
     return answer;
 }
 
@@ -216,7 +248,7 @@ static uint32_t add_all(struct table *t, const uint8_t *keys, size_t keys_len,
     uint64_t place = 0;
     uint32_t answer = tsc_seat_add_all(&t->stores[i], t->handles[i], keys, keys_len, marks, len,
                                        now, t->tries, &place, out);
-    is_added(t, answer, place);
+    is_added(t, i, answer, place);
     return answer;
 }
 
@@ -229,7 +261,7 @@ static uint32_t get_max(struct table *t, const struct span *s, tsc_value *out)
     uint64_t seen = 0;
     uint32_t answer = tsc_seat_get_max(&t->stores[i], t->handles[i], s->from, s->from_len, s->to,
                                        s->to_len, s->ends, &seen, out);
-    has_seen(t, answer, seen);
+    has_seen(t, i, answer, seen);
     return answer;
 }
 
@@ -240,7 +272,7 @@ static uint32_t low_water(struct table *t, tsc_time *out)
     uint32_t i = next_seat(t);
     uint64_t seen = 0;
     uint32_t answer = tsc_seat_low_water(&t->stores[i], t->handles[i], &seen, out);
-    has_seen(t, answer, seen);
+    has_seen(t, i, answer, seen);
     return answer;
 }
 
@@ -251,7 +283,7 @@ static uint32_t figures_of(struct table *t, tsc_figures *out)
     uint32_t i = next_seat(t);
     uint64_t seen = 0;
     uint32_t answer = tsc_seat_figures_of(&t->stores[i], t->handles[i], &seen, out);
-    has_seen(t, answer, seen);
+    has_seen(t, i, answer, seen);
     return answer;
 }
 
@@ -265,7 +297,7 @@ static uint32_t earliest_write(struct table *t, const uint8_t *keys, size_t len,
     uint64_t seen = 0;
     uint32_t answer = tsc_seat_earliest_write(&t->stores[i], t->handles[i], keys, len, spans,
                                               count, write, &seen, out);
-    has_seen(t, answer, seen);
+    has_seen(t, i, answer, seen);
     return answer;
 }
 
@@ -278,7 +310,7 @@ static uint32_t may_write(struct table *t, const uint8_t *keys, size_t len, cons
     uint64_t seen = 0;
     uint32_t answer = tsc_seat_may_write(&t->stores[i], t->handles[i], keys, len, spans, count,
                                          write, &seen, out);
-    has_seen(t, answer, seen);
+    has_seen(t, i, answer, seen);
     return answer;
 }
 
@@ -462,6 +494,8 @@ static void call(struct table *t, const struct line *l, char *told)
     tsc_added a;
     if (strcmp(w[0], "open") == 0) {
         strcpy(told, name_of(open_table(t, w)));
+    } else if (strcmp(w[0], "stripes") == 0) {
+        strcpy(told, name_of(open_stripes(t, w, l->calls)));
     } else if (strcmp(w[0], "seats") == 0) {
         tsc_store store = {NULL};
         tsc_time low = {5, 0};

@@ -414,6 +414,160 @@ static void threads(void)
     printf("%d threads made %d calls each: %" PRIu64 " Adds, %" PRIu64 " that others were in the way of, and %" PRIu64 " lookups\n", THREADS, CALLS, accepted, busy, lookups);
 }
 
+/* Caches in stripes. */
+
+static uint32_t open_striped(tsc_store *store, const char *keys, const size_t *lens, size_t count, uint32_t seats, uint64_t *handle)
+{
+    return tsc_checked_open_striped(store, 132, 8256, 2, 10, &LOW, keys, strlen(keys), lens, count, seats, handle);
+}
+
+/* A seat in stripes takes each call, and a refused one writes nothing. */
+static void stripes(void)
+{
+    static const size_t ONES[] = {1, 1}, LONGER[] = {1, 2}, EMPTY[] = {0, 2}, TOO_LONG[] = {4097};
+    static const char long_key[4098] = {0};
+    static size_t many[1024];
+    tsc_store store = {NULL}, other = {NULL};
+    uint64_t n = 77, at = 77, seen = 77, adds = 77;
+    tsc_added added;
+    tsc_time floor = {7, 7};
+    tsc_figures f;
+    CHECK(open_striped(&store, "bd", ONES, 2, 0, &n) == TSC_SEATS && n == 77);
+    CHECK(open_striped(&store, "bd", ONES, 1, 2, &n) == TSC_OUTSIDE && open_striped(&store, "bd", LONGER, 2, 2, &n) == TSC_OUTSIDE);
+    CHECK(open_striped(&store, "bd", NULL, 0, 2, &n) == TSC_OUTSIDE && open_striped(&store, "bd", EMPTY, 2, 2, &n) == TSC_BOUNDS);
+    CHECK(open_striped(&store, "db", ONES, 2, 2, &n) == TSC_BOUNDS && open_striped(&store, "bb", ONES, 2, 2, &n) == TSC_BOUNDS);
+    CHECK(tsc_open_striped(&store, 132, 8256, 2, 10, &LOW, long_key, 4097, TOO_LONG, 1, 2, &n) == TSC_KEY_TOO_LONG);
+    CHECK(tsc_open_striped(&store, 132, 8256, 2, 10, &LOW, "", 0, many, 1024, 2, &n) == TSC_STRIPES);
+    CHECK(tsc_open_striped(&store, 132, 8255, 2, 10, &LOW, "bd", 2, ONES, 2, 2, &n) == TSC_PAGE_SIZE && n == 77);
+    CHECK(tsc_checked_open_striped(NULL, 132, 8256, 2, 10, &LOW, "bd", 2, ONES, 2, 2, &n) == TSC_NULL);
+    CHECK(tsc_checked_open_striped(&store, 132, 8256, 2, 10, NULL, "bd", 2, ONES, 2, 2, &n) == TSC_NULL);
+    CHECK(tsc_checked_open_striped(&store, 132, 8256, 2, 10, &LOW, NULL, 2, ONES, 2, 2, &n) == TSC_NULL);
+    CHECK(tsc_checked_open_striped(&store, 132, 8256, 2, 10, &LOW, "bd", 2, NULL, 2, 2, &n) == TSC_NULL);
+    CHECK(tsc_checked_open_striped(&store, 132, 8256, 2, 10, &LOW, "bd", 2, ONES, 2, 2, NULL) == TSC_NULL && n == 77);
+    CHECK(tsc_checked_open_striped(&store, 132, 8256, 2, 10, &LOW, NULL, 0, NULL, 0, 1, &n) == TSC_OK && n == 0);
+    CHECK(tsc_seat_close(&store, 1) == TSC_OK && tsc_close_shared(&store, 0, &adds) == TSC_OK && adds == 0);
+
+    CHECK(open_striped(&store, "bd", ONES, 2, 70, &n) == TSC_OK && n == 2);
+    CHECK(tsc_close(&store, n) == TSC_CLOSED && tsc_seat_close(&store, n) == TSC_CLOSED && tsc_close_shared(&store, n + 1, &adds) == TSC_CLOSED);
+    CHECK(answers(&store, n + 70, "a", 5, 0) && answers(&store, n + 71, "a", 5, 0) == false);
+    CHECK(tsc_seat_add(&store, n + 1, "a", 1, "c", 1, TSC_EXCLUDE_TO, &READ, &NOW, 64, &at, &added) == TSC_OK && at == 0 && added.kept);
+    CHECK(add(&store, n + 1, "e", 64, &at) == TSC_OK && at == 1 && add(&store, n + 2, "e", 64, &at) == TSC_OK && at == 0);
+    CHECK(answers(&store, n + 1, "b", 20, 2) && answers(&store, n + 3, "a", 20, 0) && answers(&store, n + 2, "c", 5, 1));
+    CHECK(has(&store, n + 1, 3, 0, 2) && counts(&store, n + 2, 5, 165));
+    CHECK(tsc_seat_figures_of(&store, n + 1, &seen, &f) == TSC_OK && f.adds == 2 && f.refusals == 0 && f.lookups == 1 && f.memory > f.bytes);
+    CHECK(tsc_seat_low_water(&store, n + 1, &seen, &floor) == TSC_OK && floor.wall == 5 && seen == 2);
+    at = seen = 77;
+    CHECK(add(&store, n + 1, "a", 0, &at) == TSC_TRIES && at == 77);
+    CHECK(tsc_seat_add(&store, n + 1, "c", 1, "a", 1, 0, &READ, &NOW, 64, &at, &added) == TSC_INVERTED && at == 77);
+    CHECK(tsc_seat_add(&store, n + 1, long_key, 4097, "", 0, TSC_POINT, &READ, &NOW, 64, &at, &added) == TSC_KEY_TOO_LONG && at == 77);
+    CHECK(tsc_seat_figures_of(&store, n + 1, &seen, &f) == TSC_OK && f.adds == 2 && f.refusals == 3);
+
+    /* seats go to other stores, and outlive the handle of their cache */
+    CHECK(tsc_move(&store, n + 2, &other, &at) == TSC_OK && at == 0);
+    CHECK(tsc_close_shared(&store, n, &adds) == TSC_STILL_OUT && adds == 0);
+    CHECK(tsc_seat_close(&other, at) == TSC_OK && tsc_close_shared(&store, n, &adds) == TSC_STILL_OUT);
+    CHECK(tsc_move(&store, n + 1, &other, &at) == TSC_OK && at == 1 && answers(&other, at, "a", 20, 2));
+    tsc_free(&store);
+    CHECK(add(&other, at, "z", 64, &seen) == TSC_OK && seen == 2);
+    tsc_free(&other);
+
+    /* at closing the Adds of all seats are counted, also of those that were freed with their stores */
+    CHECK(open_striped(&store, "bd", ONES, 2, 3, &n) == TSC_OK && tsc_move(&store, n + 3, &other, &at) == TSC_OK);
+    CHECK(add(&other, at, "a", 64, &seen) == TSC_OK && add(&other, at, "b", 64, &seen) == TSC_OK && add(&store, n + 1, "b", 64, &seen) == TSC_OK);
+    tsc_free(&other);
+    CHECK(tsc_seat_close(&store, n + 1) == TSC_OK && tsc_close_shared(&store, n, &adds) == TSC_STILL_OUT);
+    CHECK(tsc_seat_close(&store, n + 2) == TSC_OK && tsc_close_shared(&store, n, &adds) == TSC_OK && adds == 3);
+    CHECK(tsc_close_shared(&store, n, &adds) == TSC_CLOSED);
+    tsc_free(&store);
+}
+
+/* Threads that add to two stripes at once and look up all of them: a lookup sees both marks of a
+ * batch or none, what a thread was told never sinks, and what it added is there. */
+
+enum { IN_STRIPES = 4, STRIPED_CALLS = 5000 };
+
+struct striped {
+    _Alignas(128) tsc_store store;
+    uint64_t seat, busy;
+    int number;
+    bool right;
+};
+
+static uint64_t latest_at(struct striped *t, const char *from, const char *to)
+{
+    tsc_value v = {0, 0, {0}};
+    uint64_t seen;
+    uint32_t did;
+    while ((did = tsc_seat_get_max(&t->store, t->seat, from, 1, to, 1, 0, &seen, &v)) == TSC_BUSY) {
+        t->busy++;
+        sched_yield();
+    }
+    t->right = t->right && did == TSC_OK;
+    return v.wall;
+}
+
+static void *works_in_stripes(void *handed)
+{
+    struct striped *t = handed;
+    const uint8_t keys[] = {'a', 'd', (uint8_t)('a' + t->number), 'x'};
+    uint64_t before = 0;
+    pthread_barrier_wait(&start);
+    for (uint64_t i = 0; i < STRIPED_CALLS && t->right; i++) {
+        /* one mark in the first stripe and one in the last, of one time; and a key of its own */
+        tsc_value both = {100 + i * IN_STRIPES + (uint64_t)t->number, 0, {(uint8_t)(t->number + 1)}};
+        const tsc_mark marks[] = {{0, 1, 0, 0, both, TSC_POINT}, {1, 1, 0, 0, both, TSC_POINT}};
+        tsc_added added;
+        uint64_t at;
+        uint32_t did;
+        while ((did = tsc_seat_add_all(&t->store, t->seat, keys, 2, marks, 2, &NOW, 16, &at, &added)) == TSC_BUSY) {
+            t->busy++;
+            sched_yield();
+        }
+        t->right = t->right && did == TSC_OK && at == 2 * i && added.kept;
+        while ((did = tsc_seat_add(&t->store, t->seat, keys + 2, 2, "", 0, TSC_POINT, &both, &NOW, 16, &at, &added)) == TSC_BUSY) {
+            t->busy++;
+            sched_yield();
+        }
+        t->right = t->right && did == TSC_OK && at == 2 * i + 1;
+        uint64_t all = latest_at(t, "a", "z"), first = latest_at(t, "a", "a"), last = latest_at(t, "d", "d");
+        /* whoever sees one mark of a batch sees the other */
+        t->right = t->right && all >= both.wall && all >= before && first >= all && last >= first;
+        before = last;
+    }
+    t->right = t->right && tsc_seat_close(&t->store, t->seat) == TSC_OK;
+    tsc_free(&t->store);
+    return NULL;
+}
+
+static void threads_in_stripes(void)
+{
+    static struct striped all[IN_STRIPES];
+    static const size_t ONES[] = {1, 1, 1};
+    pthread_t running[IN_STRIPES];
+    tsc_store store = {NULL};
+    uint64_t n, adds = 77, busy = 0;
+    CHECK(tsc_open_striped(&store, 65536, 1 << 20, 2, 10, &LOW, "bcd", 3, ONES, 3, IN_STRIPES, &n) == TSC_OK);
+    CHECK(pthread_barrier_init(&start, NULL, IN_STRIPES) == 0);
+    for (int i = 0; i < IN_STRIPES; i++) {
+        all[i].right = true;
+        all[i].number = i;
+        CHECK(tsc_move(&store, n + 1 + (uint64_t)i, &all[i].store, &all[i].seat) == TSC_OK);
+    }
+    for (int i = 0; i < IN_STRIPES; i++)
+        if (pthread_create(&running[i], NULL, works_in_stripes, &all[i]) != 0) {
+            printf("a thread was not started\n");
+            exit(1);
+        }
+    for (int i = 0; i < IN_STRIPES; i++) {
+        CHECK(pthread_join(running[i], NULL) == 0 && all[i].right);
+        busy += all[i].busy;
+    }
+    CHECK(pthread_barrier_destroy(&start) == 0);
+    CHECK(tsc_close_shared(&store, n, &adds) == TSC_OK && adds == 2 * IN_STRIPES * STRIPED_CALLS);
+    tsc_free(&store);
+    printf("%d threads in stripes: %" PRIu64 " times others were in the way\n", IN_STRIPES, busy);
+}
+
 int main(void)
 {
     seats();
@@ -422,6 +576,8 @@ int main(void)
     refusals();
     tries();
     threads();
+    stripes();
+    threads_in_stripes();
     printf("%d passed, %d failed\n", passed, failed);
     return failed != 0;
 }

@@ -469,15 +469,15 @@ static void texts(void)
 {
     static const char *const TEXTS[] = {
         "done", "the handle names nothing of this kind", "a time is out of range", "there are no such ends of a span", "a key is too long", "the range is inverted",
-        "the span is too large for a page", "a key does not lie among the bytes", "page_first is 64 to page_max, and page_max is at most 2^30", "min_pages is 1 to 64",
-        "retention is at most 2^63 - 1 nanoseconds", "out of memory", "seats are 1 to 64", "a seat is still out", "others were in the way", "there are as many Adds as there may be",
+        "the span is too large for a page", "a key does not lie among the bytes", "page_first is 64 to page_max, and page_max at most 2^30, in stripes at least 8256", "min_pages is 1 to 64",
+        "retention is at most 2^63 - 1 nanoseconds", "out of memory", "seats are 1 or more, and of a shared cache at most 64", "a seat is still out", "others were in the way", "there are as many Adds as there may be",
         "the bytes are refused, and the text says why", "what is told is longer than the buffer", "there is no time at which the write may be made",
         "the summary is of another version", "the summary has another length", "the summary was changed", "the bytes are no summary",
-        "with 0 tries no Add is ever made", "a pointer is null"};
+        "with 0 tries no Add is ever made", "stripes are at most 1024", "the bounds of stripes are out of order", "a pointer is null"};
     static const uint32_t ANSWERS[] = {
         TSC_OK, TSC_CLOSED, TSC_TIME, TSC_ENDS, TSC_KEY_TOO_LONG, TSC_INVERTED, TSC_TOO_LARGE, TSC_OUTSIDE, TSC_PAGE_SIZE, TSC_MIN_PAGES, TSC_RETENTION, TSC_NO_MEMORY,
         TSC_SEATS, TSC_STILL_OUT, TSC_BUSY, TSC_FULL, TSC_REFUSED, TSC_SHORT, TSC_NO_TIME, TSC_SUMMARY_VERSION, TSC_SUMMARY_LENGTH,
-        TSC_SUMMARY_CHECKSUM, TSC_SUMMARY_FORM, TSC_TRIES, TSC_NULL};
+        TSC_SUMMARY_CHECKSUM, TSC_SUMMARY_FORM, TSC_TRIES, TSC_STRIPES, TSC_BOUNDS, TSC_NULL};
     for (size_t i = 0; i < sizeof TEXTS / sizeof *TEXTS; i++)
         CHECK(strcmp(tsc_text(ANSWERS[i]), TEXTS[i]) == 0);
 }

@@ -269,11 +269,56 @@ void shared_caches_move()
     CHECK(shared.close().value() == 0);
 }
 
+/// A cache in stripes, by whose seats threads add and look up.
+void stripes()
+{
+    Config config = low_at_5();
+    config.page_max = 1 << 20;
+    CHECK(Shared::open_striped(config, {}, 0).error() == Error::Seats);
+    CHECK(Shared::open_striped(config, {"b", "a"}, 1).error() == Error::Bounds);
+    CHECK(Shared::open_striped(config, {""}, 1).error() == Error::Bounds);
+    CHECK(Shared::open_striped(config, std::string_view("b"), 1).ok());
+    const std::vector<std::string_view> many(1024, "a");
+    CHECK(Shared::open_striped(config, many, 1).error() == Error::Stripes);
+    const std::string long_key(4097, 'x'), longest(4096, 'x');
+    CHECK(Shared::open_striped(config, {"b", long_key}, 1).error() == Error::KeyTooLong);
+    CHECK(Shared::open_striped(config, {"b", longest}, 1).ok());
+    Shared shared = Shared::open_striped(config, {"b", "d"}, 3).value();
+    Seat one = shared.seat().value(), other = shared.seat().value();
+    const Value read = {{20}, ONE};
+    const Span span = Span::range("a", "e");
+    CHECK(one.add(span, read, {20}).value().place == 0);
+    CHECK(one.add_all({{Span::point("x"), read}, {Span::point("c"), read}}, {20}).value().place == 1);
+    CHECK(other.get_max(Span::point("d")).value().answer == read && other.get_max(span).value().seen == 0);
+    CHECK(other.earliest_write({Span::point("c"), Span::point("z")}, {9}, TWO).value() == Time{20, 1});
+    CHECK(other.may_write(Span::point("c"), {20}, ONE).value());
+    CHECK(other.low_water().value().answer == Time{5} && one.low_water().value().seen == 2);
+    CHECK(one.figures().value().answer.pages == 3 && one.figures().value().answer.memory > 0);
+    Cache next = Cache::open(config).value();
+    CHECK(next.apply(other.summary(Span::onward("")).value().answer, {30}).ok());
+    CHECK(next.get_max(Span::point("b")).value() == read && next.get_max(Span::point("y")).value().time == Time{5});
+    CHECK(shared.close().error() == Error::StillOut);
+    bool is_right = true, is_below = true;
+    std::thread thread([seat = std::move(other), &is_right]() mutable {
+        for (std::uint64_t i = 0; i < 100; i++) {
+            const auto told = seat.add(Span::point("f"), {{30 + i}, ONE}, {30}, UINT32_MAX);
+            is_right = is_right && told.ok() && told.value().place == i;
+        }
+    });
+    for (std::uint64_t i = 0; i < 100; i++)
+        is_below = is_below && one.get_max(Span::onward("")).value().answer.time < Time{130};
+    thread.join();
+    CHECK(is_right && is_below);
+    CHECK(one.get_max(Span::point("f")).value().answer.time == Time{129});
+    one.close();
+    CHECK(shared.close().value() == 102);
+}
+
 /// Each error of tscache.h has its own text, and `value` tells of it.
 void results()
 {
     std::set<std::string> texts;
-    for (std::uint32_t code = 1; code <= TSC_TRIES; code++) {
+    for (std::uint32_t code = 1; code <= TSC_BOUNDS; code++) {
         const auto error = static_cast<Error>(code);
         Result<Time> refused = error;
         texts.insert(text(error));
@@ -282,7 +327,7 @@ void results()
         CHECK(throws(error, [&] { return std::as_const(refused).value(); }));
         CHECK(throws(error, [&] { return std::move(refused).value(); }));
     }
-    CHECK(texts.size() == TSC_TRIES &&
+    CHECK(texts.size() == TSC_BOUNDS &&
           std::string(text(static_cast<Error>(99))) == "no such answer");
     Result<Time> answered = Time{20, 1};
     CHECK(answered.ok() && answered.error() == Error::None && answered.value() == Time{20, 1});
@@ -619,7 +664,7 @@ void of_seats() { of_both<Seat>(lone_seat); }
 int main()
 {
     for (void (*test)() : {caches_move, shared_caches_move, results, settings, times_and_owners,
-                           memory_of_owners, texts, seats, threads, of_caches, of_seats}) {
+                           memory_of_owners, texts, seats, threads, stripes, of_caches, of_seats}) {
         try {
             test();
         } catch (const std::exception &why) {

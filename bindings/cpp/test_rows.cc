@@ -141,6 +141,8 @@ std::string told(Error error)
         {Error::SummaryChecksum, "summary_checksum"},
         {Error::SummaryForm, "summary_form"},
         {Error::Tries, "tries"},
+        {Error::Stripes, "stripes"},
+        {Error::Bounds, "bounds"},
     };
     const auto found = NAMES.find(error);
     return found == NAMES.end() ? text(error) : found->second;
@@ -161,8 +163,12 @@ struct Table {
     std::vector<Seat> seats;
     std::uint32_t tries = TRIES;
     std::size_t turn = 0;
-    std::uint64_t adds = 0;
+    /// The Adds of each seat in stripes, and else of all.
+    std::vector<std::uint64_t> adds = {0};
     std::map<std::string, std::string> summaries;
+
+    /// The Adds that the seat counts whose turn it was.
+    std::uint64_t &own() { return adds.at((turn + count - 1) % count % adds.size()); }
 };
 
 /// What an answer says beside where it comes from: a seat has seen all Adds, and the next Add has
@@ -174,7 +180,7 @@ template <class T> Result<T> plain(Table &table, Result<Seen<T>> result)
 {
     if (!result.ok())
         return result.error();
-    require(result.value().seen == table.adds, "what a seat has seen");
+    require(result.value().seen == table.own(), "what a seat has seen");
     return result.value().answer;
 }
 
@@ -182,7 +188,7 @@ Result<Added> plain(Table &table, Result<Placed> result)
 {
     if (!result.ok())
         return result.error();
-    require(result.value().place == table.adds++, "the place of an Add");
+    require(result.value().place == table.own()++, "the place of an Add");
     return result.value().added;
 }
 
@@ -212,7 +218,7 @@ auto add_all(Seat &seat, const Table &table, View<Mark> marks, Time now)
     return seat.add_all(marks, now, table.tries);
 }
 
-std::string open(Table &table, const Words &words)
+Config config_of(const Words &words)
 {
     Config config;
     config.page_first = small(words[1]);
@@ -220,21 +226,48 @@ std::string open(Table &table, const Words &words)
     config.min_pages = small(words[3]);
     config.retention = std::chrono::nanoseconds(std::stoull(words[4]));
     config.low_water = time_of(words[5]);
-    table.seats.clear();
-    table.adds = table.turn = 0;
-    if (table.count == 0) {
-        auto cache = Cache::open(config);
-        const Error error = cache.error();
-        table.cache = cache.ok() ? std::move(cache).value() : Cache();
-        return error == Error::None ? "done" : told(error);
-    }
-    auto shared = Shared::open(config, small(std::to_string(table.count)), std::stoull(words[6]));
+    return config;
+}
+
+/// Takes all seats of a cache, and goes on with them.
+std::string go_on(Table &table, Result<Shared> shared)
+{
     if (!shared.ok())
         return told(shared.error());
     table.shared = std::move(shared).value();
     for (std::size_t i = 0; i < table.count; i++)
         table.seats.push_back(table.shared.seat().value());
     return "done";
+}
+
+std::string open(Table &table, const Words &words)
+{
+    const Config config = config_of(words);
+    table.seats.clear();
+    table.turn = 0;
+    table.adds = {0};
+    if (table.count == 0) {
+        auto cache = Cache::open(config);
+        const Error error = cache.error();
+        table.cache = cache.ok() ? std::move(cache).value() : Cache();
+        return error == Error::None ? "done" : told(error);
+    }
+    const std::uint32_t seats = small(std::to_string(table.count));
+    return go_on(table, Shared::open(config, seats, std::stoull(words[6])));
+}
+
+/// Opens a cache in stripes. Behind the settings stands a bound each.
+std::string stripes(Table &table, const Words &words)
+{
+    std::vector<std::string> keys;
+    for (std::size_t i = 6; i < words.size(); i++)
+        keys.push_back(Keys(words[i]).from);
+    const std::vector<std::string_view> bounds(keys.begin(), keys.end());
+    table.seats.clear();
+    table.turn = 0;
+    table.adds.assign(table.count, 0);
+    const std::uint32_t seats = small(std::to_string(table.count));
+    return go_on(table, Shared::open_striped(config_of(words), bounds, seats));
 }
 
 /// Opens a shared cache with so many seats, takes them and closes it.
@@ -346,6 +379,7 @@ using Verb = std::string (*)(Table &, const Words &);
 
 const std::map<std::string, Verb> VERBS = {
     {"open", open},
+    {"stripes", stripes},
     {"seats", seats},
     {"may", ask_write},
     {"earliest", ask_write},

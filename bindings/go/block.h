@@ -70,6 +70,15 @@ static inline uint32_t tsc_go_open_shared(tsc_go_block *b, uint32_t page_first, 
                            seats, limit, &b->handle);
 }
 
+static inline uint32_t tsc_go_open_striped(tsc_go_block *b, uint32_t page_first, uint32_t page_max,
+                                           uint32_t min_pages, uint64_t retention,
+                                           const uint8_t *keys, size_t keys_len,
+                                           const size_t *lens, size_t lens_len, uint32_t seats)
+{
+    return tsc_open_striped(tsc_go_store(b), page_first, page_max, min_pages, retention, &b->time,
+                            keys, keys_len, lens, lens_len, seats, &b->handle);
+}
+
 static inline uint32_t tsc_go_move(tsc_go_block *b, uint64_t seat, tsc_go_block *other)
 {
     return tsc_move(tsc_go_store(b), b->handle + seat, tsc_go_store(other), &other->handle);

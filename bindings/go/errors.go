@@ -27,7 +27,8 @@ const (
 	// ErrTooLarge is of a span to be added that costs more than PageMax: 32 and its bytes for each
 	// key.
 	ErrTooLarge Refused = C.TSC_TOO_LARGE
-	// ErrPageSize is of a PageFirst below 64, or above PageMax, or of a PageMax above 2^30.
+	// ErrPageSize is of a PageFirst below 64, or above PageMax, or of a PageMax above 2^30, or in
+	// stripes below 8256.
 	ErrPageSize Refused = C.TSC_PAGE_SIZE
 	// ErrMinPages is of MinPages of 0, or above 64.
 	ErrMinPages Refused = C.TSC_MIN_PAGES
@@ -35,14 +36,15 @@ const (
 	ErrRetention Refused = C.TSC_RETENTION
 	// ErrNoMemory is of memory that C had none of.
 	ErrNoMemory Refused = C.TSC_NO_MEMORY
-	// ErrSeats is of no seats, or more than 64.
+	// ErrSeats is of no seats, or more than 64 of OpenShared.
 	ErrSeats Refused = C.TSC_SEATS
 	// ErrStillOut is of a shared cache of which a seat was not closed.
 	ErrStillOut Refused = C.TSC_STILL_OUT
 	// ErrBusy is of an Add that found others in the way at each of its tries. Call
 	// runtime.Gosched, and try again.
 	ErrBusy Refused = C.TSC_BUSY
-	// ErrFull is of a shared cache that has had as many Adds as it may have.
+	// ErrFull is of a shared cache that has had as many Adds as it may have, or of a seat in stripes
+	// that has made 2^64 - 1.
 	ErrFull Refused = C.TSC_FULL
 	// ErrNoTime is of a write for which there is no time: a read of somebody else is at the last
 	// one.
@@ -58,6 +60,11 @@ const (
 	ErrSummaryForm Refused = C.TSC_SUMMARY_FORM
 	// ErrTries is of an Add of a seat with no tries, by which none is ever made.
 	ErrTries Refused = C.TSC_TRIES
+	// ErrStripes is of more than 1024 stripes.
+	ErrStripes Refused = C.TSC_STRIPES
+	// ErrBounds is of a bound of stripes that is not above the one before it, or of a first one
+	// without bytes.
+	ErrBounds Refused = C.TSC_BOUNDS
 )
 
 var reasons = map[Refused]string{
@@ -67,16 +74,18 @@ var reasons = map[Refused]string{
 	ErrKeyTooLong: "a key has more than 4096 bytes",
 	ErrInverted:   "the first key of the span is greater than the second",
 	ErrTooLarge:   "the span costs more than PageMax",
-	ErrPageSize:   "PageFirst is 64 to PageMax, and PageMax is at most 2^30",
+	ErrPageSize:   "PageFirst is 64 to PageMax, and PageMax at most 2^30, in stripes at least 8256",
 	ErrMinPages:   "MinPages is 1 to 64",
 	ErrRetention:  "Retention is negative",
 	ErrNoMemory:   "out of memory",
-	ErrSeats:      "seats are 1 to 64",
+	ErrSeats:      "seats are 1 or more, and of OpenShared at most 64",
 	ErrStillOut:   "a seat was not closed",
 	ErrBusy:       "others were in the way at each try",
 	ErrFull:       "the cache has had as many Adds as it may have",
 	ErrNoTime:     "a read of somebody else is at the last time",
 	ErrTries:      "an Add of a seat takes one try or more",
+	ErrStripes:    "stripes are at most 1024",
+	ErrBounds:     "the bounds of stripes are out of order",
 
 	ErrSummaryVersion:  "the summary is of another version",
 	ErrSummaryLength:   "the summary has another length",

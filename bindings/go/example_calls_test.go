@@ -47,7 +47,7 @@ func ExampleOpen() {
 	config.PageFirst = 63
 	_, err := tscache.Open(config)
 	fmt.Println(err)
-	// Output: tscache: PageFirst is 64 to PageMax, and PageMax is at most 2^30
+	// Output: tscache: PageFirst is 64 to PageMax, and PageMax at most 2^30, in stripes at least 8256
 }
 
 func ExamplePoint() {

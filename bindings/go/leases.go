@@ -42,10 +42,15 @@ func (s *Seat) Summary(span Span, most uint) ([]byte, uint64, error) {
 	}
 	var seen uint64
 	out, err := told(func(out []byte) (uint32, int) {
-		code := C.tsc_go_seat_summary(
-			in.block, bytes(span.from), C.size_t(len(span.from)), bytes(span.to),
-			C.size_t(len(span.to)), span.ends-1, C.size_t(most), bytes(out), C.size_t(len(out)),
-		)
+		code := C.uint32_t(C.TSC_BUSY)
+		for tries := 0; code == C.TSC_BUSY; tries++ {
+			letRun(tries)
+			code = C.tsc_go_seat_summary(
+				in.block, bytes(span.from), C.size_t(len(span.from)), bytes(span.to),
+				C.size_t(len(span.to)), span.ends-1, C.size_t(most), bytes(out),
+				C.size_t(len(out)),
+			)
+		}
 		seen = in.seen(code)
 		return uint32(code), int(in.block.length)
 	})

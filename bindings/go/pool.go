@@ -35,7 +35,7 @@ func NewPool(seats []*Seat) *Pool {
 	for _, seat := range seats {
 		switch {
 		case !isOpened(seat) || !isOpened(seats[0]):
-			panic("tscache: a Pool is made of seats that OpenShared has given")
+			panic("tscache: a Pool is made of seats that OpenShared or OpenStriped has given")
 		case seat.inner.cache != seats[0].inner.cache:
 			panic("tscache: the seats of a Pool are of one shared cache")
 		case !seat.inner.pool.CompareAndSwap(nil, p):
@@ -46,7 +46,7 @@ func NewPool(seats []*Seat) *Pool {
 	return p
 }
 
-// isOpened says whether OpenShared has given this very seat.
+// isOpened says whether OpenShared or OpenStriped has given this very seat.
 func isOpened(seat *Seat) bool {
 	if seat == nil {
 		return false

@@ -20,7 +20,7 @@ var wantedErrors = map[string]error{
 	"page_size": ErrPageSize, "min_pages": ErrMinPages, "retention": ErrRetention, "seats": ErrSeats,
 	"busy": ErrBusy, "full": ErrFull, "summary_version": ErrSummaryVersion,
 	"summary_length": ErrSummaryLength, "summary_checksum": ErrSummaryChecksum,
-	"summary_form": ErrSummaryForm, "tries": ErrTries,
+	"summary_form": ErrSummaryForm, "tries": ErrTries, "stripes": ErrStripes, "bounds": ErrBounds,
 }
 
 func number(text string, bits int) uint64 {
@@ -119,22 +119,39 @@ type table struct {
 	seats  []*Seat
 	turn   int
 	tries  uint32
-	adds   uint64
+	// The Adds of each seat in stripes, and else of all.
+	adds []uint64
 	// The summaries of the case, by their names. They stay where another cache is opened.
 	summaries map[string][]byte
 }
 
-func (p *table) open(words []string, seats uint32) (err error) {
+func configOf(words []string) Config {
 	size := func(word string) uint32 { return uint32(number(word, 32)) }
-	config := Config{
+	return Config{
 		PageFirst: size(words[0]), PageMax: size(words[1]), MinPages: size(words[2]),
 		Retention: time.Duration(number(words[3], 64)), LowWater: timeAt(words[4]),
 	}
+}
+
+func (p *table) open(words []string, seats uint32) (err error) {
+	config := configOf(words)
+	p.adds = make([]uint64, 1)
 	if seats == 0 {
 		p.cache, err = Open(config)
 	} else {
 		p.shared, p.seats, err = OpenShared(config, seats, number(words[5], 64))
 	}
+	return err
+}
+
+// openStriped opens a cache in stripes. Behind the settings stands a bound each.
+func (p *table) openStriped(words []string, seats uint32) (err error) {
+	var bounds [][]byte
+	for _, word := range words[5:] {
+		bounds = append(bounds, spanOf(word).from)
+	}
+	p.adds = make([]uint64, seats)
+	p.shared, p.seats, err = OpenStriped(configOf(words), bounds, seats)
 	return err
 }
 
@@ -146,7 +163,11 @@ func (p *table) close() {
 		seat.Close()
 	}
 	if p.shared != nil {
-		if n, err := p.shared.Close(); n != p.adds || err != nil {
+		var adds uint64
+		for _, own := range p.adds {
+			adds += own
+		}
+		if n, err := p.shared.Close(); n != adds || err != nil {
 			p.t.Errorf("closed with %d Adds, %v", n, err)
 		}
 	}
@@ -157,9 +178,12 @@ func (p *table) next() *Seat {
 	return p.seats[p.turn%len(p.seats)]
 }
 
+// own is how many Adds the seat counts whose turn it was.
+func (p *table) own() *uint64 { return &p.adds[p.turn%len(p.seats)%len(p.adds)] }
+
 // seen tells of an answer that came of other Adds than all so far.
 func (p *table) seen(told string, seen uint64, err error) (string, error) {
-	if err == nil && seen != p.adds {
+	if err == nil && seen != *p.own() {
 		told += fmt.Sprintf(" of %d Adds", seen)
 	}
 	return told, err
@@ -169,7 +193,7 @@ func (p *table) seen(told string, seen uint64, err error) (string, error) {
 func (p *table) added(place uint64, a Added, err error) (string, error) {
 	told, err := p.seen(toldAdded(a), place, err)
 	if err == nil {
-		p.adds++
+		*p.own()++
 	}
 	return told, err
 }
@@ -391,6 +415,10 @@ func playRows(t *testing.T, seats uint32) (rows int) {
 			p.close()
 			p = &table{t: t, tries: 64, summaries: p.summaries}
 			err = p.open(words[1:], seats)
+		case "stripes":
+			p.close()
+			p = &table{t: t, tries: 64, summaries: p.summaries}
+			err = p.openStriped(words[1:], seats)
 		case "seats":
 			err = seated(uint32(number(words[1], 32)))
 		default:

@@ -274,19 +274,65 @@ func OpenShared(config Config, seats uint32, limit uint64) (*Shared, []*Seat, er
 		C.uint64_t(limit)),
 	)
 	runtime.KeepAlive(in)
-	var all []*Seat
-	for i := uint32(1); err == nil && i <= seats; i++ {
-		seat := &Seat{}
-		if err = s.move(C.uint64_t(i), seat); err == nil {
-			all = append(all, seat)
-		}
-	}
 	if err != nil {
-		for _, seat := range all {
-			seat.Close()
-		}
 		s.close()
 		return nil, nil, err
+	}
+	return s.seats(seats)
+}
+
+// OpenStriped makes a cache in stripes to which nothing was added, and its seats: 1 or more, as many
+// as there is memory for. Stripe 0 has the keys below the first bound, and each other one those from
+// its bound on, below the next. Each is a cache of its own, under a lock of its own, so Adds of
+// goroutines that call different stripes do not wait for one another. Bounds ascend, and there are
+// at most 1023 of them. PageMax is 8256 or more, into which each span fits. There may be as many
+// pages as stripes times those of one cache.
+//
+// A call of a seat acquires the locks of the stripes that its span touches. An Add returns ErrBusy
+// as in a shared cache. A lookup and each other call lets other goroutines run, and tries again.
+// Nobody counts the Adds of all seats: the place of an Add is that among the seat's own, and a seat
+// that has seen so many Adds has made so many. A lookup that begins once an Add has returned counts
+// that Add, whichever seats the two are of.
+func OpenStriped(config Config, bounds [][]byte, seats uint32) (*Shared, []*Seat, error) {
+	s := &Shared{}
+	in, err := s.open()
+	if err != nil {
+		return nil, nil, err
+	}
+	in.cache = atomic.AddUint64(&sharedCaches, 1)
+	putTime(&in.block.time, config.LowWater)
+	var keys []byte
+	lens := make([]C.size_t, len(bounds)+1)
+	for i, bound := range bounds {
+		keys = append(keys, bound...)
+		lens[i] = C.size_t(len(bound))
+	}
+	err = in.leave(C.tsc_go_open_striped(
+		in.block, C.uint32_t(config.PageFirst), C.uint32_t(config.PageMax),
+		C.uint32_t(config.MinPages), C.uint64_t(config.Retention), bytes(keys),
+		C.size_t(len(keys)), &lens[0], C.size_t(len(bounds)), C.uint32_t(seats)),
+	)
+	runtime.KeepAlive(in)
+	if err != nil {
+		s.close()
+		return nil, nil, err
+	}
+	return s.seats(seats)
+}
+
+// seats gives each of the cache's seats a block of its own. Where one is refused, all are closed.
+func (s *Shared) seats(seats uint32) (*Shared, []*Seat, error) {
+	var all []*Seat
+	for i := uint32(1); i <= seats; i++ {
+		seat := &Seat{}
+		if err := s.move(C.uint64_t(i), seat); err != nil {
+			for _, seat := range all {
+				seat.Close()
+			}
+			s.close()
+			return nil, nil, err
+		}
+		all = append(all, seat)
 	}
 	return s, all, nil
 }
@@ -376,16 +422,20 @@ func (s *Seat) AddAll(marks []Mark, now Time, tries uint32) (uint64, Added, erro
 }
 
 // GetMax is the latest time on a span, as that of a Cache, and how many Adds the seat has seen
-// then. It waits for nobody.
+// then. It waits for nobody; in stripes it tries until it has the locks that it needs.
 func (s *Seat) GetMax(span Span) (Value, uint64, error) {
 	in, err := s.take()
 	if err != nil {
 		return Value{Time: MaxTime}, 0, err
 	}
-	code := C.tsc_go_seat_get_max(
-		in.block, bytes(span.from), C.size_t(len(span.from)), bytes(span.to),
-		C.size_t(len(span.to)), span.ends-1,
-	)
+	code := C.uint32_t(C.TSC_BUSY)
+	for tries := 0; code == C.TSC_BUSY; tries++ {
+		letRun(tries)
+		code = C.tsc_go_seat_get_max(
+			in.block, bytes(span.from), C.size_t(len(span.from)), bytes(span.to),
+			C.size_t(len(span.to)), span.ends-1,
+		)
+	}
 	seen, out := in.seen(code), valueOf(code, &in.block.value)
 	err = in.leave(code)
 	runtime.KeepAlive(in)
@@ -401,39 +451,61 @@ func (s *Seat) EarliestWrite(spans []Span, at Time, by [16]byte) (Time, error) {
 	}
 	putValue(&in.block.value, Value{at, by})
 	in.ask(spans)
-	code := C.tsc_go_seat_earliest_write(
-		in.block, bytes(in.keys), C.size_t(len(in.keys)), &in.spans[0], C.size_t(len(spans)),
-	)
+	code := C.uint32_t(C.TSC_BUSY)
+	for tries := 0; code == C.TSC_BUSY; tries++ {
+		letRun(tries)
+		code = C.tsc_go_seat_earliest_write(
+			in.block, bytes(in.keys), C.size_t(len(in.keys)), &in.spans[0], C.size_t(len(spans)),
+		)
+	}
 	out := timeOf(code, &in.block.time)
 	err = in.leave(code)
 	runtime.KeepAlive(in)
 	return out, err
 }
 
-// LowWater is where the floor stands, and how many Adds the seat has seen then.
+// LowWater is where the floor stands, and how many Adds the seat has seen then. In stripes it is the
+// earliest floor of all.
 func (s *Seat) LowWater() (Time, uint64, error) {
 	in, err := s.take()
 	if err != nil {
 		return MaxTime, 0, err
 	}
-	code := C.tsc_go_seat_low_water(in.block)
+	code := C.uint32_t(C.TSC_BUSY)
+	for tries := 0; code == C.TSC_BUSY; tries++ {
+		letRun(tries)
+		code = C.tsc_go_seat_low_water(in.block)
+	}
 	seen, out := in.seen(code), timeOf(code, &in.block.time)
 	err = in.leave(code)
 	runtime.KeepAlive(in)
 	return out, seen, err
 }
 
-// Figures is what can be counted, and how many Adds the seat has seen then.
+// Figures is what can be counted, and how many Adds the seat has seen then. In stripes it is what
+// the figures of all come to, where one stripe is read after another.
 func (s *Seat) Figures() (Figures, uint64, error) {
 	in, err := s.take()
 	if err != nil {
 		return Figures{}, 0, err
 	}
-	told := C.tsc_go_seat_figures(in.block)
+	told := C.tsc_go_counted{code: C.TSC_BUSY}
+	for tries := 0; told.code == C.TSC_BUSY; tries++ {
+		letRun(tries)
+		told = C.tsc_go_seat_figures(in.block)
+	}
 	seen := in.seen(told.code)
 	err = in.leave(told.code)
 	runtime.KeepAlive(in)
 	return figuresOf(told), seen, err
+}
+
+// letRun lets other goroutines run, unless nothing was tried yet. In stripes a call of a seat that
+// only reads is made again while others hold a lock that it needs; a shared cache answers at once.
+func letRun(tries int) {
+	if tries > 0 {
+		runtime.Gosched()
+	}
 }
 
 // noPlace is the place of an Add that was refused, which no lookup has seen.

@@ -78,9 +78,13 @@ func (s *Seat) MayWriteAll(spans []Span, at Time, by [16]byte) (bool, error) {
 	}
 	putValue(&in.block.value, Value{at, by})
 	in.ask(spans)
-	code := C.tsc_go_seat_may_write(
-		in.block, bytes(in.keys), C.size_t(len(in.keys)), &in.spans[0], C.size_t(len(spans)),
-	)
+	code := C.uint32_t(C.TSC_BUSY)
+	for tries := 0; code == C.TSC_BUSY; tries++ {
+		letRun(tries)
+		code = C.tsc_go_seat_may_write(
+			in.block, bytes(in.keys), C.size_t(len(in.keys)), &in.spans[0], C.size_t(len(spans)),
+		)
+	}
 	out := code == C.TSC_OK && bool(in.block.may)
 	err = in.leave(code)
 	runtime.KeepAlive(in)

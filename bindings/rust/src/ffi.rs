@@ -8,6 +8,7 @@ pub const EXCLUDE_TO: u32 = 2;
 pub const ONWARD: u32 = 4;
 pub const POINT: u32 = 8;
 
+pub const BUSY: u32 = 14;
 pub const SHORT: u32 = 17;
 
 #[repr(C)]
@@ -159,6 +160,20 @@ extern "C" {
         low_water: *const Time,
         seats: u32,
         limit: u64,
+        handle: *mut u64,
+    ) -> u32;
+    pub fn tsc_open_striped(
+        store: *mut Store,
+        page_first: u32,
+        page_max: u32,
+        min_pages: u32,
+        retention: u64,
+        low_water: *const Time,
+        keys: *const u8,
+        keys_len: usize,
+        lens: *const usize,
+        lens_len: usize,
+        seats: u32,
         handle: *mut u64,
     ) -> u32;
     pub fn tsc_seat_add(

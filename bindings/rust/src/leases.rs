@@ -1,7 +1,7 @@
 //! What was read of a span, as bytes for the next holder of its lease: the same calls as those of
 //! the crate `timestamp_cache`.
 use crate::texts::with_room;
-use crate::{done, ffi, Added, Cache, Error, Seat, Span, Time};
+use crate::{done, ffi, until_free, Added, Cache, Error, Seat, Span, Time};
 use std::mem::MaybeUninit;
 
 impl Cache {
@@ -124,21 +124,23 @@ impl Seat {
         let (from, to, ends) = span.parts();
         let mut seen = 0;
         // SAFETY: as of `Cache::summary`
-        let (code, bytes) = with_room(|out, len| unsafe {
-            ffi::tsc_seat_summary(
-                &mut self.store,
-                self.handle,
-                from.as_ptr(),
-                from.len(),
-                to.as_ptr(),
-                to.len(),
-                ends,
-                most,
-                &mut seen,
-                out.as_mut_ptr(),
-                out.len(),
-                len,
-            )
+        let (code, bytes) = with_room(|out, len| {
+            until_free(|| unsafe {
+                ffi::tsc_seat_summary(
+                    &mut self.store,
+                    self.handle,
+                    from.as_ptr(),
+                    from.len(),
+                    to.as_ptr(),
+                    to.len(),
+                    ends,
+                    most,
+                    &mut seen,
+                    out.as_mut_ptr(),
+                    out.len(),
+                    len,
+                )
+            })
         })
         .ok_or(Error::NoMemory)?;
         done(code).map(|()| (bytes, seen))

@@ -258,7 +258,7 @@ pub enum Error {
     Retention,
     /// Memory was refused.
     NoMemory,
-    /// A shared cache has 1 to 64 seats.
+    /// There are 1 or more seats, and of a shared cache at most 64.
     Seats,
     /// Others were in the way at each try.
     Busy,
@@ -276,6 +276,10 @@ pub enum Error {
     SummaryForm,
     /// An Add was to have no tries, by which none is ever made.
     Tries,
+    /// There are at most 1,024 stripes.
+    Stripes,
+    /// A bound of stripes is not above the one before it, or the first one is the empty key.
+    Bounds,
     /// A code of the library that no call of this crate brings about.
     Other(u32),
 }
@@ -287,11 +291,13 @@ impl fmt::Display for Error {
             Error::KeyTooLong => "a key is too long",
             Error::Inverted => "the range is inverted",
             Error::TooLarge => "the span is too large for a page",
-            Error::PageSize => "page_first is 64 to page_max, and page_max is at most 2^30",
+            Error::PageSize => {
+                "page_first is 64 to page_max, and page_max at most 2^30, in stripes at least 8256"
+            }
             Error::MinPages => "min_pages is 1 to 64",
             Error::Retention => "retention is at most 2^63 - 1 nanoseconds",
             Error::NoMemory => "out of memory",
-            Error::Seats => "seats are 1 to 64",
+            Error::Seats => "seats are 1 or more, and of a shared cache at most 64",
             Error::Busy => "others were in the way",
             Error::Full => "there are as many Adds as there may be",
             Error::NoTime => "there is no time at which the write may be made",
@@ -300,6 +306,8 @@ impl fmt::Display for Error {
             Error::SummaryChecksum => "the summary was changed",
             Error::SummaryForm => "the bytes are no summary",
             Error::Tries => "tries are 1 or more",
+            Error::Stripes => "stripes are at most 1024",
+            Error::Bounds => "the bounds of stripes are out of order",
             Error::Other(code) => return write!(f, "code {code} of the library"),
         })
     }
@@ -352,6 +360,8 @@ fn fault(code: u32) -> Error {
         21 => Error::SummaryChecksum,
         22 => Error::SummaryForm,
         23 => Error::Tries,
+        24 => Error::Stripes,
+        25 => Error::Bounds,
         other => Error::Other(other),
     }
 }
@@ -379,6 +389,19 @@ impl From<ffi::Added> for Added {
     #[inline]
     fn from(added: ffi::Added) -> Added {
         Added { kept: added.kept, rotated: added.rotated, evicted: added.evicted }
+    }
+}
+
+/// Makes a call of a seat that only reads, until no other holds a lock that it needs.
+///
+/// A shared cache answers at once. In stripes the call tries 64 times, and then others run.
+#[inline]
+fn until_free(mut call: impl FnMut() -> u32) -> u32 {
+    loop {
+        match call() {
+            ffi::BUSY => std::thread::yield_now(),
+            code => return code,
+        }
     }
 }
 
@@ -589,7 +612,8 @@ impl Drop for Cache {
     }
 }
 
-/// A timestamp cache that threads share, for who opened it. They use it by its [seats](Seat).
+/// A timestamp cache that threads share, for who opened it. They use it by its [seats](Seat). It is
+/// one cache of which there are two copies, or [in stripes](Shared::open_striped).
 ///
 /// ```
 /// use tscache::{Config, Shared, Span, Time, Value};
@@ -661,6 +685,71 @@ impl Shared {
                 &low_water,
                 seats,
                 limit,
+                &mut shared.handle,
+            )
+        })?;
+        let mut all = flat::room(seats as usize)?;
+        for i in 1..=u64::from(seats) {
+            all.push(shared.seat(i)?);
+        }
+        Ok((shared, all))
+    }
+
+    /// A cache in stripes to which nothing was added, and its seats: 1 or more, as many as there is
+    /// memory for.
+    ///
+    /// Stripe 0 has the keys below the first bound, and each other one those from its bound on,
+    /// below the next. Each is a cache of its own, under a lock of its own, so Adds of threads that
+    /// call different stripes do not wait for one another. Bounds ascend, and there are at most
+    /// 1,023 of them. `page_max` is 8,256 or more, into which each span fits. There may be as many
+    /// pages as stripes times those of one cache.
+    ///
+    /// A call of a seat acquires the locks of the stripes that its span touches. An Add is refused
+    /// as [`Error::Busy`] as in a shared cache. A lookup and each other call lets other threads run,
+    /// and tries again. Nobody counts the Adds of all seats: the place of an Add is that among the
+    /// seat's own, and a seat that has seen so many Adds has made so many.
+    ///
+    /// ```
+    /// use tscache::{Config, Error, Shared, Span, Time, Value};
+    /// let (shared, mut seats) = Shared::open_striped(&Config::default(), &[b"g", b"p"], 2)?;
+    /// let read = Value { time: Time::new(20, 0), owner: Some([0x11; 16]) };
+    /// let (place, added) = seats[0].add(&Span::until(b"a", b"k"), read, Time::new(20, 0), 64)?;
+    /// assert!(place == 0 && added.kept);
+    /// assert_eq!(seats[1].get_max(&Span::Point(b"h")), (read, 0));
+    /// drop(seats);
+    /// assert_eq!(shared.close().expect("no seat is out"), 1);
+    /// let out_of_order = Shared::open_striped(&Config::default(), &[b"p", b"g"], 2);
+    /// assert_eq!(out_of_order.err(), Some(Error::Bounds));
+    /// # Ok::<(), Error>(())
+    /// ```
+    #[must_use = "the cache forgets its reads where all of its seats are dropped"]
+    pub fn open_striped(
+        config: &Config,
+        bounds: &[&[u8]],
+        seats: u32,
+    ) -> Result<(Shared, Vec<Seat>), Error> {
+        let mut shared = Shared { store: ffi::Store { at: null_mut::<c_void>() }, handle: 0 };
+        let Config { page_first, page_max, min_pages, retention, low_water } = *config;
+        let mut keys =
+            flat::room(bounds.iter().fold(0, |sum, bound| bound.len().saturating_add(sum)))?;
+        let mut lens = flat::room(bounds.len())?;
+        for bound in bounds {
+            keys.extend_from_slice(bound);
+            lens.push(bound.len());
+        }
+        done(unsafe {
+            ffi::tsc_open_striped(
+                &mut shared.store,
+                page_first,
+                page_max,
+                min_pages,
+                retention,
+                &low_water,
+                keys.as_ptr(),
+                keys.len(),
+                lens.as_ptr(),
+                lens.len(),
+                seats,
                 &mut shared.handle,
             )
         })?;
@@ -797,7 +886,7 @@ impl Seat {
     }
 
     /// The latest time on a span, as [`Cache::get_max`] answers, and how many Adds the seat has
-    /// seen then. It waits for nobody.
+    /// seen then. It waits for nobody; in stripes it tries until it has the locks that it needs.
     ///
     /// ```
     /// use tscache::{Config, Error, Shared, Span, Time, Value};
@@ -814,7 +903,7 @@ impl Seat {
         let (from, to, ends) = span.parts();
         let (mut seen, mut found) = (0, MaybeUninit::<ffi::Value>::uninit());
         // it is refused only where the handle names no seat, or there are no such ends
-        answered(unsafe {
+        answered(until_free(|| unsafe {
             ffi::tsc_seat_get_max(
                 &mut self.store,
                 self.handle,
@@ -826,11 +915,12 @@ impl Seat {
                 &mut seen,
                 found.as_mut_ptr(),
             )
-        });
+        }));
         (unsafe { found.assume_init() }.into(), seen)
     }
 
-    /// Where the floor stands, and how many Adds the seat has seen then.
+    /// Where the floor stands, and how many Adds the seat has seen then. In stripes it is the
+    /// earliest floor of all.
     ///
     /// A thread that continues the work of another asks so until its seat has seen the last Add of
     /// that one.
@@ -850,13 +940,14 @@ impl Seat {
     pub fn low_water(&mut self) -> (Time, u64) {
         let (mut seen, mut floor) = (0, MaybeUninit::uninit());
         // it is refused only where the handle names no seat
-        answered(unsafe {
+        answered(until_free(|| unsafe {
             ffi::tsc_seat_low_water(&mut self.store, self.handle, &mut seen, floor.as_mut_ptr())
-        });
+        }));
         (unsafe { floor.assume_init() }, seen)
     }
 
-    /// What can be counted, and how many Adds the seat has seen then.
+    /// What can be counted, and how many Adds the seat has seen then. In stripes it is what the
+    /// figures of all come to, where one stripe is read after another.
     ///
     /// ```
     /// use tscache::{Config, Error, Shared};
@@ -870,9 +961,9 @@ impl Seat {
     pub fn figures(&mut self) -> (Figures, u64) {
         let (mut seen, mut figures) = (0, MaybeUninit::uninit());
         // it is refused only where the handle names no seat
-        answered(unsafe {
+        answered(until_free(|| unsafe {
             ffi::tsc_seat_figures_of(&mut self.store, self.handle, &mut seen, figures.as_mut_ptr())
-        });
+        }));
         (unsafe { figures.assume_init() }, seen)
     }
 }
@@ -1095,13 +1186,13 @@ mod tests {
         assert_eq!(faults.map(|why| why.to_string())[..4], texts);
         assert_eq!(
             faults[4].to_string(),
-            "page_first is 64 to page_max, and page_max is at most 2^30"
+            "page_first is 64 to page_max, and page_max at most 2^30, in stripes at least 8256"
         );
         assert_eq!(faults[5].to_string(), "min_pages is 1 to 64");
         let faults = [Error::NoMemory, Error::Seats, Error::Busy, Error::Full, Error::Other(99)];
         let texts = [
             "out of memory",
-            "seats are 1 to 64",
+            "seats are 1 or more, and of a shared cache at most 64",
             "others were in the way",
             "there are as many Adds as there may be",
             "code 99 of the library",
@@ -1154,6 +1245,114 @@ mod tests {
         assert_eq!(shared.close().unwrap(), accepted);
     }
 
+    /// Threads whose Adds lie in stripes of their own, and one that looks up all stripes, which
+    /// never tells a time that sinks, nor half of a batch.
+    #[test]
+    fn threads_share_stripes() {
+        const ADDS: u64 = 2_000;
+        let bounds: [&[u8]; 3] = [b"b", b"c", b"d"];
+        let (shared, mut seats) = Shared::open_striped(&Config::default(), &bounds, 5).unwrap();
+        let shared = shared.close().unwrap_err();
+        let mut reader = seats.pop().unwrap();
+        std::thread::scope(|scope| {
+            for (i, mut seat) in seats.into_iter().enumerate() {
+                scope.spawn(move || {
+                    let (own, other) = ([b'a' + i as u8], [b'a' + (i as u8 + 1) % 4, b'x']);
+                    for wall in 20..20 + ADDS {
+                        let value = at(wall, ONE);
+                        let spans = [Span::Point(&own), Span::Point(&other)];
+                        let marks = spans.map(|span| Mark { span, value });
+                        let told = loop {
+                            match seat.add_all(&marks, Time::new(20, 0), 8) {
+                                Err(Error::Busy) => std::thread::yield_now(),
+                                told => break told.unwrap(),
+                            }
+                        };
+                        assert!(told.0 == wall - 20 && told.1.kept);
+                        assert_eq!(seat.get_max(&spans[0]), (value, wall - 19));
+                    }
+                });
+            }
+            let mut last = Time::default();
+            while last < Time::new(19 + ADDS, 0) {
+                let (latest, seen) = reader.get_max(&Span::until(b"a", b"e"));
+                assert!(latest.time >= last && seen == 0);
+                let either = Span::until(b"a", b"b");
+                assert!(reader.earliest_write(&[either], last, [9; 16]).is_ok());
+                last = latest.time;
+            }
+        });
+        for (i, key) in [b"a", b"b", b"c", b"d"].into_iter().enumerate() {
+            let other = [b'a' + (i as u8 + 1) % 4, b'x'];
+            let last = Time::new(19 + ADDS, 0);
+            assert_eq!(reader.get_max(&Span::Point(key)).0.time, last);
+            assert_eq!(reader.get_max(&Span::Point(&other)).0.time, last);
+        }
+        let (figures, seen) = reader.figures();
+        assert!(figures.pages == 4 && figures.nodes == 8 && figures.memory > 0 && seen == 0);
+        assert_eq!(reader.low_water(), (Time::default(), 0));
+        drop(reader);
+        assert_eq!(shared.close().unwrap(), 4 * ADDS);
+    }
+
+    /// What a seat in stripes tells of reads, a cache takes over: each stripe at its own floor.
+    #[test]
+    fn a_lease_goes_on_from_stripes() {
+        let config = Config {
+            page_first: 132,
+            page_max: 8256,
+            min_pages: 1,
+            retention: 10,
+            low_water: Time::new(5, 0),
+        };
+        let (_shared, mut seats) = Shared::open_striped(&config, &[b"g", b"p"], 2).unwrap();
+        for (wall, key) in (20..).zip(b"ABCDEFGHIJKLMNOPQRSTUVWXYZ".chunks(1)) {
+            seats[0].add(&Span::Point(key), at(wall, ONE), Time::new(2 * wall, 0), 64).unwrap();
+        }
+        seats[1].add(&Span::until(b"k", b"q"), at(9, TWO), Time::new(60, 0), 64).unwrap();
+        let whole = Span::Onward { from: b"", exclude_from: false };
+        let (summary, seen) = seats[1].summary(&whole, usize::MAX).unwrap();
+        assert_eq!(seen, 1);
+        let mut next = Cache::open(&Config::default()).unwrap();
+        next.apply(&summary, Time::new(60, 0)).unwrap();
+        let mut floors = Vec::new();
+        for key in [b"A", b"M", b"Z", b"a", b"g", b"k", b"p", b"q", b"z"] {
+            let span = Span::Point(key);
+            assert_eq!(next.get_max(&span), seats[0].get_max(&span).0, "{key:?}");
+            floors.push(next.get_max(&span).time.wall);
+        }
+        assert!(floors[3] > 5 && floors[4..] == [5, 9, 9, 5, 5], "{floors:?}");
+        let (short, _) = seats[1].summary(&whole, 0).unwrap();
+        assert!(short.len() < summary.len());
+        next.apply(&short, Time::new(60, 0)).unwrap();
+        assert_eq!(next.get_max(&Span::Point(b"z")).time, Time::new(9, 0));
+        let (part, _) = seats[0].summary(&Span::until(b"h", b"j"), usize::MAX).unwrap();
+        assert_eq!(part.len(), 74);
+        let inverted = seats[0].summary(&Span::until(b"j", b"h"), 9);
+        assert_eq!(inverted, Err(Error::Inverted));
+    }
+
+    /// Bounds that are refused, by name.
+    #[test]
+    fn bounds_of_stripes() {
+        let config = Config::default();
+        let open = |bounds: &[&[u8]], seats| Shared::open_striped(&config, bounds, seats).err();
+        assert_eq!(open(&[], 0), Some(Error::Seats));
+        assert_eq!(open(&[b"b", b"a"], 1), Some(Error::Bounds));
+        assert_eq!(open(&[b""], 1), Some(Error::Bounds));
+        assert_eq!(open(&[b"a", &[b'b'; 4097]], 1), Some(Error::KeyTooLong));
+        let small = Config { page_first: 64, page_max: 8255, ..config };
+        assert_eq!(Shared::open_striped(&small, &[], 1).err(), Some(Error::PageSize));
+        let keys: Vec<_> = (1..=1024u16).map(u16::to_be_bytes).collect();
+        let keys: Vec<_> = keys.iter().map(|key| &key[..]).collect();
+        assert_eq!(open(&keys, 1), Some(Error::Stripes));
+        let small = Config { page_first: 64, ..config };
+        let (shared, mut seats) = Shared::open_striped(&small, &keys[1..], 100).unwrap();
+        assert_eq!((seats.len(), seats[99].figures().0.pages), (100, 1024));
+        drop(seats);
+        assert_eq!(shared.close().unwrap(), 0);
+    }
+
     /// Each code of `tscache.h` is one error, with a text of its own.
     #[test]
     fn codes() {
@@ -1175,6 +1374,8 @@ mod tests {
             (21, Error::SummaryChecksum),
             (22, Error::SummaryForm),
             (23, Error::Tries),
+            (24, Error::Stripes),
+            (25, Error::Bounds),
             (1, Error::Other(1)),
             (13, Error::Other(13)),
             (99, Error::Other(99)),

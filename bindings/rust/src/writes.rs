@@ -1,6 +1,6 @@
 //! When a write is clear of reads: the same calls as those of the crate `timestamp_cache`.
 use crate::flat::{lying, Flat};
-use crate::{done, ffi, Cache, Error, Seat, Span, Time};
+use crate::{done, ffi, until_free, Cache, Error, Seat, Span, Time};
 
 const MOST_WALL: u64 = i64::MAX as u64;
 const MOST_LOGICAL: u32 = i32::MAX as u32;
@@ -196,18 +196,20 @@ impl Seat {
     ) -> Result<bool, Error> {
         let (write, mut may, mut seen) = (written(at, by), false, 0);
         // SAFETY: as of the other calls.
-        ask(spans, |keys, asked| unsafe {
-            ffi::tsc_seat_may_write(
-                &mut self.store,
-                self.handle,
-                keys.as_ptr(),
-                keys.len(),
-                asked.as_ptr(),
-                asked.len(),
-                &write,
-                &mut seen,
-                &mut may,
-            )
+        ask(spans, |keys, asked| {
+            until_free(|| unsafe {
+                ffi::tsc_seat_may_write(
+                    &mut self.store,
+                    self.handle,
+                    keys.as_ptr(),
+                    keys.len(),
+                    asked.as_ptr(),
+                    asked.len(),
+                    &write,
+                    &mut seen,
+                    &mut may,
+                )
+            })
         })?;
         Ok(may)
     }
@@ -234,18 +236,20 @@ impl Seat {
     ) -> Result<Time, Error> {
         let (write, mut time, mut seen) = (written(at, by), at, 0);
         // SAFETY: as of the other calls.
-        ask(spans, |keys, asked| unsafe {
-            ffi::tsc_seat_earliest_write(
-                &mut self.store,
-                self.handle,
-                keys.as_ptr(),
-                keys.len(),
-                asked.as_ptr(),
-                asked.len(),
-                &write,
-                &mut seen,
-                &mut time,
-            )
+        ask(spans, |keys, asked| {
+            until_free(|| unsafe {
+                ffi::tsc_seat_earliest_write(
+                    &mut self.store,
+                    self.handle,
+                    keys.as_ptr(),
+                    keys.len(),
+                    asked.as_ptr(),
+                    asked.len(),
+                    &write,
+                    &mut seen,
+                    &mut time,
+                )
+            })
         })?;
         Ok(time)
     }

@@ -145,6 +145,8 @@ fn told_error(why: Error) -> &'static str {
         Error::SummaryChecksum => "summary_checksum",
         Error::SummaryForm => "summary_form",
         Error::Tries => "tries",
+        Error::Stripes => "stripes",
+        Error::Bounds => "bounds",
         other => panic!("{other}"),
     }
 }
@@ -164,10 +166,22 @@ fn marks(words: &[&str]) -> Vec<(Keys, Value)> {
     words.chunks(3).map(|mark| (keys(mark[0]), value(mark[1], mark[2]))).collect()
 }
 
+/// How many Adds there were: of all seats, or in stripes of each.
+struct Adds {
+    counts: Vec<u64>,
+}
+
+impl Adds {
+    fn of(&mut self, seat: usize) -> &mut u64 {
+        let at = seat % self.counts.len();
+        &mut self.counts[at]
+    }
+}
+
 /// What a case is played on.
 enum Table {
     Cache(Cache),
-    Seats { seats: Vec<Seat>, turn: usize, tries: u32, adds: u64, _opened: Shared },
+    Seats { seats: Vec<Seat>, turn: usize, tries: u32, adds: Adds, _opened: Shared },
 }
 
 impl Table {
@@ -176,7 +190,16 @@ impl Table {
             return Cache::open(config).map(Table::Cache);
         }
         let (opened, seats) = Shared::open(config, seats, limit)?;
-        Ok(Table::Seats { seats, turn: 0, tries: 64, adds: 0, _opened: opened })
+        let adds = Adds { counts: vec![0] };
+        Ok(Table::Seats { seats, turn: 0, tries: 64, adds, _opened: opened })
+    }
+
+    fn open_striped(seats: u32, config: &Config, bounds: &[&str]) -> Result<Table, Error> {
+        let bounds: Vec<_> = bounds.iter().map(|bound| keys(bound).from).collect();
+        let bounds: Vec<_> = bounds.iter().map(|bound| &bound[..]).collect();
+        let (opened, seats) = Shared::open_striped(config, &bounds, seats)?;
+        let adds = Adds { counts: vec![0; seats.len()] };
+        Ok(Table::Seats { seats, turn: 0, tries: 64, adds, _opened: opened })
     }
 
     /// Asks the cache, or the seat whose turn it is, which has seen all Adds.
@@ -189,9 +212,9 @@ impl Table {
             Table::Cache(of) => cache(of),
             Table::Seats { seats, turn, adds, .. } => {
                 *turn += 1;
-                let count = seats.len();
-                let (told, seen) = seat(&mut seats[*turn % count]);
-                assert_eq!(seen, *adds, "what the seat has seen");
+                let number = *turn % seats.len();
+                let (told, seen) = seat(&mut seats[number]);
+                assert_eq!(seen, *adds.of(number), "what the seat has seen");
                 told
             }
         }
@@ -207,10 +230,10 @@ impl Table {
             Table::Cache(of) => cache(of),
             Table::Seats { seats, turn, tries, adds, .. } => {
                 *turn += 1;
-                let count = seats.len();
-                seat(&mut seats[*turn % count], *tries).map(|(place, added)| {
-                    assert_eq!(place, *adds, "the place of the Add");
-                    *adds += 1;
+                let number = *turn % seats.len();
+                seat(&mut seats[number], *tries).map(|(place, added)| {
+                    assert_eq!(place, *adds.of(number), "the place of the Add");
+                    *adds.of(number) += 1;
                     added
                 })
             }
@@ -352,10 +375,11 @@ impl Table {
         }
     }
 
-    fn adds(&self) -> u64 {
+    /// What the seat is to have seen that comes next, of which a question for a write tells nothing.
+    fn adds(&mut self) -> u64 {
         match self {
             Table::Cache(_) => 0,
-            Table::Seats { adds, .. } => *adds,
+            Table::Seats { seats, turn, adds, .. } => *adds.of((*turn + 1) % seats.len()),
         }
     }
 }
@@ -382,6 +406,17 @@ fn from_hex(text: &str) -> Vec<u8> {
     digits.chunks(2).map(|two| two[0] * 16 + two[1]).collect()
 }
 
+/// Goes on with what was opened, and tells of it.
+fn opened(table: &mut Option<Table>, by: Result<Table, Error>) -> String {
+    match by {
+        Ok(opened) => {
+            *table = Some(opened);
+            "done".into()
+        }
+        Err(why) => told_error(why).into(),
+    }
+}
+
 /// Plays a row of a case, and gives what it answers.
 fn played(
     table: &mut Option<Table>,
@@ -391,13 +426,11 @@ fn played(
 ) -> String {
     match words {
         ["open", settings @ .., limit] => {
-            match Table::open(seats, &config(settings), limit.parse().unwrap()) {
-                Ok(opened) => {
-                    *table = Some(opened);
-                    "done".into()
-                }
-                Err(why) => told_error(why).into(),
-            }
+            opened(table, Table::open(seats, &config(settings), limit.parse().unwrap()))
+        }
+        ["stripes", first, max, pages, retention, low, bounds @ ..] => {
+            let config = config(&[first, max, pages, retention, low]);
+            opened(table, Table::open_striped(seats, &config, bounds))
         }
         ["seats", count] => match Shared::open(&Config::default(), count.parse().unwrap(), 9) {
             Ok((opened, all)) => {

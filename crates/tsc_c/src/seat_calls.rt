@@ -4,13 +4,15 @@ ghost use Rattle.std.specs.Prelude.{◌≡◌, OnErr};
 ghost use Rattle.tsc_ffi_store.specs.Codes.{Tells};
 ghost use Rattle.tsc_ffi_store.specs.Counts.{CountsSeatLookup, CountsSeatAdd, CountsNothing};
 ghost use Rattle.tsc_ffi_store.specs.Decode.{time_of, value_of, added_of, span_asked, add_asked, batch_asked, config_asked, asked_config};
-ghost use Rattle.tsc_ffi_store.specs.SeatCalls.{AnswersOpenShared, AnswersSeatLookup, AnswersSeatLowWater, AnswersSeatFigures, AnswersSeatAdd, AnswersSeatAddAll, AnswersMove, AnswersCloseSeat, AnswersCloseShared};
+ghost use Rattle.tsc_ffi_store.specs.SeatCalls.{AnswersOpenShared, AnswersSeatLookup, AnswersSeatLowWater, AnswersSeatAdd, AnswersSeatAddAll, AnswersMove, AnswersCloseSeat, AnswersCloseShared};
+ghost use Rattle.tsc_ffi_store.specs.Kinds.{ByKind};
+ghost use Rattle.tsc_ffi_store.specs.StripedCalls.{AnswersOpenStriped, AnswersStripedLookup, AnswersStripedLowWater, AnswersStripedAdd, AnswersStripedAddAll, AnswersFigures};
 ghost use Rattle.tsc_ffi_store.specs.Store.{slots_of, DoesToSeat};
 
 use crate::store_ptr::{StorePtr, store_in};
 use std::alloc::Global;
 use tsc_ffi_store::{
-    AddArgs, BatchArgs, ConfigArgs, OK, Refusal, SpanArgs, Store, TscAdded, TscFigures, TscMark,
+    AddArgs, BatchArgs, BoundsArgs, ConfigArgs, Refusal, SpanArgs, Store, TscAdded, TscFigures, TscMark,
     TscTime, TscValue, add_all_at, add_at, code, config, figures_at, floor_at, look_at, may_seat,
 };
 
@@ -68,6 +70,60 @@ fn open_shared(
     Ok(())
 }
 
+/// Opens a cache in stripes, and writes its handle. Its seats have the handles behind that, in
+/// their order. The bounds of the stripes are so many bytes of `keys` each, one behind another.
+#[unsafe(no_mangle)]
+pub extern "C" fn tsc_open_striped(
+    alloc: Global,
+    store: &mut StorePtr,
+    page_first: u32,
+    page_max: u32,
+    min_pages: u32,
+    retention: u64,
+    low_water: &TscTime,
+    keys: &[u8],
+    lens: &[usize],
+    seats: u32,
+    handle: &mut u64,
+) -> u32
+    ensures answers { Tells
+        (AnswersOpenStriped (config_asked page_first page_max min_pages retention low_water.now)
+        seats keys.now lens.now handle.new (slots_of store.old.owned) (slots_of store.new.owned))
+        (handle.new ≡ handle.old) result }
+{
+    let args = ConfigArgs {
+        page_first,
+        page_max,
+        min_pages,
+        retention,
+        low_water,
+    };
+    let bounds = BoundsArgs { keys, lens };
+    code(open_striped(alloc, store, &args, &bounds, seats, handle))
+}
+
+/// Opens a cache in stripes in the store that is owned, or in a new one.
+fn open_striped(
+    alloc: Global,
+    store: &mut StorePtr,
+    args: &ConfigArgs<'_>,
+    bounds: &BoundsArgs<'_>,
+    seats: u32,
+    handle: &mut u64,
+) -> Result<(), Refusal>
+    ensures answers { AnswersOpenStriped (asked_config args.now) seats bounds.now.keys.now
+        bounds.now.lens.now handle.new (slots_of store.old.owned) (slots_of store.new.owned)
+        result }
+    ensures kept { OnErr result (handle.new ≡ handle.old) }
+{
+    let config = config(args)?;
+    let mut held = store_in(alloc, store)?;
+    let opened = held.open_striped(alloc, config, bounds, seats);
+    store.lay(held);
+    *handle = opened?;
+    Ok(())
+}
+
 /// Adds a span with its value, at a moment, at a seat. The call waits for nobody: it tries `tries`
 /// times to come to its turn.
 #[unsafe(no_mangle)]
@@ -85,9 +141,11 @@ pub extern "C" fn tsc_seat_add(
 ) -> u32
     ensures answers { Tells
         (DoesToSeat
-        (CountsSeatAdd
+        (CountsSeatAdd (ByKind
         (AnswersSeatAdd (add_asked (span_asked from.now to.now ends) value.now moment.now) tries
-        place.new (added_of out.new)) out.new.evicted) (slots_of store.old.owned)
+        place.new (added_of out.new))
+        (AnswersStripedAdd (add_asked (span_asked from.now to.now ends) value.now moment.now) tries
+        place.new (added_of out.new))) out.new.evicted) (slots_of store.old.owned)
         (slots_of store.new.owned) handle)
         ((place.new ≡ place.old) × (out.new ≡ out.old)) result }
 {
@@ -123,8 +181,10 @@ pub extern "C" fn tsc_seat_add_all(
 ) -> u32
     ensures answers { Tells
         (DoesToSeat
-        (CountsSeatAdd (AnswersSeatAddAll (batch_asked keys.now marks.now moment.now) tries
-        place.new (added_of out.new)) out.new.evicted) (slots_of store.old.owned)
+        (CountsSeatAdd (ByKind (AnswersSeatAddAll (batch_asked keys.now marks.now moment.now) tries
+        place.new (added_of out.new))
+        (AnswersStripedAddAll (batch_asked keys.now marks.now moment.now) tries place.new
+        (added_of out.new))) out.new.evicted) (slots_of store.old.owned)
         (slots_of store.new.owned) handle)
         ((place.new ≡ place.old) × (out.new ≡ out.old)) result }
 {
@@ -158,8 +218,9 @@ pub extern "C" fn tsc_seat_get_max(
 ) -> u32
     ensures answers { Tells
         (DoesToSeat
-        (CountsSeatLookup
-        (AnswersSeatLookup (span_asked from.now to.now ends) seen.new (value_of out.new)))
+        (CountsSeatLookup (ByKind
+        (AnswersSeatLookup (span_asked from.now to.now ends) seen.new (value_of out.new))
+        (AnswersStripedLookup (span_asked from.now to.now ends) seen.new (value_of out.new))))
         (slots_of store.old.owned) (slots_of store.new.owned) handle)
         ((seen.new ≡ seen.old) × (out.new ≡ out.old)) result }
 {
@@ -182,16 +243,14 @@ pub extern "C" fn tsc_seat_low_water(
     out: &mut TscTime,
 ) -> u32
     ensures answers { Tells
-        (DoesToSeat (CountsNothing (AnswersSeatLowWater seen.new (time_of out.new)))
+        (DoesToSeat (CountsNothing (ByKind (AnswersSeatLowWater seen.new (time_of out.new))
+        (AnswersStripedLowWater seen.new (time_of out.new))))
         (slots_of store.old.owned) (slots_of store.new.owned) handle)
         ((seen.new ≡ seen.old) × (out.new ≡ out.old)) result }
 {
     match store.store_mut() {
         Some(held) => match held.seat_mut(handle) {
-            Some(seat) => {
-                floor_at(seat, seen, out);
-                OK
-            }
+            Some(seat) => code(floor_at(seat, seen, out)),
             None => Refusal::Closed.code(),
         },
         None => Refusal::Closed.code(),
@@ -207,17 +266,17 @@ pub extern "C" fn tsc_seat_figures_of(
     out: &mut TscFigures,
 ) -> u32
     ensures answers { Tells
-        (DoesToSeat (AnswersSeatFigures seen.new out.new) (slots_of store.old.owned)
+        (DoesToSeat (AnswersFigures seen.new out.new) (slots_of store.old.owned)
         (slots_of store.new.owned) handle) ((seen.new ≡ seen.old) × (out.new ≡ out.old)) result }
 {
     match store.store_mut() {
-        Some(held) => match held.seat_mut(handle) {
-            Some(seat) => {
-                figures_at(seat, seen, out);
-                OK
+        Some(held) => {
+            let alloc = held.alloc();
+            match held.seat_mut(handle) {
+                Some(seat) => code(figures_at(alloc, seat, seen, out)),
+                None => Refusal::Closed.code(),
             }
-            None => Refusal::Closed.code(),
-        },
+        }
         None => Refusal::Closed.code(),
     }
 }

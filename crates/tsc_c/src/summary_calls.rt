@@ -5,6 +5,8 @@ ghost use Rattle.std.specs.Prelude.{◌≡◌};
 ghost use Rattle.tsc_ffi_store.specs.Codes.{Tells};
 ghost use Rattle.tsc_ffi_store.specs.Counts.{CountsAdd, CountsNothing};
 ghost use Rattle.tsc_ffi_store.specs.Decode.{span_asked, added_of};
+ghost use Rattle.tsc_ffi_store.specs.Kinds.{ByKind};
+ghost use Rattle.tsc_ffi_store.specs.StripedCalls.{AnswersStripedSummary};
 ghost use Rattle.tsc_ffi_store.specs.Store.{slots_of, AnswersOfCache, DoesToCache, DoesToSeat};
 ghost use Rattle.tsc_ffi_store.specs.Summaries.{summary_asked, AnswersSummary, AnswersSeatSummary, PutsOr, PutsOrKeeps};
 ghost use Rattle.tsc_ffi_store.specs.Summaries.{apply_asked, AnswersApply};
@@ -61,8 +63,10 @@ pub extern "C" fn tsc_seat_summary(
     len: &mut usize,
 ) -> u32
     ensures { PutsOrKeeps (DoesToSeat
-        (CountsNothing (AnswersSeatSummary (summary_asked (span_asked from.now to.now ends) most)
-        seen.new)) (slots_of store.old.owned) (slots_of store.new.owned) handle)
+        (CountsNothing (ByKind
+        (AnswersSeatSummary (summary_asked (span_asked from.now to.now ends) most) seen.new)
+        (AnswersStripedSummary (summary_asked (span_asked from.now to.now ends) most) seen.new)))
+        (slots_of store.old.owned) (slots_of store.new.owned) handle)
         (seen.new ≡ seen.old) result out.old out.new len.old len.new }
 {
     let span = SpanArgs { from, to, ends };

@@ -5,8 +5,8 @@ use crate::cache_calls::{
     tsc_add, tsc_add_all, tsc_close, tsc_figures_of, tsc_free, tsc_get_max, tsc_low_water, tsc_open,
 };
 use crate::seat_calls::{
-    tsc_close_shared, tsc_move, tsc_open_shared, tsc_seat_add, tsc_seat_add_all, tsc_seat_close,
-    tsc_seat_figures_of, tsc_seat_get_max, tsc_seat_low_water,
+    tsc_close_shared, tsc_move, tsc_open_shared, tsc_open_striped, tsc_seat_add, tsc_seat_add_all,
+    tsc_seat_close, tsc_seat_figures_of, tsc_seat_get_max, tsc_seat_low_water,
 };
 use crate::store_ptr::StorePtr;
 use crate::write_calls::{
@@ -43,6 +43,7 @@ enum Call {
     Close(u64),
     Free,
     OpenShared(u32),
+    OpenStriped(u32, &'static [u8], &'static [usize]),
     Move(u64),
     SeatAdd(u64, u32),
     SeatAddAll(u64),
@@ -266,6 +267,31 @@ fn open_shared(alloc: Global, store: &mut StorePtr, seats: u32) -> Told {
     (code, handle, 0, 0, 0, 0)
 }
 
+/// The handle of a cache in stripes of `seats` seats, with these bounds.
+fn open_striped(
+    alloc: Global,
+    store: &mut StorePtr,
+    seats: u32,
+    keys: &[u8],
+    lens: &[usize],
+) -> Told {
+    let mut handle = 9;
+    let code = tsc_open_striped(
+        alloc,
+        store,
+        132,
+        8256,
+        2,
+        10,
+        &LOW,
+        keys,
+        lens,
+        seats,
+        &mut handle,
+    );
+    (code, handle, 0, 0, 0, 0)
+}
+
 /// What an Add at a seat of the keys from `a` to before `c` did, and its place in the history.
 fn seat_add(store: &mut StorePtr, seat: u64, tries: u32) -> Told {
     let mut at = 9;
@@ -348,6 +374,7 @@ fn make(alloc: Global, store: &mut StorePtr, other: &mut StorePtr, call: &Call) 
         Call::Close(handle) => (tsc_close(store, *handle), 0, 0, 0, 0, 0),
         Call::Free => freed(alloc, store),
         Call::OpenShared(seats) => open_shared(alloc, store, *seats),
+        Call::OpenStriped(seats, keys, lens) => open_striped(alloc, store, *seats, keys, lens),
         Call::Move(handle) => moved(alloc, store, *handle, other),
         Call::SeatAdd(seat, tries) => seat_add(store, *seat, *tries),
         Call::SeatAddAll(seat) => seat_add_all(store, *seat),
@@ -450,4 +477,46 @@ static SHARED_CALLS: [Row; 28] = [
 #[test]
 fn each_call_of_a_shared_cache_answers(rt: HostRuntime) {
     assert_eq!(rt; first_wrong(rt.alloc(), &SHARED_CALLS), None);
+}
+
+static STRIPED_CALLS: [Row; 34] = [
+    (false, Call::OpenStriped(0, b"bd", &[1, 1]), (12, 9, 0, 0, 0, 0)),
+    (false, Call::OpenStriped(2, b"bd", &[1]), (7, 9, 0, 0, 0, 0)),
+    (false, Call::OpenStriped(2, b"bd", &[1, 2]), (7, 9, 0, 0, 0, 0)),
+    (false, Call::OpenStriped(2, b"db", &[1, 1]), (25, 9, 0, 0, 0, 0)),
+    (false, Call::OpenStriped(2, b"b", &[0, 1]), (25, 9, 0, 0, 0, 0)),
+    (false, Call::OpenStriped(2, b"bd", &[1, 1]), (0, 0, 0, 0, 0, 0)),
+    (false, Call::Move(2), (0, 0, 0, 0, 0, 0)),
+    (false, Call::SeatAdd(1, 0), (23, 0, 1, 9, 9, 0)),
+    (false, Call::SeatAdd(1, 1), (0, 1, 0, 0, 0, 0)),
+    (true, Call::SeatGetMax(0, b"b"), (0, 20, 1, 0x11, 0, 0)),
+    (true, Call::SeatGetMax(0, b"d"), (0, 5, 0, 0, 0, 0)),
+    (true, Call::SeatAddAll(0), (0, 1, 0, 0, 0, 0)),
+    (true, Call::SeatGetMax(0, b"d"), (0, 20, 1, 0x11, 1, 0)),
+    (false, Call::SeatAdd(1, 1), (0, 1, 0, 0, 1, 0)),
+    (false, Call::SeatGetMax(1, b"d"), (0, 20, 1, 0x11, 2, 0)),
+    (false, Call::SeatEarliest(1), (0, 20, 2, 2, 0, 0)),
+    (false, Call::SeatMay(1, 19), (0, 0, 2, 0, 0, 0)),
+    (false, Call::SeatMay(1, 20), (0, 1, 2, 0, 0, 0)),
+    (false, Call::SeatLowWater(1), (0, 5, 0, 2, 0, 0)),
+    (false, Call::SeatFigures(1), (0, 3, 0, 5, 165, 2)),
+    (true, Call::SeatFigures(0), (0, 3, 0, 5, 165, 1)),
+    (false, Call::SeatCounts(1), (0, 2, 1, 4, 0, 0)),
+    (true, Call::SeatCounts(0), (0, 1, 0, 3, 0, 0)),
+    (false, Call::SeatClose(1), (0, 0, 0, 0, 0, 0)),
+    (false, Call::SeatClose(1), (1, 0, 0, 0, 0, 0)),
+    (false, Call::CloseShared(0), (13, 9, 0, 0, 0, 0)),
+    (true, Call::SeatClose(0), (0, 0, 0, 0, 0, 0)),
+    (false, Call::CloseShared(0), (0, 3, 0, 0, 0, 0)),
+    (false, Call::CloseShared(0), (1, 9, 0, 0, 0, 0)),
+    (false, Call::OpenStriped(65, b"", &[]), (0, 3, 0, 0, 0, 0)),
+    (false, Call::SeatAdd(68, 1), (0, 1, 0, 0, 0, 0)),
+    (false, Call::SeatLowWater(68), (0, 5, 0, 1, 0, 0)),
+    (false, Call::Free, (0, 0, 0, 0, 0, 0)),
+    (true, Call::Free, (0, 0, 0, 0, 0, 0)),
+];
+
+#[test]
+fn each_call_in_stripes_answers(rt: HostRuntime) {
+    assert_eq!(rt; first_wrong(rt.alloc(), &STRIPED_CALLS), None);
 }

@@ -6,6 +6,8 @@ ghost use Rattle.tsc_ffi_store.specs.Decode.{time_of};
 ghost use Rattle.tsc_ffi_store.specs.Counts.{CountsLookup, CountsSeatLookup};
 ghost use Rattle.tsc_ffi_store.specs.Store.{slots_of, DoesToCache, DoesToSeat};
 ghost use Rattle.tsc_ffi_store.specs.Writes.{write_asked, AnswersWrite, AnswersSeatWrite};
+ghost use Rattle.tsc_ffi_store.specs.Kinds.{ByKind};
+ghost use Rattle.tsc_ffi_store.specs.StripedCalls.{AnswersStripedWrite, AnswersStripedMayWrite};
 ghost use Rattle.tsc_ffi_store.specs.Writes.{AnswersMayWrite, AnswersSeatMayWrite};
 
 use crate::store_ptr::StorePtr;
@@ -72,8 +74,10 @@ pub extern "C" fn tsc_seat_earliest_write(
     seen: &mut u64,
     out: &mut TscTime,
 ) -> u32
-    ensures answers { Tells (DoesToSeat (CountsSeatLookup
-        (AnswersSeatWrite (write_asked keys.now spans.now write.now) seen.new (time_of out.new)))
+    ensures answers { Tells (DoesToSeat (CountsSeatLookup (ByKind
+        (AnswersSeatWrite (write_asked keys.now spans.now write.now) seen.new (time_of out.new))
+        (AnswersStripedWrite (write_asked keys.now spans.now write.now) seen.new
+        (time_of out.new))))
         (slots_of store.old.owned) (slots_of store.new.owned) handle)
         ((seen.new ≡ seen.old) × (out.new ≡ out.old)) result }
 {
@@ -98,8 +102,9 @@ pub extern "C" fn tsc_seat_may_write(
     seen: &mut u64,
     out: &mut bool,
 ) -> u32
-    ensures answers { Tells (DoesToSeat (CountsSeatLookup
-        (AnswersSeatMayWrite (write_asked keys.now spans.now write.now) seen.new out.new))
+    ensures answers { Tells (DoesToSeat (CountsSeatLookup (ByKind
+        (AnswersSeatMayWrite (write_asked keys.now spans.now write.now) seen.new out.new)
+        (AnswersStripedMayWrite (write_asked keys.now spans.now write.now) seen.new out.new)))
         (slots_of store.old.owned) (slots_of store.new.owned) handle)
         ((seen.new ≡ seen.old) × (out.new ≡ out.old)) result }
 {

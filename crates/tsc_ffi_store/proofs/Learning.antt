@@ -3,7 +3,9 @@ use Rattle.std.proofs.Common.{◌≡◌, ◌⊎◌, ◌∙◌, inl, inr, refl, s
 use Rattle.std.specs.Prelude.{◌≢◌, Option, Some, None, slice_get, slice_set}
 use Rattle.atomic_table.specs.Seated.{TableId}
 use Rattle.atomic_table.specs.declared.shared.Seat.{Seat as Token}
-use Rattle.tsc_shared.specs.Seats.{SharedView, SeatView, is_seat_count}
+use Rattle.tsc_ffi_store.specs.declared.seats.kinds.AnyCache.{AnyCache}
+use Rattle.tsc_ffi_store.specs.declared.seats.kinds.AnySeat.{AnySeat}
+use Rattle.tsc_shared.specs.Seats.{is_seat_count}
 use Rattle.tsc_ffi_store.specs.declared.seats.return_slots.Known.{Known}
 use Rattle.tsc_ffi_store.specs.declared.store.Slot.{Slot}
 use Rattle.tsc_ffi_store.specs.declared.store.Slot.TheVariants.{Closed, Own, Shared, Seat}
@@ -21,7 +23,7 @@ use Rattle.tsc_ffi_store.proofs.AtHandle.{at_handle, keeps_others, keeps_all}
 
 -- a token that knows nothing adds nothing
 same_known : (v : Known) → also_back v spare ≡ v
-same_known v = ap (λ (l : List SeatView). record v { back = l }) (append-nil v.back)
+same_known v = ap (λ (l : List AnySeat). record v { back = l }) (append-nil v.back)
 
 -- The keeper takes in what the spare token is, once it was swapped with one that came.
 pub learns_by : (table : TableId) (token other token' other' : Token Returned Known) (me me' : At) →
@@ -64,7 +66,7 @@ keeper_learns table its seats returned w me me' known (inl told) =
 keeper_learns table its seats returned w me me' known (inr told) =
     by_itself seats returned me.0.back me' (told.1 ∙ known)
 
-pub owner_learns : (cache : SharedView) (table its : TableId) (w : Known) (me me' : At) →
+pub owner_learns : (cache : AnyCache) (table its : TableId) (w : Known) (me me' : At) →
     LearnsBy table its w me me' → LearnsOf its w.back
     (record { cache = cache; returns = table; back = me.0.back })
     (record { cache = cache; returns = table; back = me'.0.back })
@@ -79,7 +81,7 @@ owner_learns cache table its w me me' (inr told) = inr (
 
 -- a keeper knows what its view has
 pub keeps_itself : (shared : SharedHandleView) (table : TableId) (me : At) (seats returned : ℕ)
-    (back : List SeatView) → IsKeeper shared table me seats returned back →
+    (back : List AnySeat) → IsKeeper shared table me seats returned back →
     IsKeeper shared table me seats returned me.0.back
 keeps_itself shared table me seats returned back k = record {
   its_table = k.its_table;
@@ -131,7 +133,7 @@ owner_or d (Own cache) = d
 owner_or d (Shared owner) = owner
 owner_or d (Seat seat) = d
 
-pub slot_learns : (returns : TableId) (seats : List SeatView) (old new : OwnerView) →
+pub slot_learns : (returns : TableId) (seats : List AnySeat) (old new : OwnerView) →
     LearnsOf returns seats old new → Learns returns seats (Shared old) (Shared new)
 unfolding owner_or
 slot_learns returns seats old new (inl told) =
@@ -145,7 +147,7 @@ is_some : Option OwnerView → Bool
 is_some None = false
 is_some (Some owner) = true
 
-pub nobody_learns : (returns : TableId) (seats : List SeatView) (slot : Slot) →
+pub nobody_learns : (returns : TableId) (seats : List AnySeat) (slot : Slot) →
     shared_of slot ≡ None → Learns returns seats slot slot
 unfolding is_some
 nobody_learns returns seats slot none = inr (record {
@@ -155,7 +157,7 @@ nobody_learns returns seats slot none = inr (record {
 
 -- ---- the store
 
-pub learns_there : (returns : TableId) (seats : List SeatView) (old new : List Slot) (k : ℕ)
+pub learns_there : (returns : TableId) (seats : List AnySeat) (old new : List Slot) (k : ℕ)
     (e after : Slot) → slice_get old k ≡ Some e → new ≡ slice_set old k after →
     Learns returns seats e after → LearnsAt returns seats old new k
 learns_there returns seats old new k e after there is learns =
@@ -165,7 +167,7 @@ learns_there returns seats old new k e after there is learns =
       others = keeps_others old k after;
     })
 
-pub nobody_learns_there : (returns : TableId) (seats : List SeatView) (old new : List Slot)
+pub nobody_learns_there : (returns : TableId) (seats : List AnySeat) (old new : List Slot)
     (k : ℕ) → ((slice_get old k ≡ None) ⊎ (slice_get old k ≡ Some Closed)) → new ≡ old →
     LearnsAt returns seats old new k
 nobody_learns_there returns seats old new k nothing is =

@@ -1,12 +1,16 @@
+mod Adding
+mod AddsTried
 mod Answering
 mod Applying
 pub mod AtHandle
+mod AskedAtSeat
 mod AtPlace
 mod Chains
 mod Closing
 pub mod Crossing
 mod GoingOn
 mod Handles
+mod ByKinds
 mod Laying
 mod Learning
 mod MarksMade
@@ -17,7 +21,10 @@ mod NextHandle
 mod OpenHandles
 mod Returning
 mod SeatFigures
+mod SeatsDealt
+mod SeatsOfKind
 mod SpansAsked
+mod StripesRead
 mod TableIds
 mod Trying
 mod WritesTold

@@ -11,7 +11,9 @@ use Rattle.std.proofs.lemmas.List.{get_or-replicate, length-replicate, length-ma
 use Rattle.std.proofs.lemmas.List.Elements.{All-nil, All-cons, All-append, All-weaker}
 use Rattle.atomic_table.proofs.Lists.{at_set, set_here, set_else, some_there}
 use Rattle.atomic_table.specs.Table.{State, Step, Act, takes as act_takes, gives as act_gives, keeps as act_keeps, Allows, Splits, Joins, opening, Valid, stepped, carried_after, rest, Final, Seen}
-use Rattle.tsc_shared.specs.Seats.{SharedView, SeatView}
+use Rattle.tsc_ffi_store.specs.declared.seats.kinds.AnyCache.{AnyCache}
+use Rattle.tsc_ffi_store.specs.declared.seats.kinds.AnySeat.{AnySeat}
+use Rattle.tsc_ffi_store.specs.Kinds.{seats_of, cache_of, number_of}
 use Rattle.tsc_ffi_store.specs.declared.seats.return_slots.Known.{Known}
 use Rattle.tsc_ffi_store.specs.ReturnSlots.{Returned, dealing, token, spent, spare, came, keeping, also_back, first_known, IsAmong, IsReturned, IsFree, IsBack, Fits, IsKept}
 use Rattle.tsc_ffi_store.specs.ReturnSteps.{At, others, first, takes_slot, came_in, returns_seat, seen_returned, sees_returned}
@@ -51,31 +53,31 @@ stands views id left right j v e = elim (at_end (set views id left) right j v e)
   | inr last ↦ second_part (last.0 ∙ length-set views id left) last.1
 ]
 
-module _ (cache : SharedView) where
+module _ (cache : AnyCache) where
   -- at the opening no seat is returned
-  pub opens : (words : List ℕ) → words ≡ replicate cache.seats 0 →
-      IsKept cache (opening words (replicate cache.seats None) (first_known cache))
+  pub opens : (words : List ℕ) → words ≡ replicate (seats_of cache) 0 →
+      IsKept cache (opening words (replicate (seats_of cache) None) (first_known cache))
   opens words is = record {
-    wide = ap length is ∙ length-replicate cache.seats 0;
+    wide = ap length is ∙ length-replicate (seats_of cache) 0;
     deep = deep;
     returned = λ slot low one. let z = zeros slot low in absurd (omega (arith, z, one));
     fits = fits;
     one = λ id other v w slot a b _ _. same id other v w a b;
   }
     where
-      zeros : (slot : ℕ) → slot < cache.seats → slice_index words slot ≡ 0
+      zeros : (slot : ℕ) → slot < (seats_of cache) → slice_index words slot ≡ 0
       zeros slot low = ap (λ (ws : List ℕ). slice_index ws slot) is ∙
-          get_or-replicate cache.seats slot 0 0 low
+          get_or-replicate (seats_of cache) slot 0 0 low
 
       all : List Returned
-      all = replicate cache.seats None
+      all = replicate (seats_of cache) None
 
-      deep : length (map maybe.some all) ≡ cache.seats
-      deep = length-map all maybe.some ∙ length-replicate cache.seats None
+      deep : length (map maybe.some all) ≡ (seats_of cache)
+      deep = length-map all maybe.some ∙ length-replicate (seats_of cache) None
 
-      free : (slot : ℕ) → slot < cache.seats → IsFree cache words (map maybe.some all) slot
+      free : (slot : ℕ) → slot < (seats_of cache) → IsFree cache words (map maybe.some all) slot
       free slot low = let x = some_there all slot
-          (subst (λ (n : ℕ). slot < n) (sym (length-replicate cache.seats None)) low)
+          (subst (λ (n : ℕ). slot < n) (sym (length-replicate (seats_of cache) None)) low)
           in record { low = low; word = zeros slot low; held = x.0; lies = x.1 }
 
       of_first : (v : Known) → first_known cache ≡ v → Fits cache words (map maybe.some all) v
@@ -189,9 +191,9 @@ module _ (cache : SharedView) where
   -- one view changes, and may take no slot that it might not take before
   moved : (s : Board) (k : IsKept cache s) (id : ℕ) (v w : Known) (words : List ℕ) (slots : Slots) →
       get_elem? s.views id ≡ maybe.some v
-      → ((slot : ℕ) → IsAmong w slot → IsAmong v slot) → length words ≡ cache.seats →
-      length slots ≡ cache.seats
-      → ((slot : ℕ) → slot < cache.seats → slice_index words slot ≡ 1 → IsReturned cache slots slot)
+      → ((slot : ℕ) → IsAmong w slot → IsAmong v slot) → length words ≡ (seats_of cache) →
+      length slots ≡ (seats_of cache)
+      → ((slot : ℕ) → slot < (seats_of cache) → slice_index words slot ≡ 1 → IsReturned cache slots slot)
       → Fits cache words slots w
       → ((other : ℕ) (u : Known) → other ≢ id → get_elem? s.views other ≡ maybe.some u →
       Fits cache words slots u)
@@ -256,7 +258,7 @@ module _ (cache : SharedView) where
     back = All-nil (IsBack cache words slots);
   }
 
-  came_fits : (words : List ℕ) (slots : Slots) (seat : SeatView) → IsBack cache words slots seat →
+  came_fits : (words : List ℕ) (slots : Slots) (seat : AnySeat) → IsBack cache words slots seat →
       Fits cache words slots (came seat)
   came_fits words slots seat lies = record {
     free = λ slot _ among. absurd (none_of (came seat) refl refl slot among);
@@ -317,21 +319,21 @@ module _ (cache : SharedView) where
                   (λ seat b. record {
                     low = b.low;
                     word = b.word;
-                    lies = set_else s.homes number seat.number maybe.none
-                        (apart seat.number b.word) ∙ b.lies;
+                    lies = set_else s.homes number (number_of seat) maybe.none
+                        (apart (number_of seat) b.word) ∙ b.lies;
                   }) u.back f.back;
             })),
         (free.held, refl),
       )
 
   -- a seat is returned
-  pub return_seat_allowed : (slots : ℕ) (st : Step Returned) (id : ℕ) (seat : SeatView) →
-      seat.number < cache.seats → seat.cache ≡ cache
-      → Allows (IsKept cache) slots id (spent seat.number, (seat.number, Some seat) ∷ [])
-      seat.number (λ _. 1)
-      (λ _. returns_seat st (spent seat.number, (seat.number, Some seat) ∷ []) 1)
+  pub return_seat_allowed : (slots : ℕ) (st : Step Returned) (id : ℕ) (seat : AnySeat) →
+      (number_of seat) < (seats_of cache) → (cache_of seat) ≡ cache
+      → Allows (IsKept cache) slots id (spent (number_of seat), ((number_of seat), Some seat) ∷ [])
+      (number_of seat) (λ _. 1)
+      (λ _. returns_seat st (spent (number_of seat), ((number_of seat), Some seat) ∷ []) 1)
   return_seat_allowed slots st id seat low its s k _ at _ =
-      let number : ℕ = seat.number in
+      let number : ℕ = (number_of seat) in
       let slots : Slots = set s.homes number (maybe.some (Some seat)) in
       let words : List ℕ = set s.words number 1 in
       let wide = k.wide in let deep = k.deep in
@@ -386,10 +388,10 @@ module _ (cache : SharedView) where
                   (λ e. ap (λ (n : ℕ). slice_index words n) e ∙ here)
                   (λ ne. there slot ne ∙ f.returned slot low');
               back = All-weaker (IsBack cache s.words s.homes) (IsBack cache words slots)
-                  (λ other b. let ne = apart other.number b.word in record {
+                  (λ other b. let ne = apart (number_of other) b.word in record {
                     low = b.low;
-                    word = there other.number ne ∙ b.word;
-                    lies = set_else s.homes number other.number (maybe.some (Some seat)) ne ∙
+                    word = there (number_of other) ne ∙ b.word;
+                    lies = set_else s.homes number (number_of other) (maybe.some (Some seat)) ne ∙
                         b.lies;
                   }) u.back f.back;
             }),
@@ -458,12 +460,12 @@ module _ (cache : SharedView) where
       k.wide k.deep k.returned (spare_fits s.words s.homes) (λ o u ne is. first.fits o u is)
 
   -- it is seen whether the next seat is returned
-  none_among : (seats returned : ℕ) (back : List SeatView) (slot : ℕ) →
+  none_among : (seats returned : ℕ) (back : List AnySeat) (slot : ℕ) →
       IsAmong (keeping seats returned back) slot → ⊥
   none_among seats returned back slot among = let a = among.from in let b =
       among.to in omega (arith, a, b)
 
-  one_more : (s : Board) (k : IsKept cache s) (id seats returned : ℕ) (back : List SeatView) →
+  one_more : (s : Board) (k : IsKept cache s) (id seats returned : ℕ) (back : List AnySeat) →
       get_elem? s.views id ≡ maybe.some (keeping seats returned back) →
       slice_index s.words returned ≡ 1
       → Fits cache s.words s.homes (keeping seats (returned + 1) back)
@@ -478,7 +480,7 @@ module _ (cache : SharedView) where
   }
 
   pub look_allowed : (slots : ℕ) (st : Step Returned) (id seats returned : ℕ)
-      (back : List SeatView) →
+      (back : List AnySeat) →
       Allows (IsKept cache) slots id (keeping seats returned back, []) returned (λ n. n)
       (sees_returned st (keeping seats returned back, []))
   look_allowed slots st id seats returned back s k _ at _ =
@@ -514,18 +516,18 @@ module _ (cache : SharedView) where
       (subst (λ (m : At). Allows (IsKept cache) slots id m number (λ n. n) (takes_slot st m))
       (sym is) (take_slot_allowed slots st id number))
 
-  pub return_seat_at : (slots : ℕ) (st : Step Returned) (id i : ℕ) (seat : SeatView) (me : At) →
-      me ≡ (spent seat.number, (seat.number, Some seat) ∷ []) → i ≡ seat.number →
-      seat.number < cache.seats → seat.cache ≡ cache
+  pub return_seat_at : (slots : ℕ) (st : Step Returned) (id i : ℕ) (seat : AnySeat) (me : At) →
+      me ≡ (spent (number_of seat), ((number_of seat), Some seat) ∷ []) → i ≡ (number_of seat) →
+      (number_of seat) < (seats_of cache) → (cache_of seat) ≡ cache
       → Allows (IsKept cache) slots id me i (λ _. 1) (λ _. returns_seat st me 1)
   return_seat_at slots st id i seat me is same low its =
       subst (λ (j : ℕ). Allows (IsKept cache) slots id me j (λ _. 1) (λ _. returns_seat st me 1))
       (sym same)
-      (subst (λ (m : At). Allows (IsKept cache) slots id m seat.number (λ _. 1)
+      (subst (λ (m : At). Allows (IsKept cache) slots id m (number_of seat) (λ _. 1)
       (λ _. returns_seat st m 1)) (sym is)
       (return_seat_allowed slots st id seat low its))
 
-  pub look_at : (slots : ℕ) (st : Step Returned) (id seats returned : ℕ) (back : List SeatView)
+  pub look_at : (slots : ℕ) (st : Step Returned) (id seats returned : ℕ) (back : List AnySeat)
       (me : At) → me ≡ (keeping seats returned back, []) →
       Allows (IsKept cache) slots id me returned (λ n. n) (sees_returned st me)
   look_at slots st id seats returned back me is =
@@ -533,10 +535,10 @@ module _ (cache : SharedView) where
       (sym is) (look_allowed slots st id seats returned back)
 
   -- who knows that all seats are returned finds a seat of the cache in each slot
-  pub slot_has : (id seats : ℕ) (back : List SeatView) (words : List ℕ) (slots : List Returned) →
-      seats ≡ cache.seats → Final (Seen (IsKept cache) id (keeping seats seats back)) words slots
+  pub slot_has : (id seats : ℕ) (back : List AnySeat) (words : List ℕ) (slots : List Returned) →
+      seats ≡ (seats_of cache) → Final (Seen (IsKept cache) id (keeping seats seats back)) words slots
       → (slot : ℕ) (x : Returned) → slot < seats → get_elem? slots slot ≡ maybe.some x →
-      (seat : SeatView) × (x ≡ Some seat) × (seat.cache ≡ cache)
+      (seat : AnySeat) × (x ≡ Some seat) × ((cache_of seat) ≡ cache)
   slot_has id seats back words slots all end_ slot x low is =
       let s = end_.0 in let k = end_.1.0 in
       let h = k.returned slot (subst (λ (n : ℕ). slot < n) all low)
@@ -563,32 +565,32 @@ pub laid : (number i : ℕ) (x y : Returned) (me me' : At) → me ≡ (spent num
     i ≡ number → me' ≡ (me.0, (i, y) ∷ rest me.1) → me' ≡ (spent number, (number, y) ∷ [])
 laid number i x y me me' is same e = e ∙ (λ k. ((is k).0, (same k, y) ∷ rest (is k).1))
 
-pub its_cache : (cache : SharedView) (x : Returned) (seat : SeatView) →
-    ((other : SeatView) × (x ≡ Some other) × (other.cache ≡ cache)) → x ≡ Some seat →
-    seat.cache ≡ cache
+pub its_cache : (cache : AnyCache) (x : Returned) (seat : AnySeat) →
+    ((other : AnySeat) × (x ≡ Some other) × ((cache_of other) ≡ cache)) → x ≡ Some seat →
+    (cache_of seat) ≡ cache
 its_cache cache x seat has is = ap (cache_or cache) (sym is ∙ has.1) ∙ has.2
   where
-    cache_or : SharedView → Returned → SharedView
+    cache_or : AnyCache → Returned → AnyCache
     cache_or c None = c
-    cache_or c (Some s) = s.cache
+    cache_or c (Some s) = cache_of s
 
 -- the same of a keeper whose view is told by an equation
-pub slot_of : (cache : SharedView) (id seats : ℕ) (back : List SeatView) (me : At)
+pub slot_of : (cache : AnyCache) (id seats : ℕ) (back : List AnySeat) (me : At)
     (words : List ℕ) (slots others : List Returned) → me ≡ (keeping seats seats back, []) →
-    seats ≡ cache.seats → Final (Seen (IsKept cache) id me.0) words slots → others ≡ slots
+    seats ≡ (seats_of cache) → Final (Seen (IsKept cache) id me.0) words slots → others ≡ slots
     → (slot : ℕ) (x : Returned) → slot < seats → get_elem? others slot ≡ maybe.some x →
-    (seat : SeatView) × (x ≡ Some seat) × (seat.cache ≡ cache)
+    (seat : AnySeat) × (x ≡ Some seat) × ((cache_of seat) ≡ cache)
 slot_of cache id seats back me words slots others is all end_ same slot x low at =
     slot_has cache id seats back words slots all
     (subst (λ (m : At). Final (Seen (IsKept cache) id m.0) words slots) is end_) slot x low
     (ap (λ (xs : List Returned). get_elem? xs slot) (sym same) ∙ at)
 
 -- A seat that is known lies in its slot at the end.
-pub record LiesThere (cache : SharedView) (slots : List Returned) (seat : SeatView) : Type 0 where
-  pub low : seat.number < cache.seats
-  pub lies : get_elem? slots seat.number ≡ maybe.some (Some seat)
+pub record LiesThere (cache : AnyCache) (slots : List Returned) (seat : AnySeat) : Type 0 where
+  pub low : (number_of seat) < (seats_of cache)
+  pub lies : get_elem? slots (number_of seat) ≡ maybe.some (Some seat)
 
-pub known_lie : (cache : SharedView) (id seats : ℕ) (back : List SeatView) (me : At)
+pub known_lie : (cache : AnyCache) (id seats : ℕ) (back : List AnySeat) (me : At)
     (words : List ℕ) (slots : List Returned) → me ≡ (keeping seats seats back, [])
     → Final (Seen (IsKept cache) id me.0) words slots → All (LiesThere cache slots) back
 known_lie cache id seats back me words slots is end_ =
@@ -596,21 +598,21 @@ known_lie cache id seats back me words slots is end_ =
     subst (λ (m : At). Final (Seen (IsKept cache) id m.0) words slots) is end_ in
     let s = final.0 in
     All-weaker (IsBack cache s.words s.homes) (LiesThere cache slots)
-    (λ seat b. record { low = b.low; lies = final.4 seat.number (Some seat) b.lies }) back
+    (λ seat b. record { low = b.low; lies = final.4 (number_of seat) (Some seat) b.lies }) back
     (final.1.0.fits id (keeping seats seats back) final.1.1).back
 
 -- Each slot below `done` has what stands at its number.
-abbrev pub AreCollected : List Returned → ℕ → List SeatView → Type 0
-AreCollected slots done items = (k : ℕ) (seat : SeatView) → k < done →
+abbrev pub AreCollected : List Returned → ℕ → List AnySeat → Type 0
+AreCollected slots done items = (k : ℕ) (seat : AnySeat) → k < done →
     get_elem? slots k ≡ maybe.some (Some seat) → slice_get items k ≡ Some seat
 
-get_before : (items : List SeatView) (x : SeatView) (k : ℕ) → k < length items →
+get_before : (items : List AnySeat) (x : AnySeat) (k : ℕ) → k < length items →
     slice_get (items ++ x ∷ []) k ≡ slice_get items k
 get_before [] x k low = absurd (omega (arith, low))
 get_before (y ∷ ys) x zero low = refl
 get_before (y ∷ ys) x (suc k) low = get_before ys x k (omega (arith, low))
 
-get_last : (items : List SeatView) (x : SeatView) (k : ℕ) → k ≡ length items →
+get_last : (items : List AnySeat) (x : AnySeat) (k : ℕ) → k ≡ length items →
     slice_get (items ++ x ∷ []) k ≡ Some x
 get_last [] x zero is = refl
 get_last [] x (suc k) is = absurd (omega (arith, is))
@@ -618,39 +620,39 @@ get_last (y ∷ ys) x zero is = absurd (omega (arith, is))
 get_last (y ∷ ys) x (suc k) is = get_last ys x k (omega (arith, is))
 
 -- one slot more is emptied
-pub one_collected : (slots : List Returned) (done : ℕ) (items items' : List SeatView)
-    (x : Returned) (seat : SeatView) → AreCollected slots done items → length items ≡ done →
+pub one_collected : (slots : List Returned) (done : ℕ) (items items' : List AnySeat)
+    (x : Returned) (seat : AnySeat) → AreCollected slots done items → length items ≡ done →
     get_elem? slots done ≡ maybe.some x → x ≡ Some seat → items' ≡ items ++ seat ∷ [] →
     AreCollected slots (done + 1) items'
 one_collected slots done items items' x seat so_far long at is pushed k other low lies =
-    ap (λ (l : List SeatView). slice_get l k) pushed ∙ dite (ℕ_discrete k done)
+    ap (λ (l : List AnySeat). slice_get l k) pushed ∙ dite (ℕ_discrete k done)
     (λ e. get_last items seat k (omega (arith, e, long)) ∙ sym is ∙ some-injective x (Some other)
     (sym at ∙ ap (λ (n : ℕ). get_elem? slots n) (sym e) ∙ lies))
     (λ ne. get_before items seat k (omega (arith, low, ne, long)) ∙
     so_far k other (omega (arith, low, ne)) lies)
 
 -- at the end each seat that is known stands at its number
-pub known_stand : (cache : SharedView) (slots others : List Returned) (seats done : ℕ)
-    (items back : List SeatView) → seats ≡ cache.seats → seats ≤ done → others ≡ slots →
+pub known_stand : (cache : AnyCache) (slots others : List Returned) (seats done : ℕ)
+    (items back : List AnySeat) → seats ≡ (seats_of cache) → seats ≤ done → others ≡ slots →
     AreCollected others done items → All (LiesThere cache slots) back →
-    All (λ (seat : SeatView). slice_get items seat.number ≡ Some seat) back
+    All (λ (seat : AnySeat). slice_get items (number_of seat) ≡ Some seat) back
 known_stand cache slots others seats done items back all past same collected known =
     All-weaker (LiesThere cache slots)
-    (λ (seat : SeatView). slice_get items seat.number ≡ Some seat)
-    (λ seat l. let low = l.low in collected seat.number seat (omega (arith, low, all, past))
-    (ap (λ (xs : List Returned). get_elem? xs seat.number) same ∙ l.lies)) back known
+    (λ (seat : AnySeat). slice_get items (number_of seat) ≡ Some seat)
+    (λ seat l. let low = l.low in collected (number_of seat) seat (omega (arith, low, all, past))
+    (ap (λ (xs : List Returned). get_elem? xs (number_of seat)) same ∙ l.lies)) back known
 
 -- what a returned seat's token knows, by how it was laid
-pub came_home : (number i : ℕ) (seat : SeatView) (me me' : At) →
+pub came_home : (number i : ℕ) (seat : AnySeat) (me me' : At) →
     me ≡ (spent number, (number, Some seat) ∷ []) → me' ≡ (came_in me.1, []) → me' ≡ (came seat, [])
 came_home number i seat me me' is e = e ∙ ap (λ (m : At). (came_in m.1, [])) is
 
 -- what a keeper knows of seats, by its view
-pub known_of : (seats returned : ℕ) (back : List SeatView) (me : At) →
+pub known_of : (seats returned : ℕ) (back : List AnySeat) (me : At) →
     me ≡ (keeping seats returned back, []) → me.0.back ≡ back
 known_of seats returned back me is = ap (λ (m : At). m.0.back) is
 
-pub by_itself : (seats returned : ℕ) (back : List SeatView) (me : At) →
+pub by_itself : (seats returned : ℕ) (back : List AnySeat) (me : At) →
     me ≡ (keeping seats returned back, []) → me ≡ (keeping seats returned me.0.back, [])
-by_itself seats returned back me is = is ∙ ap (λ (b : List SeatView). (keeping seats returned b, []))
+by_itself seats returned back me is = is ∙ ap (λ (b : List AnySeat). (keeping seats returned b, []))
     (sym (known_of seats returned back me is))

@@ -1,8 +1,9 @@
 -- What is told of a write of several spans, one after another.
-use Rattle.std.proofs.Common.{arith, ◌≡◌, ◌∙◌, refl, sym, subst, ℕ, zero, suc, ◌+◌}
+use Rattle.std.proofs.Common.{arith, ◌≡◌, ◌∙◌, refl, sym, subst, inl, inr, ℕ, zero, suc, ◌+◌}
 use Rattle.std.proofs.Common.{◌<◌, ◌≤◌}
 use Rattle.std.proofs.Common.{List, [], ◌∷◌, length, get_or, drop, true, Option, Some, None}
 use Rattle.std.proofs.Common.{IfSome}
+use Rattle.std.specs.Prelude.{Result, Ok, Err, IfOk}
 use Rattle.std.proofs.lemmas.List.{drop_more, drop_all}
 use Rattle.std.proofs.lemmas.List.Elements.{Contains-get_or}
 use Rattle.tsc_time.specs.Time.{Time, is_in_range}
@@ -12,19 +13,29 @@ use Rattle.tsc_span.specs.Span.{Interval}
 use Rattle.tsc_cache.specs.Settings.{Settings}
 use Rattle.tsc_cache.specs.History.{History, state_of}
 use Rattle.tsc_cache.specs.CacheView.{CacheView, RepresentsState, cache_answer}
-use Rattle.tsc_shared.specs.Seats.{SeatView, IsSeat}
+use Rattle.tsc_shared.specs.Seats.{SeatView}
+use Rattle.tsc_striped.specs.Seats.{SeatView as StripedSeat}
+use Rattle.tsc_striped_leases.specs.Leases.{HasLookedOn}
+use Rattle.tsc_striped_leases.specs.StripedSeats.{striped_seat, striped_seat_laws, striped_seat_rests}
 use Rattle.timestamp_cache.specs.Clear.{IsClearOf, IsClearOfAnswers, IsClearOfAllReads}
 use Rattle.timestamp_cache.specs.Clear.{AsksInTurn, all_asked, none_told, one_told}
 use Rattle.timestamp_cache.specs.Earliest.{TellsEarliest}
-use Rattle.timestamp_cache.specs.SeatKinds.{shared_seat}
-use Rattle.timestamp_cache.specs.SeatLaws.{shared_seat_laws, shared_seat_rests}
+use Rattle.timestamp_cache.specs.SeatKinds.{SeatKind, shared_seat}
+use Rattle.timestamp_cache.specs.SeatLaws.{SeatLaws, shared_seat_laws, shared_seat_rests}
 use Rattle.timestamp_cache.proofs.Earliest.{clear_later, one_more, none_more, clear_of_all_reads}
 use Rattle.timestamp_cache.proofs.AskingAll.{asks_all}
 use Rattle.tsc_ffi_store.specs.declared.ctypes.TscSpan.{TscSpan}
 use Rattle.tsc_ffi_store.specs.declared.refusal.Refusal.{Refusal}
 use Rattle.tsc_ffi_store.specs.Writes.{AskedWrite, IsSpan, AreSpans, RefusesSpan, RefusesSpans}
-use Rattle.tsc_ffi_store.specs.Writes.{TellsWrite, AsksWrite}
-use Rattle.tsc_ffi_store.specs.WriteSteps.{TellsLater, AsksLater}
+use Rattle.tsc_ffi_store.specs.Writes.{TellsWrite, AsksWriteOf, RefusesWrite}
+use Rattle.tsc_ffi_store.specs.WriteSteps.{TellsLater, AsksLaterOf, AsksLater, AsksLaterStriped}
+use Rattle.tsc_ffi_store.specs.WriteSteps.{AsksOfWrite, AsksOfWriteStriped}
+use Rattle.tsc_ffi_store.specs.declared.seats.kinds.AnySeat.{AnySeat}
+use Rattle.tsc_ffi_store.specs.declared.seats.kinds.AnySeat.TheVariants.{Shared, Striped}
+use Rattle.tsc_ffi_store.specs.Kinds.{ByKind, IsAnySeat}
+use Rattle.tsc_ffi_store.specs.StripedCalls.{LooksOn}
+use Rattle.tsc_ffi_store.proofs.ByKinds.{by_same, by_kind_more}
+use Rattle.tsc_ffi_store.proofs.AskedAtSeat.{never}
 
 -- ---- one span more in front of others
 
@@ -158,73 +169,182 @@ one_refused why keys words i d lt refused = (
 
 -- ---- at a seat
 
--- what a seat is told of the spans that are left
-abbrev pub AsksFrom : Owner → SeatView → SeatView → List Interval → Option Time → Option Time → Type
-    0
-AsksFrom by old new rest None told = (told ≡ None) × (new ≡ old)
-AsksFrom by old new rest (Some from) told = AsksInTurn shared_seat by old new rest from told
+-- what a seat of some kind is told of the spans that are left
+abbrev pub AsksFrom : {S : Type 0} → SeatKind S → Owner → S → S → List Interval → Option Time
+    → Option Time → Type 0
+AsksFrom kind by old new rest None told = (told ≡ None) × (new ≡ old)
+AsksFrom kind by old new rest (Some from) told = AsksInTurn kind by old new rest from told
 
-asks_in_front : (by : Owner) (old next new : SeatView) (s : Interval) (rest : List Interval)
-    (time later told : Option Time)
-    → AsksLater old next s by time later → AsksFrom by next new rest later told → AsksFrom by old
-    new (s ∷ rest) time told
-asks_in_front by old next new s rest None later told is asks =
-    let at_none : AsksFrom by next new rest None told = subst
-    (λ (l : Option Time). AsksFrom by next new rest l told) is.0 asks in
+asks_in_front : {S : Type 0} (kind : SeatKind S) (by : Owner) (old next new : S) (s : Interval)
+    (rest : List Interval) (time later told : Option Time)
+    → AsksLaterOf kind old next s by time later → AsksFrom kind by next new rest later told
+    → AsksFrom kind by old new (s ∷ rest) time told
+asks_in_front kind by old next new s rest None later told is asks =
+    let at_none : AsksFrom kind by next new rest None told = subst
+    (λ (l : Option Time). AsksFrom kind by next new rest l told) is.0 asks in
     (at_none.0, at_none.1 ∙ is.1)
-asks_in_front by old next new s rest (Some from) None told first asks =
-    let none : AsksInTurn shared_seat by old next (s ∷ rest) from None =
+asks_in_front {S} kind by old next new s rest (Some from) None told first asks =
+    let none : AsksInTurn kind by old next (s ∷ rest) from None =
     none_told old next s rest from first in
-    subst (λ (n : SeatView). AsksInTurn shared_seat by old n (s ∷ rest) from told) (sym asks.1)
-    (subst (λ (o : Option Time). AsksInTurn shared_seat by old next (s ∷ rest) from o)
+    subst (λ (n : S). AsksInTurn kind by old n (s ∷ rest) from told) (sym asks.1)
+    (subst (λ (o : Option Time). AsksInTurn kind by old next (s ∷ rest) from o)
     (sym asks.0) none)
-asks_in_front by old next new s rest (Some from) (Some at) told first asks = one_told old next new s
-    rest from at told first asks
+asks_in_front kind by old next new s rest (Some from) (Some at) told first asks = one_told old next
+    new s rest from at told first asks
 
-pub record AsksAll (old new : SeatView) (keys : List ℕ) (words : List TscSpan) (by : Owner)
-    (from : Time) (told : Option Time) : Type 0 where
+pub record AsksAll {S : Type 0} (kind : SeatKind S) (old new : S) (keys : List ℕ)
+    (words : List TscSpan) (by : Owner) (from : Time) (told : Option Time) : Type 0 where
   pub spans : List Interval
   pub are : AreSpans keys words spans
-  pub turn : AsksInTurn shared_seat by old new spans from told
+  pub turn : AsksInTurn kind by old new spans from told
 
-pub record HasAsked (old now : SeatView) (keys : List ℕ) (words left : List TscSpan) (by : Owner)
-    (from : Time) (time : Option Time) : Type 0 where
-  pub goes_on : (rest : List Interval) (new : SeatView) (told : Option Time) → AreSpans keys left
-      rest → AsksFrom by now new rest time told → AsksAll old new keys words by from told
+pub record HasAsked {S : Type 0} (kind : SeatKind S) (old now : S) (keys : List ℕ)
+    (words left : List TscSpan) (by : Owner) (from : Time) (time : Option Time) : Type 0 where
+  pub goes_on : (rest : List Interval) (new : S) (told : Option Time) → AreSpans keys left
+      rest → AsksFrom kind by now new rest time told → AsksAll kind old new keys words by from told
 
-pub asked_none : (seat : SeatView) (keys : List ℕ) (words : List TscSpan) (by : Owner) (from : Time)
-    → HasAsked seat seat keys words words by from (Some from)
-asked_none seat keys words by from = record {
+pub asked_none : {S : Type 0} (kind : SeatKind S) (seat : S) (keys : List ℕ) (words : List TscSpan)
+    (by : Owner) (from : Time)
+    → HasAsked kind seat seat keys words words by from (Some from)
+asked_none kind seat keys words by from = record {
   goes_on = λ rest new told are asks. record
       { spans = rest; are = are; turn = asks };
 }
 
-pub asked_more : (old now next : SeatView) (keys : List ℕ) (words : List TscSpan) (i : ℕ)
+pub asked_more : {S : Type 0} (kind : SeatKind S) (old now next : S) (keys : List ℕ)
+    (words : List TscSpan) (i : ℕ)
     (d : TscSpan) (s : Interval) (by : Owner) (from : Time) (time later : Option Time)
-    → i < length words → IsSpan keys (get_or words i d) s → AsksLater now next s by time later →
-    HasAsked old now keys words (drop i words) by from time → HasAsked old next keys words
+    → i < length words → IsSpan keys (get_or words i d) s → AsksLaterOf kind now next s by time later →
+    HasAsked kind old now keys words (drop i words) by from time → HasAsked kind old next keys words
     (drop (i + 1) words) by from later
-asked_more old now next keys words i d s by from time later lt is asks so_far = record {
+asked_more kind old now next keys words i d s by from time later lt is asks so_far = record {
   goes_on = λ rest new told are on.
       so_far.goes_on (s ∷ rest) new told (subst (λ (ws : List TscSpan). AreSpans keys ws (s ∷ rest))
       (sym (drop_more words i d lt)) (is, are))
-      (asks_in_front by now next new s rest time later told asks on);
+      (asks_in_front kind by now next new s rest time later told asks on);
 }
 
-none_asked : (by : Owner) (seat : SeatView) (time : Option Time) → AsksFrom by seat seat [] time
-    time
-none_asked by seat None = (refl, refl)
-none_asked by seat (Some at) = all_asked seat at
+none_asked : {S : Type 0} (kind : SeatKind S) (by : Owner) (seat : S) (time : Option Time)
+    → AsksFrom kind by seat seat [] time time
+none_asked kind by seat None = (refl, refl)
+none_asked kind by seat (Some at) = all_asked seat at
 
-pub asked_all : (old now : SeatView) (asked : AskedWrite) (i : ℕ) (time : Option Time) → IsSeat old
-    → length asked.spans ≤ i → HasAsked old now asked.keys asked.spans (drop i asked.spans) asked.by
-    asked.time time → AsksWrite old now asked time
-asked_all old now asked i time is le so_far =
+pub asked_all : {S : Type 0} (kind : SeatKind S) → SeatLaws kind → (old now : S)
+    (asked : AskedWrite) (i : ℕ) (time : Option Time) → kind.GoesOn old old
+    → length asked.spans ≤ i → HasAsked kind old now asked.keys asked.spans (drop i asked.spans) asked.by
+    asked.time time → AsksWriteOf kind old now asked time
+asked_all kind laws old now asked i time rests le so_far =
     let all = so_far.goes_on [] now time (subst (λ (ws : List TscSpan). AreSpans asked.keys ws [])
-    (sym (drop_all i asked.spans le)) tt) (none_asked asked.by now time) in
+    (sym (drop_all i asked.spans le)) tt) (none_asked kind asked.by now time) in
     record {
       spans = all.spans;
       asked_for = all.are;
-      asks = asks_all shared_seat shared_seat_laws asked.by old now all.spans
-          asked.time time (shared_seat_rests old is) all.turn;
+      asks = asks_all kind laws asked.by old now all.spans asked.time time rests all.turn;
     }
+
+-- ---- at a seat of either kind
+
+-- what a seat in stripes was told so far, which has looked, or is as it was
+pub record HasAskedInStripes (old now : StripedSeat) (keys : List ℕ) (words left : List TscSpan)
+    (by : Owner) (from : Time) (time : Option Time) : Type 0 where
+  pub asked : HasAsked striped_seat old now keys words left by from time
+  pub looked : LooksOn old now
+
+abbrev pub HasAskedAny : AnySeat → AnySeat → List ℕ → List TscSpan → List TscSpan → Owner → Time
+    → Option Time → Type 0
+HasAskedAny old now keys words left by from time = ByKind
+    (λ x y (t : Option Time). HasAsked shared_seat x y keys words left by from t)
+    (λ x y (t : Option Time). HasAskedInStripes x y keys words left by from t) old now time
+
+pub asked_none_any : (seat : AnySeat) (keys : List ℕ) (words : List TscSpan) (by : Owner)
+    (from : Time) → HasAskedAny seat seat keys words words by from (Some from)
+asked_none_any seat keys words by from =
+    by_same (λ x y (t : Option Time). HasAsked shared_seat x y keys words words by from t)
+    (λ x y (t : Option Time). HasAskedInStripes x y keys words words by from t) (Some from)
+    (λ x. asked_none shared_seat x keys words by from)
+    (λ x. record { asked = asked_none striped_seat x keys words by from; looked = inl refl }) seat
+
+looks_later : (now next : StripedSeat) (s : Interval) (by : Owner) (time later : Option Time)
+    → AsksLaterOf striped_seat now next s by time later → LooksOn now next
+looks_later now next s by None later asks = inl asks.1
+looks_later now next s by (Some from) later asks =
+    inr (record { goes_on = asks.goes_on; count = asks.count })
+
+pub looks_further : (old now next : StripedSeat) → LooksOn old now → LooksOn now next
+    → LooksOn old next
+looks_further old now next (inl same) two =
+    subst (λ (x : StripedSeat). LooksOn x next) same two
+looks_further old now next (inr one) (inl same) =
+    inr (subst (λ (x : StripedSeat). HasLookedOn old x) (sym same) one)
+looks_further old now next (inr one) (inr two) = inr (record {
+  goes_on = striped_seat_laws.onward old now next one.goes_on two.goes_on;
+  count = two.count ∙ one.count;
+})
+
+pub asked_more_any : (old now next : AnySeat) (keys : List ℕ) (words : List TscSpan) (i : ℕ)
+    (d : TscSpan) (s : Interval) (by : Owner) (from : Time) (time later : Option Time)
+    → i < length words → IsSpan keys (get_or words i d) s
+    → ByKind (AsksLater s by time) (AsksLaterStriped s by time) now next (Ok later)
+    → HasAskedAny old now keys words (drop i words) by from time
+    → HasAskedAny old next keys words (drop (i + 1) words) by from later
+asked_more_any old now next keys words i d s by from time later lt is asks so_far =
+    by_kind_more
+    (λ x y (t : Option Time). HasAsked shared_seat x y keys words (drop i words) by from t)
+    (λ x y (t : Option Time). HasAskedInStripes x y keys words (drop i words) by from t)
+    (AsksLater s by time) (AsksLaterStriped s by time)
+    (λ x y (t : Option Time). HasAsked shared_seat x y keys words (drop (i + 1) words) by from t)
+    (λ x y (t : Option Time). HasAskedInStripes x y keys words (drop (i + 1) words) by from t)
+    time (Ok later) later
+    (λ x y z one two. asked_more shared_seat x y z keys words i d s by from time later lt is
+    (subst (λ (r : Result (Option Time) Refusal). IfOk r
+    (λ told. AsksLaterOf shared_seat y z s by time told)) (sym two.is) two.asks) one)
+    (λ x y z one two. record {
+      asked = asked_more striped_seat x y z keys words i d s by from time later lt is two.told
+          one.asked;
+      looked = looks_further x y z one.looked (looks_later y z s by time later two.told);
+    }) old now next so_far asks
+
+-- A lookup in stripes was refused. What a seat of a shared cache asks is never refused.
+pub asked_busy_any : (old now next : AnySeat) (asked : AskedWrite) (left : List TscSpan)
+    (s : Interval) (time : Option Time) (why : Refusal)
+    → ByKind (AsksLater s asked.by time) (AsksLaterStriped s asked.by time) now next (Err why)
+    → HasAskedAny old now asked.keys asked.spans left asked.by asked.time time
+    → ByKind (AsksOfWrite asked) (AsksOfWriteStriped asked) old next (Err why)
+asked_busy_any old now next asked left s time why asks so_far =
+    by_kind_more
+    (λ x y (t : Option Time). HasAsked shared_seat x y asked.keys asked.spans left asked.by
+    asked.time t)
+    (λ x y (t : Option Time). HasAskedInStripes x y asked.keys asked.spans left asked.by
+    asked.time t) (AsksLater s asked.by time) (AsksLaterStriped s asked.by time)
+    (AsksOfWrite asked) (AsksOfWriteStriped asked) time (Err why) (Err why)
+    (λ x y z one two. absurd (never two.told why two.is))
+    (λ x y z one two. record {
+      told = tt;
+      refused = inr (two.refused.0, looks_further x y z one.looked (inl two.refused.1));
+    }) old now next so_far asks
+
+pub asked_all_any : (old now : AnySeat) (asked : AskedWrite) (i : ℕ) (time : Option Time)
+    → IsAnySeat old → length asked.spans ≤ i
+    → HasAskedAny old now asked.keys asked.spans (drop i asked.spans) asked.by asked.time time
+    → ByKind (AsksOfWrite asked) (AsksOfWriteStriped asked) old now (Ok time)
+asked_all_any (Shared old) (Shared now) asked i time is le so_far = record {
+  told = asked_all shared_seat shared_seat_laws old now asked i time (shared_seat_rests old is) le
+      so_far;
+  refused = tt;
+  unchanged = tt;
+}
+asked_all_any (Shared old) (Striped now) asked i time is le so_far = absurd so_far
+asked_all_any (Striped old) (Shared now) asked i time is le so_far = absurd so_far
+asked_all_any (Striped old) (Striped now) asked i time is le so_far = record {
+  told = asked_all striped_seat striped_seat_laws old now asked i time (striped_seat_rests old is)
+      le so_far.asked;
+  refused = tt;
+}
+
+-- what a call says of a write is refused before the seat is asked
+pub asked_nothing : (seat : AnySeat) (asked : AskedWrite) (why : Refusal) → RefusesWrite why asked
+    → ByKind (AsksOfWrite asked) (AsksOfWriteStriped asked) seat seat (Err why)
+asked_nothing seat asked why is =
+    by_same (AsksOfWrite asked) (AsksOfWriteStriped asked) (Err why)
+    (λ x. record { told = tt; refused = is; unchanged = refl })
+    (λ x. record { told = tt; refused = inl (is, refl) }) seat

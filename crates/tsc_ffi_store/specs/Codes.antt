@@ -26,6 +26,8 @@ code_of refusal.SummaryLength = 20
 code_of refusal.SummaryChecksum = 21
 code_of refusal.SummaryForm = 22
 code_of refusal.Tries = 23
+code_of refusal.Stripes = 24
+code_of refusal.Bounds = 25
 
 -- what C is told of a call
 abbrev pub code_for : {A : Type 0} → Result A Refusal → ℕ

@@ -2,7 +2,7 @@
 use Rattle.std.specs.Prelude.{◌≡◌, ◌+◌, ℕ, Result, Ok, Err}
 use Rattle.tsc_cache.specs.CacheView.{CacheView}
 use Rattle.tsc_cache.specs.Counts.{up_to_end}
-use Rattle.tsc_shared.specs.Seats.{SeatView}
+use Rattle.tsc_ffi_store.specs.declared.seats.kinds.AnySeat.{AnySeat}
 use Rattle.tsc_ffi_store.specs.declared.counts.Counts.{Counts}
 use Rattle.tsc_ffi_store.specs.declared.counts.CountedCache.{CountedCache}
 use Rattle.tsc_ffi_store.specs.declared.counts.CountedSeat.{CountedSeat}
@@ -56,21 +56,21 @@ pub record StaysWith (old new : CountedSeat) : Type 0 where
   pub opened : new.opened_at ≡ old.opened_at
 
 -- An Add at a seat is counted there, with the pages that it dropped.
-pub record CountsSeatAdd {A : Type 0} (Works : SeatView → SeatView → Result A Refusal → Type 0)
+pub record CountsSeatAdd {A : Type 0} (Works : AnySeat → AnySeat → Result A Refusal → Type 0)
     (dropped : ℕ) (old new : CountedSeat) (did : Result A Refusal) : Type 0 where
   pub works : Works old.seat.seat new.seat.seat did
   pub stays : StaysWith old new
   pub counted : new.counts ≡ add_counted old.counts did dropped
 
 -- A lookup at a seat is counted there.
-pub record CountsSeatLookup {A : Type 0} (Works : SeatView → SeatView → Result A Refusal → Type 0)
+pub record CountsSeatLookup {A : Type 0} (Works : AnySeat → AnySeat → Result A Refusal → Type 0)
     (old new : CountedSeat) (did : Result A Refusal) : Type 0 where
   pub works : Works old.seat.seat new.seat.seat did
   pub stays : StaysWith old new
   pub counted : new.counts ≡ lookup_counted old.counts did
 
 -- A call at a seat is not counted.
-pub record CountsNothing {A : Type 0} (Works : SeatView → SeatView → Result A Refusal → Type 0)
+pub record CountsNothing {A : Type 0} (Works : AnySeat → AnySeat → Result A Refusal → Type 0)
     (old new : CountedSeat) (did : Result A Refusal) : Type 0 where
   pub works : Works old.seat.seat new.seat.seat did
   pub stays : StaysWith old new

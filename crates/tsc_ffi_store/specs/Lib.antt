@@ -1,8 +1,11 @@
+pub mod Asking
 pub mod CacheCalls
 pub mod Chain
 pub mod Codes
 pub mod Counts
 pub mod Decode
+pub mod Endings
+pub mod Kinds
 pub mod Laws
 pub mod Lending
 pub mod Marks
@@ -15,6 +18,8 @@ pub mod SameTable
 pub mod SeatCalls
 pub mod Seating
 pub mod Store
+pub mod StripedCalls
 pub mod Summaries
+pub mod SummarySteps
 pub mod WriteSteps
 pub mod Writes

@@ -4,16 +4,18 @@ use Rattle.std.specs.Prelude.{◌≡◌, ℕ, ◌+◌, ◌<◌, ◌≤◌, List,
 use mathlib.Core.Option as maybe
 use lib.ListN.{get_elem?}
 use Rattle.atomic_table.specs.Table.{State}
-use Rattle.tsc_shared.specs.Seats.{SharedView, SeatView}
 use Rattle.tsc_ffi_store.specs.declared.seats.return_slots.Known.{Known}
+use Rattle.tsc_ffi_store.specs.declared.seats.kinds.AnyCache.{AnyCache}
+use Rattle.tsc_ffi_store.specs.declared.seats.kinds.AnySeat.{AnySeat}
+use Rattle.tsc_ffi_store.specs.Kinds.{seats_of, cache_of, number_of}
 
 -- what a slot has: a seat, once it is returned
 abbrev pub Returned : Type 0
-Returned = Option SeatView
+Returned = Option AnySeat
 
 -- who may take the slots from one on, up to another, knows how many seats from 0 on are returned,
 -- and some that lie in their slots
-abbrev pub knowing : ℕ → ℕ → ℕ → List SeatView → Known
+abbrev pub knowing : ℕ → ℕ → ℕ → List AnySeat → Known
 knowing from to returned back =
     record { from = from; to = to; taken = false; returned = returned; back = back }
 
@@ -34,12 +36,12 @@ abbrev pub spare : Known
 spare = dealing 0 0 0
 
 -- the token of a seat that was returned
-abbrev pub came : SeatView → Known
+abbrev pub came : AnySeat → Known
 came seat = knowing 0 0 0 (seat ∷ [])
 
 -- who has dealt the tokens of all `seats` seats, and knows that the first `returned` seats are
 -- returned, and some of them as what
-abbrev pub keeping : ℕ → ℕ → List SeatView → Known
+abbrev pub keeping : ℕ → ℕ → List AnySeat → Known
 keeping seats returned back = knowing seats seats returned back
 
 -- one who knows of the seats, too, that another knows of
@@ -47,8 +49,8 @@ abbrev pub also_back : Known → Known → Known
 also_back v w = record v { back = v.back ++ w.back }
 
 -- the first of all may take all slots
-abbrev pub first_known : SharedView → Known
-first_known cache = dealing 0 cache.seats 0
+abbrev pub first_known : AnyCache → Known
+first_known cache = dealing 0 (seats_of cache) 0
 
 -- A slot is one of these.
 pub record IsAmong (v : Known) (slot : ℕ) : Type 0 where
@@ -56,30 +58,30 @@ pub record IsAmong (v : Known) (slot : ℕ) : Type 0 where
   pub to : slot < v.to
 
 -- A seat of this cache lies in its slot.
-pub record IsReturned (cache : SharedView) (slots : List (maybe.Option Returned)) (slot : ℕ) : Type
+pub record IsReturned (cache : AnyCache) (slots : List (maybe.Option Returned)) (slot : ℕ) : Type
     0 where
-  pub seat : SeatView
+  pub seat : AnySeat
   pub lies : get_elem? slots slot ≡ maybe.some (maybe.some (Some seat))
-  pub its_cache : seat.cache ≡ cache
+  pub its_cache : cache_of seat ≡ cache
 
 -- A slot is there to be taken, and no seat is returned in it.
-pub record IsFree (cache : SharedView) (words : List ℕ) (slots : List (maybe.Option Returned))
+pub record IsFree (cache : AnyCache) (words : List ℕ) (slots : List (maybe.Option Returned))
     (slot : ℕ) : Type 0 where
-  pub low : slot < cache.seats
+  pub low : slot < seats_of cache
   pub word : slice_index words slot ≡ 0
   pub held : Returned
   pub lies : get_elem? slots slot ≡ maybe.some (maybe.some held)
 
 -- This very seat lies in its slot.
-pub record IsBack (cache : SharedView) (words : List ℕ) (slots : List (maybe.Option Returned))
-    (seat : SeatView) : Type 0 where
-  pub low : seat.number < cache.seats
-  pub word : slice_index words seat.number ≡ 1
-  pub lies : get_elem? slots seat.number ≡ maybe.some (maybe.some (Some seat))
+pub record IsBack (cache : AnyCache) (words : List ℕ) (slots : List (maybe.Option Returned))
+    (seat : AnySeat) : Type 0 where
+  pub low : number_of seat < seats_of cache
+  pub word : slice_index words (number_of seat) ≡ 1
+  pub lies : get_elem? slots (number_of seat) ≡ maybe.some (maybe.some (Some seat))
 
 -- What one knows fits: the slots that it may take are there, in one that it has taken no seat is
 -- returned, the first `v.returned` seats are returned, and those that it knows of lie there.
-pub record Fits (cache : SharedView) (words : List ℕ) (slots : List (maybe.Option Returned))
+pub record Fits (cache : AnyCache) (words : List ℕ) (slots : List (maybe.Option Returned))
     (v : Known) : Type 0 where
   pub free : (slot : ℕ) → v.taken ≡ false → IsAmong v slot → IsFree cache words slots slot
   pub out : (slot : ℕ) → v.taken ≡ true → IsAmong v slot → slice_index words slot ≡ 0
@@ -88,10 +90,10 @@ pub record Fits (cache : SharedView) (words : List ℕ) (slots : List (maybe.Opt
 
 -- There is a word and a slot for each seat. Where a word is 1, its slot has a seat of the cache. No
 -- two may take, or have taken, one slot.
-pub record IsKept (cache : SharedView) (s : State Returned Known) : Type 0 where
-  pub wide : length s.words ≡ cache.seats
-  pub deep : length s.homes ≡ cache.seats
-  pub returned : (slot : ℕ) → slot < cache.seats → slice_index s.words slot ≡ 1 →
+pub record IsKept (cache : AnyCache) (s : State Returned Known) : Type 0 where
+  pub wide : length s.words ≡ seats_of cache
+  pub deep : length s.homes ≡ seats_of cache
+  pub returned : (slot : ℕ) → slot < seats_of cache → slice_index s.words slot ≡ 1 →
       IsReturned cache s.homes slot
   pub fits : (id : ℕ) (v : Known) → get_elem? s.views id ≡ maybe.some v →
       Fits cache s.words s.homes v

@@ -9,11 +9,10 @@ use Rattle.tsc_cache.specs.declared.figures.Figures.{Figures}
 use Rattle.tsc_cache.specs.Settings.{Settings, fits}
 use Rattle.tsc_cache.specs.Batch.{all_fit}
 use Rattle.tsc_shared.specs.declared.answers.Receipt.{Receipt}
-use Rattle.tsc_shared.specs.declared.answers.Closed.{Closed as Ended}
 use Rattle.tsc_shared.specs.declared.answers.AddFault.TheVariants.{HistoryFull, NoMemory, TooLarge}
 use Rattle.tsc_shared.specs.declared.answers.TryAddFault.{TryAddFault}
 use Rattle.tsc_shared.specs.declared.answers.TryAddFault.TheVariants.{DeskBusy, SeatInside, Refused}
-use Rattle.tsc_shared.specs.Seats.{SeatView, new_seats, is_seat_count}
+use Rattle.tsc_shared.specs.Seats.{SeatView, is_seat_count}
 use Rattle.tsc_shared.specs.Answers.{GoesOn, Accepts, Refuses, AnswersLookup, IsAbove, TellsNoPart, ReadsFloor, ReadsFigures}
 use Rattle.tsc_ffi_store.specs.declared.ctypes.TscFigures.{TscFigures}
 use Rattle.tsc_ffi_store.specs.declared.refusal.Refusal.{Refusal}
@@ -23,8 +22,11 @@ use Rattle.tsc_ffi_store.specs.declared.store.Slot.TheVariants.{Closed, Shared, 
 use Rattle.tsc_ffi_store.specs.Decode.{AskedSpan, AskedAdd, AskedBatch, AskedConfig, settings_asked, add_span, lookup_span, figures_told, RefusesTime, RefusesEnds, RefusesAddSpan, RefusesConfig}
 use Rattle.tsc_ffi_store.specs.Marks.{AreMarks, RefusesMarks}
 use Rattle.tsc_ffi_store.specs.declared.counts.CountedSeat.{CountedSeat}
-use Rattle.tsc_ffi_store.specs.Owners.{HandleView, OwnerView, handle_of, EndsWith}
-use Rattle.tsc_ffi_store.specs.Counts.{no_counts, StaysWith}
+use Rattle.tsc_ffi_store.specs.declared.counts.Counts.{Counts}
+use Rattle.tsc_ffi_store.specs.declared.seats.kinds.AnySeat.{AnySeat}
+use Rattle.tsc_ffi_store.specs.Kinds.{new_any_seats}
+use Rattle.tsc_ffi_store.specs.Owners.{HandleView, OwnerView, handle_of, IsShared, EndsSo}
+use Rattle.tsc_ffi_store.specs.Counts.{no_counts}
 use Rattle.tsc_ffi_store.specs.Store.{cache_at, shared_at, seat_at, Keeps, RefusesHandles}
 use Rattle.atomic_table.specs.Seated.{TableId}
 
@@ -39,10 +41,8 @@ pub record OpensShared (old new : List Slot) (handle : ℕ) (settings : Settings
   pub owner : OwnerView
   pub next : handle ≡ length old
   pub given : new ≡ old ++ Shared owner ∷
-      map (λ s. Seat (unasked handle (handle_of owner.returns s))) (new_seats owner.cache 0 count)
-  pub settings_kept : owner.cache.config ≡ settings
-  pub count_kept : owner.cache.seats ≡ count
-  pub limit_kept : owner.cache.limit ≡ limit
+      map (λ s. Seat (unasked handle (handle_of owner.returns s))) (new_any_seats owner.cache 0 count)
+  pub cache : IsShared settings count limit owner.cache
   pub none_back : owner.back ≡ []
 
 -- No shared cache may have `count` seats.
@@ -87,17 +87,16 @@ pub record AnswersSeatLowWater {A : Type 0} (seen : ℕ) (floor : Time) (old new
 
 -- The figures of the cache of a seat, after all that the seat has seen then, and what was asked of
 -- the seat. Of the memory nothing is said.
-pub record TellsFiguresAt (old new : CountedSeat) (seen : ℕ) (figures : TscFigures) : Type 0 where
+pub record TellsFiguresAt (counts : Counts) (seen : ℕ) (figures : TscFigures) (old new : SeatView) :
+    Type 0 where
   pub counted : Figures
-  pub told : figures ≡ figures_told counted figures.memory old.counts
-  pub reads : ReadsFigures old.seat.seat new.seat.seat (record { figures = counted; front = seen })
-  pub same : new.counts ≡ old.counts
-  pub stays : StaysWith old new
+  pub told : figures ≡ figures_told counted figures.memory counts
+  pub reads : ReadsFigures old new (record { figures = counted; front = seen })
 
 -- What a call answers that tells them.
-pub record AnswersSeatFigures {A : Type 0} (seen : ℕ) (figures : TscFigures)
-    (old new : CountedSeat) (did : Result A Refusal) : Type 0 where
-  pub tells : TellsFiguresAt old new seen figures
+pub record AnswersSeatFigures {A : Type 0} (counts : Counts) (seen : ℕ) (figures : TscFigures)
+    (old new : SeatView) (did : Result A Refusal) : Type 0 where
+  pub tells : TellsFiguresAt counts seen figures old new
   pub done : IsOk did
 
 -- An Add of some marks at a seat, which has this place in the history of its cache, and did this.
@@ -275,7 +274,7 @@ pub record AnswersMove {A : Type 0} (handle m : ℕ) (from to from' to' : List S
   pub refused : IfErr did (λ why. RefusesMove why from to handle)
 
 -- An owner learns that seats came back to its cache, as what they are.
-pub record KnowsBack (returns : TableId) (seats : List SeatView) (old new : Slot) : Type 0 where
+pub record KnowsBack (returns : TableId) (seats : List AnySeat) (old new : Slot) : Type 0 where
   pub owner : OwnerView
   pub held : old ≡ Shared owner
   pub its : owner.returns ≡ returns
@@ -286,16 +285,16 @@ pub record LearnsNothing (returns : TableId) (old new : Slot) : Type 0 where
   pub other : (owner : OwnerView) → old ≡ Shared owner → owner.returns ≢ returns
   pub same : new ≡ old
 
-abbrev pub Learns : TableId → List SeatView → Slot → Slot → Type 0
+abbrev pub Learns : TableId → List AnySeat → Slot → Slot → Type 0
 Learns returns seats old new = KnowsBack returns seats old new ⊎ LearnsNothing returns old new
 
-abbrev pub LearnsIf : TableId → List SeatView → Option Slot → Option Slot → Type 0
+abbrev pub LearnsIf : TableId → List AnySeat → Option Slot → Option Slot → Type 0
 LearnsIf returns seats None new = new ≡ None
 LearnsIf returns seats (Some slot) new =
     (after : Slot) × (new ≡ Some after) × Learns returns seats slot after
 
 -- What a handle names learns of seats that came back. What the others name is as before.
-pub record LearnsAt (returns : TableId) (seats : List SeatView) (old new : List Slot)
+pub record LearnsAt (returns : TableId) (seats : List AnySeat) (old new : List Slot)
     (handle : ℕ) : Type 0 where
   pub there : LearnsIf returns seats (slice_get old handle) (slice_get new handle)
   pub others : Keeps old new handle
@@ -322,9 +321,7 @@ pub record ClosesShared (held after : Option OwnerView) (adds : ℕ) : Type 0 wh
   pub owner : OwnerView
   pub holds : held ≡ Some owner
   pub none : after ≡ None
-  pub ended : Ended
-  pub ends : EndsWith owner.cache owner.back ended
-  pub long : adds ≡ ended.adds
+  pub ends : EndsSo owner.cache owner.back adds
 
 -- Why a shared cache was not closed: there is none, or a seat is still out.
 abbrev pub RefusesCloseShared : Refusal → Option OwnerView → Type 0

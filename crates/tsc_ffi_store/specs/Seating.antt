@@ -1,13 +1,15 @@
 -- A shared cache, the handles of its seats, and its owner. (For private contracts and the models.)
 use Rattle.std.specs.Prelude.{◌≡◌, ℕ, ◌<◌, List, [], ◌≤◌}
 use Rattle.atomic_table.specs.Seated.{TableId}
-use Rattle.tsc_shared.specs.Seats.{SharedView, SeatView}
+use Rattle.tsc_ffi_store.specs.declared.seats.kinds.AnyCache.{AnyCache}
+use Rattle.tsc_ffi_store.specs.declared.seats.kinds.AnySeat.{AnySeat}
+use Rattle.tsc_ffi_store.specs.Kinds.{seats_of, cache_of, number_of}
 use Rattle.tsc_ffi_store.specs.ReturnSlots.{dealing, keeping, token}
 use Rattle.tsc_ffi_store.specs.ReturnSteps.{At}
 
 -- A cache, and the table of the slots in which its seats are returned.
 pub record SharedHandleView : Type 0 where
-  pub cache : SharedView
+  pub cache : AnyCache
   pub table : TableId
 
 -- the table has a word and a slot for each of `seats` seats
@@ -16,12 +18,12 @@ pub record IsSized (table : TableId) (seats : ℕ) : Type 0 where
   pub slots : table.slots ≡ seats
 
 -- A seat of this cache, and its token for this table.
-pub record Sits (shared : SharedHandleView) (seat : SeatView) (table : TableId) (me : At) : Type
+pub record Sits (shared : SharedHandleView) (seat : AnySeat) (table : TableId) (me : At) : Type
     0 where
-  pub cache : seat.cache ≡ shared.cache
+  pub cache : cache_of seat ≡ shared.cache
   pub its_table : table ≡ shared.table
-  pub low : seat.number < shared.cache.seats
-  pub token : me ≡ (token seat.number, [])
+  pub low : (number_of seat) < (seats_of shared.cache)
+  pub token : me ≡ (token (number_of seat), [])
 
 -- A token of a table from which others are dealt: slots are left for them.
 pub record DealsOn (table its : TableId) (me : At) : Type 0 where
@@ -34,28 +36,28 @@ pub record DealsOn (table its : TableId) (me : At) : Type 0 where
 pub record Deals (shared : SharedHandleView) (table : TableId) (me : At) (number : ℕ) : Type
     0 where
   pub its_table : table ≡ shared.table
-  pub sized : IsSized shared.table shared.cache.seats
-  pub others : me ≡ (dealing number shared.cache.seats 0, [])
+  pub sized : IsSized shared.table (seats_of shared.cache)
+  pub others : me ≡ (dealing number (seats_of shared.cache) 0, [])
 
 -- A token of a table for `seats` seats, which knows that the first `returned` of them are returned,
 -- and of some as what.
 pub record KnowsReturned (table its : TableId) (me : At) (seats returned : ℕ)
-    (back : List SeatView) : Type 0 where
+    (back : List AnySeat) : Type 0 where
   pub its_table : its ≡ table
   pub sized : IsSized table seats
   pub known : me ≡ (keeping seats returned back, [])
   pub some : returned ≤ seats
 
 -- An empty list, which has room for `seats` seats.
-pub record IsRoomFor (items : List SeatView) (capacity seats : ℕ) : Type 0 where
+pub record IsRoomFor (items : List AnySeat) (capacity seats : ℕ) : Type 0 where
   pub empty : items ≡ []
   pub room : seats ≤ capacity
 
 -- The keeper's token knows that the first `returned` seats are returned, and of some as what.
 pub record IsKeeper (shared : SharedHandleView) (table : TableId) (me : At) (seats returned : ℕ)
-    (back : List SeatView) : Type 0 where
+    (back : List AnySeat) : Type 0 where
   pub its_table : table ≡ shared.table
-  pub all : seats ≡ shared.cache.seats
+  pub all : seats ≡ (seats_of shared.cache)
   pub known : me ≡ (keeping seats returned back, [])
   pub some : returned ≤ seats
   pub any : 0 < seats

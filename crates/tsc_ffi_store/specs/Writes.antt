@@ -11,7 +11,7 @@ use Rattle.tsc_cache.specs.CacheView.{CacheView, RepresentsState}
 use Rattle.tsc_shared.specs.Seats.{SeatView}
 use Rattle.timestamp_cache.specs.Clear.{IsClearOfAnswers, IsClearOfAllReads, AsksOfAllAt}
 use Rattle.timestamp_cache.specs.Earliest.{TellsEarliest}
-use Rattle.timestamp_cache.specs.SeatKinds.{shared_seat}
+use Rattle.timestamp_cache.specs.SeatKinds.{SeatKind, shared_seat}
 use Rattle.tsc_ffi_store.specs.declared.ctypes.TscSpan.{TscSpan}
 use Rattle.tsc_ffi_store.specs.declared.ctypes.TscValue.{TscValue}
 use Rattle.tsc_ffi_store.specs.declared.ctypes.WriteArgs.{WriteArgs}
@@ -87,11 +87,16 @@ pub record TellsWrite (cache : CacheView) (asked : AskedWrite) (told : Option Ti
   pub reads : IfSome told (λ t. (settings : Settings) (h : History)
       → RepresentsState cache settings (state_of settings h) → IsClearOfAllReads h spans asked.by t)
 
--- A seat asks of some spans, one after another, from when on a write is clear.
-pub record AsksWrite (old new : SeatView) (asked : AskedWrite) (told : Option Time) : Type 0 where
+-- A seat of some kind asks of some spans, one after another, from when on a write is clear.
+pub record AsksWriteOf {S : Type 0} (kind : SeatKind S) (old new : S) (asked : AskedWrite)
+    (told : Option Time) : Type 0 where
   pub spans : List Interval
   pub asked_for : AreSpans asked.keys asked.spans spans
-  pub asks : AsksOfAllAt shared_seat old new spans asked.by asked.time told
+  pub asks : AsksOfAllAt kind old new spans asked.by asked.time told
+
+-- a seat of a shared cache asks so
+abbrev pub AsksWrite : SeatView → SeatView → AskedWrite → Option Time → Type 0
+AsksWrite = AsksWriteOf shared_seat
 
 -- Why what a call says of a write was refused.
 abbrev pub RefusesWrite : Refusal → AskedWrite → Type 0

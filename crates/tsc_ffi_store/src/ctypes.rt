@@ -100,6 +100,13 @@ pub struct ConfigArgs<'a> {
     pub low_water: &'a TscTime,
 }
 
+/// Where stripes begin: bytes, and how many of them each bound has, one behind another.
+#[derive(Clone, Copy)]
+pub struct BoundsArgs<'a> {
+    pub keys: &'a [u8],
+    pub lens: &'a [usize],
+}
+
 /// A write of several spans, whose keys lie among some bytes: when it is to be made, and by whom.
 #[derive(Clone, Copy)]
 pub struct WriteArgs<'a> {

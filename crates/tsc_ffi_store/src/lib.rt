@@ -5,6 +5,7 @@
 //! It does all that is asked, or does nothing and returns a [`Refusal`] that says why.
 #![tactic(auto)]
 
+mod bounds;
 mod buffer;
 mod cache_calls;
 mod counts;
@@ -24,7 +25,7 @@ pub use buffer::{REFUSED, put};
 pub use cache_calls::{add_all_in, add_in, figures_in, floor_in, look_in};
 pub use counts::{CountedCache, CountedSeat, Counts};
 pub use ctypes::{
-    AddArgs, ApplyArgs, BatchArgs, ConfigArgs, SpanArgs, SummaryArgs, TscAdded, TscFigures,
+    AddArgs, ApplyArgs, BatchArgs, BoundsArgs, ConfigArgs, SpanArgs, SummaryArgs, TscAdded, TscFigures,
     TscMark, TscSpan, TscTime, TscValue, WriteArgs,
 };
 pub use decode::{Form, config};

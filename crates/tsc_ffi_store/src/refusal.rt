@@ -21,7 +21,7 @@ pub enum Refusal {
     TooLarge = 6,
     /// A key of a mark or a span does not lie among the bytes that came with it.
     Outside = 7,
-    /// There may be no pages of these sizes.
+    /// There may be no pages of these sizes: in stripes none into which some span does not fit.
     PageSize = 8,
     /// The least number of pages is out of range.
     MinPages = 9,
@@ -29,14 +29,14 @@ pub enum Refusal {
     Retention = 10,
     /// Memory was refused.
     NoMemory = 11,
-    /// The number of seats of a shared cache is not from 1 to 64.
+    /// The number of seats of a shared cache is not from 1 to 64, or one in stripes has none.
     Seats = 12,
     /// A seat of the shared cache is still out.
     StillOut = 13,
     /// Others were in the way at each try.
     Busy = 14,
-    /// The history of the shared cache has as many Adds as it may have, or a store has given as
-    /// many handles as there are.
+    /// The history of the shared cache has as many Adds as it may have, or a seat in stripes has
+    /// made 2^64 - 1, or a store has given as many handles as there are.
     Full = 15,
     /// A read of somebody else stands at the last time, so a write is clear at none.
     NoTime = 18,
@@ -50,6 +50,10 @@ pub enum Refusal {
     SummaryForm = 22,
     /// An Add at a seat may try 0 times, so it is never made.
     Tries = 23,
+    /// A cache may not have so many stripes.
+    Stripes = 24,
+    /// A bound of stripes is not above the one before it, or the first one is the empty key.
+    Bounds = 25,
 }
 
 impl Refusal {

@@ -3,17 +3,19 @@
 ghost use Rattle.std.specs.Prelude.{◌≡◌, ◌⊎◌, ◌++◌, ◌∷◌, ◌+◌, ◌-◌, ◌^◌, ◌<◌, ◌≤◌, IfOk, IfErr, OnErr, IfSome, IfNone, None, Some, [], map, length, slice_get, slice_set};
 ghost use Rattle.std.specs.Vec.{vec_len, vec_capacity};
 ghost use Rattle.tsc_shared.specs.Seats.{is_seat_count};
-ghost use Rattle.tsc_shared.specs.Answers.{ReadsFloor, ReadsFigures};
 ghost use Rattle.tsc_ffi_store.specs.Decode.{time_of, value_of, added_of, asked_span, asked_add, asked_batch};
 ghost use Rattle.tsc_ffi_store.specs.Store.{seat_of, seat_at, shared_of, RefusesHandles};
-ghost use Rattle.tsc_ffi_store.specs.SeatCalls.{unasked, OpensShared, RefusesSeats, RefusesRoom, AnswersSeatLookup, TellsFiguresAt, AnswersSeatAdd, AnswersSeatAddAll, AnswersTriedAdd, AnswersTriedAddAll, AnswersMove, IsCodeOf, Learns, LearnsAt, AnswersCloseSeat, EndsShared, AnswersCloseShared};
-ghost use Rattle.tsc_ffi_store.specs.Counts.{StaysWith, CountsSeatLookup, CountsSeatAdd};
+ghost use Rattle.tsc_ffi_store.specs.SeatCalls.{unasked, OpensShared, RefusesSeats, RefusesRoom, AnswersSeatLookup, AnswersSeatLowWater, AnswersSeatAdd, AnswersSeatAddAll, AnswersTriedAdd, AnswersTriedAddAll, AnswersMove, Learns, LearnsAt, AnswersCloseSeat, EndsShared, AnswersCloseShared};
+ghost use Rattle.tsc_ffi_store.specs.Counts.{CountsSeatLookup, CountsSeatAdd, CountsNothing};
+ghost use Rattle.tsc_ffi_store.specs.Kinds.{ByKind};
+ghost use Rattle.tsc_ffi_store.specs.StripedCalls.{OpensStriped, RefusesOpenStriped, AnswersStripedLookup, AnswersStripedLowWater, AnswersFigures, AnswersStripedAdd, AnswersStripedAddAll, AnswersStripedTriedAdd, AnswersStripedTriedAll};
 ghost use Rattle.tsc_ffi_store.specs.OpenHandles.{AreOpen, named_by};
 ghost use Rattle.tsc_ffi_store.specs.declared.store.Slot.TheVariants as kinds;
 
+use crate::bounds::{bounds, of_open_fault};
 use crate::cache_calls::count;
 use crate::counts::CountedSeat;
-use crate::ctypes::{AddArgs, BatchArgs, SpanArgs, TscAdded, TscFigures, TscTime, TscValue};
+use crate::ctypes::{AddArgs, BatchArgs, BoundsArgs, SpanArgs, TscAdded, TscFigures, TscTime, TscValue};
 use crate::decode::{
     added_span, looked_up_span, time, value, words_of, words_of_added, words_of_figures,
     words_of_time,
@@ -26,7 +28,6 @@ use crate::store::{Slot, Store};
 use std::alloc::Global;
 use std::mem::replace;
 use tsc_cache::Config;
-use tsc_shared::{AddFault, SeatFigures, TryAddFault};
 
 /// Whether a shared cache may have `seats` seats.
 pub fn may_seat(seats: u32) -> bool
@@ -72,8 +73,8 @@ impl Slot {
     {
         match replace(self, Slot::Closed) {
             Slot::Shared(owner) => match owner.close() {
-                Ok(ended) => {
-                    *length = ended.adds;
+                Ok(adds) => {
+                    *length = adds;
                     Ok(())
                 }
                 Err(owner) => {
@@ -127,6 +128,47 @@ impl Store {
                 Ok(handle)
             }
             Err(_) => Err(Refusal::NoMemory),
+        }
+    }
+
+    /// Opens a cache in stripes, and gives its handle. Its seats have the handles behind that.
+    pub fn open_striped(
+        &mut self,
+        alloc: Global,
+        config: Config,
+        args: &BoundsArgs<'_>,
+        seats: u32,
+    ) -> Result<u64, Refusal>
+        ensures opened { IfOk result (λ handle. OpensStriped self.old self.new handle config seats
+            args.now.keys.now args.now.lens.now) }
+        ensures refused { IfErr result (λ why. RefusesOpenStriped why self.old config seats
+            args.now.keys.now args.now.lens.now) }
+        ensures unchanged { OnErr result (self.new ≡ self.old) }
+    {
+        if seats == 0 {
+            return Err(Refusal::Seats);
+        }
+        let bounds = bounds(alloc, args)?;
+        if u64::MAX - self.next <= seats as u64 {
+            return Err(Refusal::Full);
+        }
+        match Owner::open_striped(alloc, config, bounds, seats) {
+            Ok((owner, handles)) => {
+                let many = handles.len() + 1;
+                if self.handles.reserve(many).is_err() || self.slots.reserve(many).is_err() {
+                    return Err(Refusal::NoMemory);
+                }
+                let handle = self.next;
+                put(
+                    &mut self.handles,
+                    &mut self.slots,
+                    &mut self.next,
+                    owner,
+                    handles,
+                );
+                Ok(handle)
+            }
+            Err(fault) => Err(of_open_fault(fault)),
         }
     }
 
@@ -265,12 +307,14 @@ pub fn look_at(
     seen: &mut u64,
     out: &mut TscValue,
 ) -> Result<(), Refusal>
-    ensures answers { CountsSeatLookup (AnswersSeatLookup (asked_span span.now) seen.new
-        (value_of out.new)) held.old held.new result }
+    ensures answers { CountsSeatLookup
+        (ByKind (AnswersSeatLookup (asked_span span.now) seen.new (value_of out.new))
+        (AnswersStripedLookup (asked_span span.now) seen.new (value_of out.new))) held.old
+        held.new result }
     ensures kept { OnErr result ((seen.new ≡ seen.old) × (out.new ≡ out.old)) }
 {
     let span = looked_up_span(span)?;
-    let answer = held.seat.get_max_ref(&span);
+    let answer = held.seat.get_max_ref(&span)?;
     *seen = answer.front;
     *out = words_of(answer.value);
     held.counts.answer();
@@ -278,40 +322,35 @@ pub fn look_at(
 }
 
 /// Writes where the floor of the cache of a seat stands, and how many Adds the seat has seen then.
-pub fn floor_at(held: &mut CountedSeat, seen: &mut u64, out: &mut TscTime)
-    ensures floor { ReadsFloor held.old.seat.seat held.new.seat.seat
-        (record { time = time_of out.new; front = seen.new }) }
-    ensures counts { held.new.counts ≡ held.old.counts }
-    ensures stays { StaysWith held.old held.new }
+pub fn floor_at(
+    held: &mut CountedSeat,
+    seen: &mut u64,
+    out: &mut TscTime,
+) -> Result<(), Refusal>
+    ensures answers { CountsNothing (ByKind (AnswersSeatLowWater seen.new (time_of out.new))
+        (AnswersStripedLowWater seen.new (time_of out.new))) held.old held.new result }
+    ensures kept { OnErr result ((seen.new ≡ seen.old) × (out.new ≡ out.old)) }
 {
-    let answer = held.seat.low_water();
+    let answer = held.seat.low_water()?;
     *seen = answer.front;
     *out = words_of_time(answer.time);
+    Ok(())
 }
 
 /// Writes what can be counted of the cache of a seat, and how many Adds the seat has seen then.
-pub fn figures_at(held: &mut CountedSeat, seen: &mut u64, out: &mut TscFigures)
-    ensures { TellsFiguresAt held.old held.new seen.new out.new }
+pub fn figures_at(
+    alloc: Global,
+    held: &mut CountedSeat,
+    seen: &mut u64,
+    out: &mut TscFigures,
+) -> Result<(), Refusal>
+    ensures answers { AnswersFigures seen.new out.new held.old held.new result }
+    ensures kept { OnErr result ((seen.new ≡ seen.old) × (out.new ≡ out.old)) }
 {
-    let (answer, memory) = figures_and_memory(&mut held.seat);
-    *seen = answer.front;
-    *out = words_of_figures(answer.figures, memory, held.counts);
-}
-
-/// The figures of the cache of a seat, and how much memory the copy takes that the seat reads. That
-/// is 0 where there are so many handles of the copy that the seat gets none.
-fn figures_and_memory(seat: &mut SeatHandle) -> (SeatFigures, u64)
-    ensures figures { ReadsFigures seat.old.seat seat.new.seat result.0 }
-    ensures same { seat.new.returns ≡ seat.old.returns }
-{
-    match seat.snapshot() {
-        Ok(snapshot) => {
-            let figures = snapshot.cache.figures();
-            let front = snapshot.front;
-            (SeatFigures { figures, front }, snapshot.cache.memory())
-        }
-        Err(_) => (seat.figures(), 0),
-    }
+    let answer = held.seat.figures(alloc)?;
+    *seen = answer.figures.front;
+    *out = words_of_figures(answer.figures.figures, answer.memory, held.counts);
+    Ok(())
 }
 
 /// Adds a span at a seat, and writes the place of that among all Adds, and what it did.
@@ -323,8 +362,10 @@ pub fn add_at(
     place: &mut u64,
     out: &mut TscAdded,
 ) -> Result<(), Refusal>
-    ensures answers { CountsSeatAdd (AnswersSeatAdd (asked_add args.now) tries place.new
-        (added_of out.new)) out.new.evicted held.old held.new result }
+    ensures answers { CountsSeatAdd
+        (ByKind (AnswersSeatAdd (asked_add args.now) tries place.new (added_of out.new))
+        (AnswersStripedAdd (asked_add args.now) tries place.new (added_of out.new)))
+        out.new.evicted held.old held.new result }
     ensures kept { OnErr result ((place.new ≡ place.old) × (out.new ≡ out.old)) }
 {
     let did = add_to_seat(alloc, &mut held.seat, args, tries, place, out);
@@ -341,8 +382,10 @@ fn add_to_seat(
     place: &mut u64,
     out: &mut TscAdded,
 ) -> Result<(), Refusal>
-    ensures answers { AnswersSeatAdd (asked_add args.now) tries place.new (added_of out.new)
-        seat.old.seat seat.new.seat result }
+    ensures answers { ByKind
+        (AnswersSeatAdd (asked_add args.now) tries place.new (added_of out.new))
+        (AnswersStripedAdd (asked_add args.now) tries place.new (added_of out.new)) seat.old.seat
+        seat.new.seat result }
     ensures same { seat.new.returns ≡ seat.old.returns }
     ensures kept { OnErr result ((place.new ≡ place.old) × (out.new ≡ out.old)) }
 {
@@ -361,17 +404,18 @@ fn try_add_to_seat(
     place: &mut u64,
     out: &mut TscAdded,
 ) -> Result<(), Refusal>
-    ensures answers { AnswersTriedAdd (asked_add args.now) place.new (added_of out.new)
-        seat.old.seat seat.new.seat result }
+    ensures answers { ByKind (AnswersTriedAdd (asked_add args.now) place.new (added_of out.new))
+        (AnswersStripedTriedAdd (asked_add args.now) place.new (added_of out.new)) seat.old.seat
+        seat.new.seat result }
     ensures same { seat.new.returns ≡ seat.old.returns }
     ensures kept { OnErr result ((place.new ≡ place.old) × (out.new ≡ out.old)) }
 {
     let value = value(args.value)?;
     let moment = time(args.moment)?;
     let span = added_span(alloc, &args.span)?;
-    let receipt = seat.try_add(&span, value, moment, tries)?;
-    *place = receipt.place;
-    *out = words_of_added(receipt.added);
+    let placed = seat.try_add(&span, value, moment, tries)?;
+    *place = placed.place;
+    *out = words_of_added(placed.added);
     Ok(())
 }
 
@@ -385,8 +429,10 @@ pub fn add_all_at(
     place: &mut u64,
     out: &mut TscAdded,
 ) -> Result<(), Refusal>
-    ensures answers { CountsSeatAdd (AnswersSeatAddAll (asked_batch args.now) tries place.new
-        (added_of out.new)) out.new.evicted held.old held.new result }
+    ensures answers { CountsSeatAdd
+        (ByKind (AnswersSeatAddAll (asked_batch args.now) tries place.new (added_of out.new))
+        (AnswersStripedAddAll (asked_batch args.now) tries place.new (added_of out.new)))
+        out.new.evicted held.old held.new result }
     ensures kept { OnErr result ((place.new ≡ place.old) × (out.new ≡ out.old)) }
 {
     let did = add_all_to_seat(alloc, &mut held.seat, args, tries, place, out);
@@ -403,7 +449,9 @@ fn add_all_to_seat(
     place: &mut u64,
     out: &mut TscAdded,
 ) -> Result<(), Refusal>
-    ensures answers { AnswersSeatAddAll (asked_batch args.now) tries place.new (added_of out.new)
+    ensures answers { ByKind
+        (AnswersSeatAddAll (asked_batch args.now) tries place.new (added_of out.new))
+        (AnswersStripedAddAll (asked_batch args.now) tries place.new (added_of out.new))
         seat.old.seat seat.new.seat result }
     ensures same { seat.new.returns ≡ seat.old.returns }
     ensures kept { OnErr result ((place.new ≡ place.old) × (out.new ≡ out.old)) }
@@ -423,29 +471,17 @@ fn try_add_all_to_seat(
     place: &mut u64,
     out: &mut TscAdded,
 ) -> Result<(), Refusal>
-    ensures answers { AnswersTriedAddAll (asked_batch args.now) place.new (added_of out.new)
-        seat.old.seat seat.new.seat result }
+    ensures answers { ByKind
+        (AnswersTriedAddAll (asked_batch args.now) place.new (added_of out.new))
+        (AnswersStripedTriedAll (asked_batch args.now) place.new (added_of out.new)) seat.old.seat
+        seat.new.seat result }
     ensures same { seat.new.returns ≡ seat.old.returns }
     ensures kept { OnErr result ((place.new ≡ place.old) × (out.new ≡ out.old)) }
 {
     let moment = time(args.moment)?;
     let marks = marks(alloc, args.keys, args.marks)?;
-    let receipt = seat.try_add_all(&marks, moment, tries)?;
-    *place = receipt.place;
-    *out = words_of_added(receipt.added);
+    let placed = seat.try_add_all(&marks, moment, tries)?;
+    *place = placed.place;
+    *out = words_of_added(placed.added);
     Ok(())
-}
-
-/// Why an Add at a seat was refused.
-impl From<TryAddFault> for Refusal {
-    ghost from_gives = { λ fault why. IsCodeOf fault why };
-
-    fn from(fault: TryAddFault) -> Refusal {
-        match fault {
-            TryAddFault::DeskBusy | TryAddFault::SeatInside => Refusal::Busy,
-            TryAddFault::Refused(AddFault::HistoryFull(_)) => Refusal::Full,
-            TryAddFault::Refused(AddFault::NoMemory) => Refusal::NoMemory,
-            TryAddFault::Refused(AddFault::TooLarge) => Refusal::TooLarge,
-        }
-    }
 }

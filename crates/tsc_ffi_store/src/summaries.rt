@@ -4,9 +4,11 @@
 ghost use Rattle.std.specs.Prelude.{◌≡◌, ◌⊎◌, IfOk, IfErr, OnErr, Ok};
 ghost use Rattle.tsc_ffi_store.specs.Decode.{added_of};
 ghost use Rattle.timestamp_cache.specs.SummaryReading.{summary_of};
-ghost use Rattle.tsc_ffi_store.specs.Summaries.{asked_summary, asked_apply, TellsSummary, RefusesSummary, AnswersSummary, PutsOr, PutsOrKeeps, TellsSeatSummary, AnswersSeatSummary, RefusesBytes, AnswersApply, IsFaultOf};
+ghost use Rattle.tsc_ffi_store.specs.Summaries.{asked_summary, asked_apply, TellsSummary, RefusesSummary, AnswersSummary, PutsOr, PutsOrKeeps, AnswersSeatSummary, RefusesBytes, AnswersApply, IsFaultOf};
 ghost use Rattle.tsc_ffi_store.specs.Counts.{CountsAdd, CountsNothing};
-ghost use Rattle.tsc_shared.specs.Answers.{HasLookedOn};
+ghost use Rattle.tsc_ffi_store.specs.Kinds.{ByKind};
+ghost use Rattle.tsc_ffi_store.specs.StripedCalls.{AnswersStripedSummary};
+ghost use Rattle.tsc_ffi_store.specs.SummarySteps.{TellsBytes, TellsStripedBytes};
 
 use crate::buffer::put;
 use crate::cache_calls::{count, of_cache_fault};
@@ -47,8 +49,10 @@ pub fn put_at(
     out: &mut [u8],
     len: &mut usize,
 ) -> u32
-    ensures { PutsOrKeeps (CountsNothing (AnswersSeatSummary (asked_summary args.now) seen.new)
-        held.old held.new) (seen.new ≡ seen.old) result out.old out.new len.old len.new }
+    ensures { PutsOrKeeps (CountsNothing
+        (ByKind (AnswersSeatSummary (asked_summary args.now) seen.new)
+        (AnswersStripedSummary (asked_summary args.now) seen.new)) held.old held.new)
+        (seen.new ≡ seen.old) result out.old out.new len.old len.new }
 {
     match bytes_at(&mut held.seat, alloc, args) {
         Ok(told) => {
@@ -61,9 +65,9 @@ pub fn put_at(
 
 /// The bytes of a summary at a seat, and how many Adds the seat has seen then.
 #[derive(Drop)]
-struct SeatBytes {
-    bytes: Vec<u8>,
-    front: u64,
+pub(crate) struct SeatBytes {
+    pub(crate) bytes: Vec<u8>,
+    pub(crate) front: u64,
 }
 
 /// The bytes of a summary at a seat.
@@ -72,17 +76,12 @@ fn bytes_at(
     alloc: Global,
     args: &SummaryArgs<'_>,
 ) -> Result<SeatBytes, Refusal>
-    ensures told { IfOk result (λ told. TellsSeatSummary seat.old.seat seat.new.seat
-        (asked_summary args.now) told.front told.bytes.items) }
-    ensures refused { IfErr result (λ why. RefusesSummary why (asked_summary args.now)) }
-    ensures looked { (seat.new.seat ≡ seat.old.seat) ⊎
-        HasLookedOn seat.old.seat seat.new.seat }
+    ensures answers { ByKind (TellsBytes (asked_summary args.now))
+        (TellsStripedBytes (asked_summary args.now)) seat.old.seat seat.new.seat result }
     ensures same { seat.new.returns ≡ seat.old.returns }
 {
     let span = added_span(alloc, &args.span)?;
-    let Ok(told) = seat.summary(alloc, &span, args.most) else {
-        return Err(Refusal::NoMemory);
-    };
+    let told = seat.summary(alloc, &span, args.most)?;
     match told.summary.to_bytes() {
         Ok(bytes) => Ok(SeatBytes {
             bytes,

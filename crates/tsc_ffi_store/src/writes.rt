@@ -3,8 +3,10 @@
 ghost use Rattle.std.specs.Prelude.{◌≡◌, ◌↔◌, IfOk, IfErr, OnErr, IsTrue, Some};
 ghost use Rattle.tsc_ffi_store.specs.Decode.{time_of};
 ghost use Rattle.tsc_ffi_store.specs.Counts.{CountsLookup, CountsSeatLookup};
-ghost use Rattle.tsc_ffi_store.specs.Writes.{asked_write, IsSpan, AllSpans, RefusesSpan, RefusesSpans, RefusesWrite, TellsWrite, AsksWrite, AnswersWrite, AnswersSeatWrite, AnswersMayWrite, AnswersSeatMayWrite};
-ghost use Rattle.tsc_ffi_store.specs.WriteSteps.{TellsLater, AsksLater};
+ghost use Rattle.tsc_ffi_store.specs.Writes.{asked_write, IsSpan, AllSpans, RefusesSpan, RefusesSpans, RefusesWrite, TellsWrite, AnswersWrite, AnswersSeatWrite, AnswersMayWrite, AnswersSeatMayWrite};
+ghost use Rattle.tsc_ffi_store.specs.WriteSteps.{TellsLater, AsksLater, AsksLaterStriped, AsksOfWrite, AsksOfWriteStriped};
+ghost use Rattle.tsc_ffi_store.specs.Kinds.{ByKind};
+ghost use Rattle.tsc_ffi_store.specs.StripedCalls.{AnswersStripedWrite, AnswersStripedMayWrite};
 
 use crate::counts::{CountedCache, CountedSeat};
 use crate::ctypes::{SpanArgs, TscSpan, TscTime, WriteArgs};
@@ -45,8 +47,10 @@ pub fn write_at(
     seen: &mut u64,
     out: &mut TscTime,
 ) -> Result<(), Refusal>
-    ensures answers { CountsSeatLookup (AnswersSeatWrite (asked_write args.now) seen.new
-        (time_of out.new)) held.old held.new result }
+    ensures answers { CountsSeatLookup
+        (ByKind (AnswersSeatWrite (asked_write args.now) seen.new (time_of out.new))
+        (AnswersStripedWrite (asked_write args.now) seen.new (time_of out.new))) held.old held.new
+        result }
     ensures kept { OnErr result ((seen.new ≡ seen.old) × (out.new ≡ out.old)) }
 {
     let Some(time) = earliest_at(&mut held.seat, args)? else {
@@ -79,8 +83,10 @@ pub fn may_at(
     seen: &mut u64,
     out: &mut bool,
 ) -> Result<(), Refusal>
-    ensures answers { CountsSeatLookup (AnswersSeatMayWrite (asked_write args.now) seen.new out.new)
-        held.old held.new result }
+    ensures answers { CountsSeatLookup
+        (ByKind (AnswersSeatMayWrite (asked_write args.now) seen.new out.new)
+        (AnswersStripedMayWrite (asked_write args.now) seen.new out.new)) held.old held.new
+        result }
     ensures kept { OnErr result ((seen.new ≡ seen.old) × (out.new ≡ out.old)) }
 {
     let at = value_time(args.write)?;
@@ -118,10 +124,8 @@ fn earliest_in(cache: &Cache, args: &WriteArgs<'_>) -> Result<Option<Timestamp>,
 /// The earliest time at which a write is clear of what a seat answers to some spans, one after
 /// another. All of them are read before the first lookup, so that a refused write has seen nothing.
 fn earliest_at(seat: &mut SeatHandle, args: &WriteArgs<'_>) -> Result<Option<Timestamp>, Refusal>
-    ensures told { IfOk result
-        (λ told. AsksWrite seat.old.seat seat.new.seat (asked_write args.now) told) }
-    ensures refused { IfErr result (λ why. RefusesWrite why (asked_write args.now)) }
-    ensures unchanged { OnErr result (seat.new ≡ seat.old) }
+    ensures answers { ByKind (AsksOfWrite (asked_write args.now))
+        (AsksOfWriteStriped (asked_write args.now)) seat.old.seat seat.new.seat result }
     ensures same { seat.new.returns ≡ seat.old.returns }
 {
     let _seen = seat.seen();
@@ -132,7 +136,7 @@ fn earliest_at(seat: &mut SeatHandle, args: &WriteArgs<'_>) -> Result<Option<Tim
         let Ok(span) = span(args.keys, words) else {
             unreachable!()
         };
-        time = later_at(seat, &span, time, by);
+        time = later_at(seat, &span, time, by)?;
     }
     Ok(time)
 }
@@ -169,13 +173,17 @@ fn later_at(
     span: &SpanRef<'_>,
     time: Option<Timestamp>,
     by: Uuid,
-) -> Option<Timestamp>
-    ensures told { AsksLater seat.old.seat seat.new.seat span.now by time result }
+) -> Result<Option<Timestamp>, Refusal>
+    ensures told { ByKind (AsksLater span.now by time) (AsksLaterStriped span.now by time)
+        seat.old.seat seat.new.seat result }
     ensures same { seat.new.returns ≡ seat.old.returns }
 {
     match time {
-        Some(time) => earliest_clear_of(seat.get_max_ref(span).value, time, by),
-        None => None,
+        Some(time) => {
+            let answer = seat.get_max_ref(span)?;
+            Ok(earliest_clear_of(answer.value, time, by))
+        }
+        None => Ok(None),
     }
 }
 

@@ -25,27 +25,27 @@ TWICE = {"as they are": [], "under sanitizers": SANITIZE}
 # The programs in C: a source, what it is about, its flags, and how many cases pass today at the
 # least, plainly and under sanitizers.
 C_PROGRAMS = [
-    ("test_tscache.c", "", WRAP, 792, 790),
-    ("test_seats.c", "threads, ", THREADS, 131, 131),
+    ("test_tscache.c", "", WRAP, 794, 792),
+    ("test_seats.c", "threads, ", THREADS, 180, 180),
     ("test_texts.c", "texts, ", [EXAMPLES, *WRAP], 68, 68),
     ("test_leases.c", "leases, ", WRAP, 99, 99),
-    ("test_rows.c", "rows, ", [ROWS], 2152, 2152),
+    ("test_rows.c", "rows, ", [ROWS], 2348, 2348),
     ("store.c", "a store with threads, ", THREADS, 3, 3),
 ]
 # Those that run once, with the form of the library.
 C_ONCE = [
-    ("test_memory.c", "memory", WRAP, 33, ARCHIVE),
-    ("test_rows.c", "rows, by calls that test for null", [ROWS, "-DCHECKED"], 2152, ARCHIVE),
-    ("test_rows.c", "rows, over the shared library", [ROWS], 2152, SHARED),
-    ("test_seats.c", "threads, over the shared library", THREADS, 131, SHARED),
-    ("test_leaks.c", "what is left behind", [], 20, ARCHIVE),
+    ("test_memory.c", "memory", WRAP, 47, ARCHIVE),
+    ("test_rows.c", "rows, by calls that test for null", [ROWS, "-DCHECKED"], 2348, ARCHIVE),
+    ("test_rows.c", "rows, over the shared library", [ROWS], 2348, SHARED),
+    ("test_seats.c", "threads, over the shared library", THREADS, 180, SHARED),
+    ("test_leaks.c", "what is left behind", [], 24, ARCHIVE),
 ]
 STRICT_CPP = ["-Wall", "-Wextra", "-Wpedantic", "-Werror", "-Wold-style-cast"]
 # The programs in C++: what each is about, and how many cases pass today at the least.
-CPP_PROGRAMS = {"test_rows.cc": ("rows", 2152), "test_owners.cc": ("owners", 475), "store.cc": ("a store with threads", 2)}
+CPP_PROGRAMS = {"test_rows.cc": ("rows", 2348), "test_owners.cc": ("owners", 503), "store.cc": ("a store with threads", 2)}
 LEAST_OF_RUST, LEAST_OF_GO = 172, 196
 # How many calls of the header have an answer that must be looked at.
-ANSWERS = 36
+ANSWERS = 38
 CPP = """#include "tscache.h"
 int main() {
     tsc_store p = TSC_STORE_INIT;
@@ -79,6 +79,7 @@ void drops(Cache &cache, Seat &seat, Shared &shared, Span span, Value read, Time
     shared.close();
     Cache::open({});
     Shared::open({}, 1);
+    Shared::open_striped({}, {}, 1);
     auto unread = cache.add(span, read, now);
     auto unasked = seat.may_write(span, now, read.owner);
 }

@@ -1,36 +1,33 @@
 //! A seat whose holder needs to know no other.
-ghost use Rattle.std.specs.Prelude.{◌≡◌, ◌<◌, ◌+◌, [], IfOk, Some, length, map};
-ghost use Rattle.std.specs.Arc.{arc_value};
-ghost use Rattle.tsc_cache.specs.Settings.{fits};
-ghost use Rattle.tsc_cache.specs.Batch.{all_fit};
-ghost use Rattle.tsc_shared.specs.Seats.{IsSeat, new_seats};
-ghost use Rattle.tsc_shared.specs.Answers.{AnswersTriedAdd, one_mark, AnswersLookup, IsAbove, TellsNoPart, ReadsFloor, ReadsFigures, HasLookedOn, TakesSnapshot};
-ghost use Rattle.timestamp_cache.specs.SeatSummaries.{SummarizesAt};
-ghost use Rattle.tsc_ffi_store.specs.Owners.{HandleView, handle_of};
-ghost use Rattle.tsc_ffi_store.specs.ReturnSlots.{came};
-ghost use Rattle.tsc_ffi_store.specs.Seating.{Sits, Deals, IsKeeper};
-
+use crate::refusal::Refusal;
+use crate::seats::kinds::{AnyCache, AnySeat};
 use crate::seats::owner::SharedHandle;
-use crate::seats::return_slots::{SlotToken, next_token, return_seat};
+use crate::seats::placed::{Counted, Placed};
+use crate::seats::return_slots::{SlotToken, return_seat};
+use crate::seats::{shared_calls, striped_calls};
 use std::alloc::Global;
 use std::marker::Model;
 use std::sync::Arc;
-use timestamp_cache::{SeatSummary, summary_at};
+use timestamp_cache::SeatSummary;
 use tsc_cache::Mark;
-use tsc_shared::{Answer, LowWater, Receipt, Seat, SeatFigures, Snapshot, TryAddFault};
+use tsc_shared::{Answer, LowWater};
 use tsc_span::{Span, SpanRef};
-use tsc_time::{NoMemory, Timestamp, Value};
+use tsc_time::{Timestamp, Value};
 
-/// A seat of a shared cache, with all that it takes to add and to look there. It may go to another
-/// thread. [`close`](SeatHandle::close) returns it.
+/// A seat of a cache that threads share, with all that it takes to add and to look there. It may go
+/// to another thread. [`close`](SeatHandle::close) returns it.
 #[derive(Drop)]
 pub struct SeatHandle {
-    shared: Arc<SharedHandle>,
-    seat: Seat,
-    slot: SlotToken,
+    pub(crate) shared: Arc<SharedHandle>,
+    pub(crate) seat: AnySeat,
+    pub(crate) slot: SlotToken,
 }
 
 impl Model for SeatHandle {
+    ghost use Rattle.std.specs.Arc.{arc_value};
+    ghost use Rattle.tsc_ffi_store.specs.Owners.{HandleView, handle_of};
+    ghost use Rattle.tsc_ffi_store.specs.Seating.{Sits};
+
     ghost Value = { HandleView };
 
     ghost view = { λ c. handle_of (arc_value c.shared).table c.seat };
@@ -39,111 +36,191 @@ impl Model for SeatHandle {
 }
 
 impl SeatHandle {
-    /// How many Adds the seat has seen, of whichever seats.
+    ghost use Rattle.std.specs.Prelude.{◌≡◌, []};
+    ghost use Rattle.tsc_cache.specs.Settings.{fits};
+    ghost use Rattle.tsc_cache.specs.Batch.{all_fit};
+    ghost use Rattle.tsc_ffi_store.specs.Kinds.{ByKind, front_of, IsAnySeat};
+    ghost use Rattle.tsc_ffi_store.specs.ReturnSlots.{came};
+    ghost use Rattle.tsc_ffi_store.specs.Asking.{LooksShared, LooksStriped, TellsFloor, TellsFloorStriped, CountsShared, CountsStriped, SumsUpShared, SumsUpStriped, AddsShared, AddsStriped, one_mark};
+
+    /// How many Adds the seat counts: at a shared cache all that it has seen, of whichever seats,
+    /// and in stripes its own.
     pub fn seen(&self) -> u64
-        ensures value { result ≡ length self.now.seat.seen }
-        ensures seat { IsSeat self.now.seat }
+        ensures value { result ≡ front_of self.now.seat }
+        ensures seat { IsAnySeat self.now.seat }
     {
-        self.seat.seen()
+        match &self.seat {
+            AnySeat::Shared(seat) => seat.seen(),
+            AnySeat::Striped(seat) => {
+                let _number = seat.number();
+                seat.count()
+            }
+        }
     }
 
     /// The latest time on a span over keys that lie elsewhere, as
-    /// [`SharedCache::get_max_ref`](tsc_shared::SharedCache::get_max_ref) answers.
-    pub fn get_max_ref(&mut self, span: &SpanRef<'_>) -> Answer
-        ensures looked { AnswersLookup self.old.seat self.new.seat span.now result }
-        ensures above { IsAbove self.new.seat span.now result.value }
-        ensures whole { TellsNoPart self.new.seat span.now result.value }
+    /// [`SharedCache::get_max_ref`](tsc_shared::SharedCache::get_max_ref) answers, or
+    /// [`StripedCache::try_get_max_ref`](tsc_striped::StripedCache::try_get_max_ref).
+    pub fn get_max_ref(&mut self, span: &SpanRef<'_>) -> Result<Answer, Refusal>
+        ensures looked { ByKind (LooksShared span.now) (LooksStriped span.now) self.old.seat
+            self.new.seat result }
         ensures same { self.new.returns ≡ self.old.returns }
     {
-        match self.shared.cache.get_max_ref(&mut self.seat, span) {
-            Ok(answer) => answer,
-            Err(_) => unreachable!(),
+        match &mut self.seat {
+            AnySeat::Shared(seat) => {
+                let AnyCache::Shared(cache) = &self.shared.cache else {
+                    unreachable!()
+                };
+                match cache.get_max_ref(seat, span) {
+                    Ok(answer) => Ok(answer),
+                    Err(_) => unreachable!(),
+                }
+            }
+            AnySeat::Striped(seat) => {
+                let AnyCache::Striped(cache) = &self.shared.cache else {
+                    unreachable!()
+                };
+                striped_calls::look(cache, seat, span)
+            }
         }
     }
 
-    /// Where the floor stands, as [`SharedCache::low_water`](tsc_shared::SharedCache::low_water)
-    /// answers.
-    pub fn low_water(&mut self) -> LowWater
-        ensures floor { ReadsFloor self.old.seat self.new.seat result }
+    /// Where the floor stands, and in stripes the earliest floor.
+    pub fn low_water(&mut self) -> Result<LowWater, Refusal>
+        ensures floor { ByKind TellsFloor TellsFloorStriped self.old.seat self.new.seat result }
         ensures same { self.new.returns ≡ self.old.returns }
     {
-        match self.shared.cache.low_water(&mut self.seat) {
-            Ok(answer) => answer,
-            Err(_) => unreachable!(),
+        match &mut self.seat {
+            AnySeat::Shared(seat) => {
+                let AnyCache::Shared(cache) = &self.shared.cache else {
+                    unreachable!()
+                };
+                match cache.low_water(seat) {
+                    Ok(answer) => Ok(answer),
+                    Err(_) => unreachable!(),
+                }
+            }
+            AnySeat::Striped(seat) => {
+                let AnyCache::Striped(cache) = &self.shared.cache else {
+                    unreachable!()
+                };
+                striped_calls::floor(cache, seat)
+            }
         }
     }
 
-    /// What can be counted of the cache, as
-    /// [`SharedCache::figures`](tsc_shared::SharedCache::figures) answers.
-    pub fn figures(&mut self) -> SeatFigures
-        ensures figures { ReadsFigures self.old.seat self.new.seat result }
+    /// What can be counted of the cache, and how much memory the copy takes that the seat reads;
+    /// in stripes of all of them together.
+    pub fn figures(&mut self, alloc: Global) -> Result<Counted, Refusal>
+        ensures figures { ByKind CountsShared CountsStriped self.old.seat self.new.seat result }
         ensures same { self.new.returns ≡ self.old.returns }
     {
-        match self.shared.cache.figures(&mut self.seat) {
-            Ok(answer) => answer,
-            Err(_) => unreachable!(),
+        match &mut self.seat {
+            AnySeat::Shared(seat) => {
+                let AnyCache::Shared(cache) = &self.shared.cache else {
+                    unreachable!()
+                };
+                Ok(shared_calls::figures(cache, seat))
+            }
+            AnySeat::Striped(seat) => {
+                let AnyCache::Striped(cache) = &self.shared.cache else {
+                    unreachable!()
+                };
+                striped_calls::figures(alloc, cache, seat)
+            }
         }
     }
 
-    /// The cache as the seat sees it then, as
-    /// [`SharedCache::snapshot`](tsc_shared::SharedCache::snapshot) takes it.
-    pub fn snapshot(&mut self) -> Result<Snapshot, NoMemory>
-        ensures taken { IfOk result
-            (λ snapshot. TakesSnapshot self.old.seat self.new.seat snapshot) }
-        ensures looked { HasLookedOn self.old.seat self.new.seat }
-        ensures same { self.new.returns ≡ self.old.returns }
-    {
-        self.shared.cache.snapshot(&mut self.seat)
-    }
-
-    /// What was read of a span, as [`summary_at`] tells it.
+    /// What was read of a span, as [`summary_at`](timestamp_cache::summary_at) tells it, or
+    /// [`try_summary_in_stripes`](tsc_striped_leases::try_summary_in_stripes) of all stripes as
+    /// one.
     pub fn summary(
         &mut self,
         alloc: Global,
         span: &Span,
         most: usize,
-    ) -> Result<SeatSummary, NoMemory>
-        ensures told { IfOk result
-            (λ told. SummarizesAt self.old.seat self.new.seat span.now most told) }
-        ensures looked { HasLookedOn self.old.seat self.new.seat }
+    ) -> Result<SeatSummary, Refusal>
+        ensures told { ByKind (SumsUpShared span.now most) (SumsUpStriped span.now most)
+            self.old.seat self.new.seat result }
         ensures same { self.new.returns ≡ self.old.returns }
     {
-        summary_at(alloc, &self.shared.cache, &mut self.seat, span, most)
+        match &mut self.seat {
+            AnySeat::Shared(seat) => {
+                let AnyCache::Shared(cache) = &self.shared.cache else {
+                    unreachable!()
+                };
+                shared_calls::summary(alloc, cache, seat, span, most)
+            }
+            AnySeat::Striped(seat) => {
+                let AnyCache::Striped(cache) = &self.shared.cache else {
+                    unreachable!()
+                };
+                striped_calls::summary(alloc, cache, seat, span, most)
+            }
+        }
     }
 
     /// Adds a span with its value, as [`SharedCache::try_add`](tsc_shared::SharedCache::try_add)
-    /// does.
+    /// does, or [`StripedCache::try_add`](tsc_striped::StripedCache::try_add).
     pub fn try_add(
         &mut self,
         span: &Span,
         value: Value,
         now: Timestamp,
         tries: u32,
-    ) -> Result<Receipt, TryAddFault>
-        ensures answers { AnswersTriedAdd self.old.seat self.new.seat (one_mark span.now value) now
-            (fits self.old.seat.cache.config span.now) (Some tries) result }
+    ) -> Result<Placed, Refusal>
+        ensures answers { ByKind
+            (λ old new did. AddsShared (one_mark span.now value) now
+            (fits old.cache.config span.now) tries old new did)
+            (AddsStriped (one_mark span.now value) now tries) self.old.seat self.new.seat result }
         ensures same { self.new.returns ≡ self.old.returns }
     {
-        self.shared
-            .cache
-            .try_add(&mut self.seat, span, value, now, tries)
+        match &mut self.seat {
+            AnySeat::Shared(seat) => {
+                let AnyCache::Shared(cache) = &self.shared.cache else {
+                    unreachable!()
+                };
+                shared_calls::placed(cache.try_add(seat, span, value, now, tries))
+            }
+            AnySeat::Striped(seat) => {
+                let AnyCache::Striped(cache) = &self.shared.cache else {
+                    unreachable!()
+                };
+                let place = seat.count();
+                striped_calls::placed(cache.try_add(seat, span, value, now, tries), place)
+            }
+        }
     }
 
     /// Adds several marks as one Add, as
-    /// [`SharedCache::try_add_all`](tsc_shared::SharedCache::try_add_all) does.
+    /// [`SharedCache::try_add_all`](tsc_shared::SharedCache::try_add_all) does, or
+    /// [`StripedCache::try_add_all`](tsc_striped::StripedCache::try_add_all).
     pub fn try_add_all(
         &mut self,
         marks: &[Mark],
         now: Timestamp,
         tries: u32,
-    ) -> Result<Receipt, TryAddFault>
-        ensures answers { AnswersTriedAdd self.old.seat self.new.seat marks.now now
-            (all_fit self.old.seat.cache.config marks.now) (Some tries) result }
+    ) -> Result<Placed, Refusal>
+        ensures answers { ByKind
+            (λ old new did. AddsShared marks.now now (all_fit old.cache.config marks.now) tries old
+            new did) (AddsStriped marks.now now tries) self.old.seat self.new.seat result }
         ensures same { self.new.returns ≡ self.old.returns }
     {
-        self.shared
-            .cache
-            .try_add_all(&mut self.seat, marks, now, tries)
+        match &mut self.seat {
+            AnySeat::Shared(seat) => {
+                let AnyCache::Shared(cache) = &self.shared.cache else {
+                    unreachable!()
+                };
+                shared_calls::placed(cache.try_add_all(seat, marks, now, tries))
+            }
+            AnySeat::Striped(seat) => {
+                let AnyCache::Striped(cache) = &self.shared.cache else {
+                    unreachable!()
+                };
+                let place = seat.count();
+                striped_calls::placed(cache.try_add_all(seat, marks, now, tries), place)
+            }
+        }
     }
 
     /// Returns the seat, and gives the token that knows of it. The cache can be closed once all its
@@ -157,52 +234,4 @@ impl SeatHandle {
         let SeatHandle { shared, seat, slot } = self;
         return_seat(&shared.slots.shared, slot, seat)
     }
-}
-
-/// A handle for each of the seats of a cache, in their order.
-pub(crate) fn seat_all(
-    alloc: Global,
-    shared: &Arc<SharedHandle>,
-    dealer: &mut SlotToken,
-    all: Vec<Seat>,
-    seats: u32,
-) -> Result<Vec<SeatHandle>, NoMemory>
-    requires seats { seats ≡ (arc_value shared.now).cache.seats }
-    requires any { 0 < seats }
-    requires all { all.items ≡ new_seats (arc_value shared.now).cache 0 seats }
-    requires dealer { Deals (arc_value shared.now) dealer.old.table_id dealer.old.me 0 }
-    ensures keeper { IfOk result
-        (λ _. IsKeeper (arc_value shared.now) dealer.new.table_id dealer.new.me seats 0 []) }
-    ensures handles { IfOk result
-        (λ handles. handles.items ≡ map (handle_of (arc_value shared.now).table)
-        (new_seats (arc_value shared.now).cache 0 seats)) }
-{
-    let mut handles = Vec::with_capacity(alloc, seats as usize)?;
-    for seat in all {
-        let handle = seat_one(shared, dealer, seat)?;
-        handles.push(handle)?;
-    }
-    Ok(handles)
-}
-
-/// A handle for a seat, whose token is the next one.
-fn seat_one(
-    shared: &Arc<SharedHandle>,
-    dealer: &mut SlotToken,
-    seat: Seat,
-) -> Result<SeatHandle, NoMemory>
-    requires cache { seat.cache ≡ (arc_value shared.now).cache }
-    requires dealer { Deals (arc_value shared.now) dealer.old.table_id dealer.old.me seat.number }
-    requires low { seat.number < (arc_value shared.now).cache.seats }
-    ensures dealt { IfOk result (λ _. Deals (arc_value shared.now) dealer.new.table_id dealer.new.me
-        (seat.number + 1)) }
-    ensures handle { IfOk result (λ handle. handle ≡ handle_of (arc_value shared.now).table seat) }
-{
-    let clone = Arc::try_clone(shared)?;
-    let slot = next_token(&shared.slots.shared, dealer);
-    Ok(SeatHandle {
-        shared: clone,
-        seat,
-        slot,
-    })
 }

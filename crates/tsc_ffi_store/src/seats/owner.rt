@@ -1,12 +1,17 @@
-//! A shared cache as its seats share it, and its owner.
-ghost use Rattle.std.specs.Prelude.{◌≡◌, [], IfOk, IfErr};
-ghost use Rattle.std.specs.Arc.{arc_value};
+//! A cache as its seats share it, and its owner.
+ghost use Rattle.std.specs.Prelude.{◌≡◌, [], IfOk, IfErr, ◌<◌};
 ghost use Rattle.std.specs.Vec.{vec_capacity};
 ghost use Rattle.tsc_shared.specs.Answers.{open_fault};
-ghost use Rattle.tsc_ffi_store.specs.Owners.{OwnerView, OpensAt, LearnsOf, EndsWith};
-ghost use Rattle.tsc_ffi_store.specs.Seating.{SharedHandleView, IsSized, IsKeeper, IsRoomFor};
+ghost use Rattle.tsc_striped.specs.Answers.{open_fault as striped_fault};
+ghost use Rattle.tsc_ffi_store.specs.Owners.{OpensAt, OpensInStripes, LearnsOf, EndsSo};
+ghost use Rattle.tsc_ffi_store.specs.Seating.{IsKeeper, IsRoomFor};
+ghost use Rattle.tsc_ffi_store.specs.Endings.{CanEnd};
 
-use crate::seats::handle::{SeatHandle, seat_all};
+use crate::seats::closing::end;
+use crate::seats::ending::Ending;
+use crate::seats::handle::SeatHandle;
+use crate::seats::kinds::{AnyCache, AnySeat};
+use crate::seats::opening::{any_seats, deal_all, seat_all};
 use crate::seats::return_slots::{
     ReturnSlots, SlotToken, are_all_returned, collect_seats, learn_back, new_return_slots,
 };
@@ -14,36 +19,49 @@ use std::alloc::Global;
 use std::marker::Model;
 use std::sync::Arc;
 use tsc_cache::Config;
-use tsc_shared::{Closed, OpenFault, Seat, SharedCache};
+use tsc_shared::{OpenFault, SharedCache};
+use tsc_span::Key;
+use tsc_striped::{OpenFault as StripedFault, StripedCache};
 use tsc_time::NoMemory;
 
-/// A shared cache, and the slots in which its seats are returned.
+/// A cache that threads share, and the slots in which its seats are returned.
 #[derive(Drop)]
 pub(crate) struct SharedHandle {
-    pub(crate) cache: SharedCache,
+    pub(crate) cache: AnyCache,
     pub(crate) slots: ReturnSlots,
 }
 
 impl Model for SharedHandle {
+    ghost use Rattle.std.specs.Prelude.{◌≡◌};
+    ghost use Rattle.tsc_ffi_store.specs.Kinds.{seats_of};
+    ghost use Rattle.tsc_ffi_store.specs.Seating.{SharedHandleView, IsSized};
+
     ghost Value = { SharedHandleView };
 
     ghost view = { λ h. record { cache = h.cache; table = h.slots.shared.table_id } };
 
     ghost invariant = { λ h. (h.slots.shared.key ≡ h.cache) ×
-        IsSized h.slots.shared.table_id h.cache.seats };
+        IsSized h.slots.shared.table_id (seats_of h.cache) };
 }
 
-/// A shared cache for who opened it, and may close it.
+/// A cache that threads share for who opened it, and may close it.
 #[derive(Drop)]
 pub struct Owner {
     shared: Arc<SharedHandle>,
     keeper: SlotToken,
     seats: u32,
     returned: u32,
-    room: Vec<Seat>,
+    room: Vec<AnySeat>,
+    ending: Ending,
 }
 
 impl Model for Owner {
+    ghost use Rattle.std.specs.Arc.{arc_value};
+    ghost use Rattle.std.specs.Vec.{vec_capacity};
+    ghost use Rattle.tsc_ffi_store.specs.Owners.{OwnerView};
+    ghost use Rattle.tsc_ffi_store.specs.Seating.{IsKeeper, IsRoomFor};
+    ghost use Rattle.tsc_ffi_store.specs.Endings.{CanEnd};
+
     ghost Value = { OwnerView };
 
     ghost view = { λ h. record {
@@ -53,7 +71,8 @@ impl Model for Owner {
     } };
 
     ghost invariant = { λ h. IsKeeper (arc_value h.shared) h.keeper.table_id h.keeper.me h.seats
-        h.returned h.keeper.me.0.back × IsRoomFor h.room.items (vec_capacity h.room) h.seats };
+        h.returned h.keeper.me.0.back × IsRoomFor h.room.items (vec_capacity h.room) h.seats ×
+        CanEnd (arc_value h.shared).cache h.ending };
 }
 
 impl Owner {
@@ -70,7 +89,10 @@ impl Owner {
         ensures refused { IfErr result (λ fault. fault ≡ open_fault seats) }
     {
         let (cache, all) = SharedCache::open(alloc, config, seats, history_limit)?;
+        let cache = AnyCache::Shared(cache);
+        let all = any_seats(alloc, all)?;
         let (slots, mut dealer) = new_return_slots(alloc, &cache, seats)?;
+        let ending = Ending::of_shared(alloc, seats)?;
         let room = Vec::with_capacity(alloc, seats as usize).map_err(|_| NoMemory)?;
         let shared = Arc::new(alloc, SharedHandle { cache, slots }).map_err(|_| NoMemory)?;
         let handles = seat_all(alloc, &shared, &mut dealer, all, seats)?;
@@ -80,6 +102,39 @@ impl Owner {
             seats,
             returned: 0,
             room,
+            ending,
+        };
+        Ok((owner, handles))
+    }
+
+    /// A cache in stripes to which nothing was added, and a handle for each of its seats, in the
+    /// order of their numbers, as [`StripedCache::open`] opens one.
+    pub fn open_striped(
+        alloc: Global,
+        config: Config,
+        bounds: Vec<Key>,
+        seats: u32,
+    ) -> Result<(Owner, Vec<SeatHandle>), StripedFault>
+        requires some { 0 < seats }
+        ensures opened { IfOk result
+            (λ opened. OpensInStripes config seats bounds.items opened.0 opened.1.items) }
+        ensures refused { IfErr result (λ fault. fault ≡ striped_fault config bounds.items) }
+    {
+        let (cache, mut seat_dealer) = StripedCache::open(alloc, config, bounds, seats)?;
+        let all = deal_all(alloc, &cache, &mut seat_dealer, seats)?;
+        let cache = AnyCache::Striped(cache);
+        let (slots, mut dealer) = new_return_slots(alloc, &cache, seats)?;
+        let ending = Ending::of_striped(alloc, seat_dealer, seats)?;
+        let room = Vec::with_capacity(alloc, seats as usize).map_err(|_| NoMemory)?;
+        let shared = Arc::new(alloc, SharedHandle { cache, slots }).map_err(|_| NoMemory)?;
+        let handles = seat_all(alloc, &shared, &mut dealer, all, seats)?;
+        let owner = Owner {
+            shared,
+            keeper: dealer,
+            seats,
+            returned: 0,
+            room,
+            ending,
         };
         Ok((owner, handles))
     }
@@ -92,13 +147,13 @@ impl Owner {
         learn_back(&self.shared.slots.shared, &mut self.keeper, token);
     }
 
-    /// Ends the cache if all its seats are returned and nobody else has it, and gives what it
-    /// holds. Otherwise it hands itself back. A handle that was dropped, and not
+    /// Ends the cache if all its seats are returned and nobody else has it, and tells how many Adds
+    /// it had. Otherwise it hands itself back. A handle that was dropped, and not
     /// [closed](SeatHandle::close), is missing for good.
     ///
     /// The call takes no memory, and does not wait.
-    pub fn close(mut self) -> Result<Closed, Owner>
-        ensures closed { IfOk result (λ closed. EndsWith self.cache self.back closed) }
+    pub fn close(mut self) -> Result<u64, Owner>
+        ensures closed { IfOk result (λ adds. EndsSo self.cache self.back adds) }
         ensures still_out { IfErr result (λ owner. owner ≡ self) }
     {
         let slots = &self.shared.slots.shared;
@@ -111,32 +166,31 @@ impl Owner {
             seats,
             returned,
             room,
+            ending,
         } = self;
         match Arc::try_unwrap(shared) {
-            Ok(shared) => Ok(shared.end(keeper, seats, room)),
+            Ok(shared) => Ok(shared.end(keeper, seats, room, ending)),
             Err(shared) => Err(Owner {
                 shared,
                 keeper,
                 seats,
                 returned,
                 room,
+                ending,
             }),
         }
     }
 }
 
 impl SharedHandle {
-    /// Ends the cache with all its seats, which are returned.
-    fn end(self, keeper: SlotToken, seats: u32, room: Vec<Seat>) -> Closed
+    /// Ends the cache with all its seats, which are returned, and tells how many Adds it had.
+    fn end(self, keeper: SlotToken, seats: u32, room: Vec<AnySeat>, ending: Ending) -> u64
         requires known { IsKeeper self keeper.table_id keeper.me seats seats keeper.me.0.back }
         requires room { IsRoomFor room.items (vec_capacity room) seats }
-        ensures { EndsWith self.cache keeper.me.0.back result }
+        requires ending { CanEnd self.cache ending }
+        ensures { EndsSo self.cache keeper.me.0.back result }
     {
         let SharedHandle { cache, slots } = self;
-        let all = collect_seats(slots, keeper, seats, room);
-        match cache.finish(all) {
-            Ok(closed) => closed,
-            Err(_) => unreachable!(),
-        }
+        end(cache, ending, collect_seats(slots, keeper, seats, room))
     }
 }

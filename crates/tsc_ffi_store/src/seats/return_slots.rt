@@ -9,15 +9,16 @@
 //! it where it gets the token.
 ghost use Rattle.std.specs.Prelude.{◌≡◌, [], ◌<◌, ◌+◌, length, All, IfOk, Some, slice_get, true};
 ghost use Rattle.std.specs.Vec.{vec_capacity};
+ghost use Rattle.tsc_ffi_store.specs.Kinds.{cache_of, number_of, seats_of};
 ghost use Rattle.tsc_ffi_store.specs.ReturnSlots.{IsKept, first_known, dealing, token, spare, came, also_back};
 ghost use Rattle.tsc_ffi_store.specs.ReturnSteps.{others, first, takes_slot, returns_seat, sees_returned, LearnsBy};
 ghost use Rattle.tsc_ffi_store.specs.Seating.{IsSized, DealsOn, KnowsReturned, IsRoomFor};
 
+use crate::seats::kinds::{AnyCache, AnySeat};
 use crate::seats::same_table::swap_if_same;
 use atomic_table::{Join, Play, Seat as TableSeat, Shared, Split, Table, TableRule};
 use std::alloc::Global;
 use std::collections::LinkedList;
-use tsc_shared::{Seat, SharedCache};
 use tsc_time::NoMemory;
 
 /// What a token knows: which slots it alone may take, whether it has taken them, how many seats
@@ -27,26 +28,26 @@ pub struct Known {
     pub to: u32,
     pub taken: bool,
     pub returned: u32,
-    pub back: LinkedList<Seat>,
+    pub back: LinkedList<AnySeat>,
 }
 
 /// The slot of each word that is 1 has a seat. No two tokens may take one slot.
 pub struct ReturnRule;
 
-impl TableRule<Option<Seat>, Known, SharedCache> for ReturnRule {
+impl TableRule<Option<AnySeat>, Known, AnyCache> for ReturnRule {
     ghost holds = { IsKept };
 
     ghost first = { first_known };
 }
 
 /// The slots for the seats of one cache.
-pub type ReturnSlots = Table<Option<Seat>, Known, SharedCache, ReturnRule, Global>;
+pub type ReturnSlots = Table<Option<AnySeat>, Known, AnyCache, ReturnRule, Global>;
 
 /// The slots as threads share them.
-pub type SharedSlots = Shared<Option<Seat>, Known, SharedCache, ReturnRule>;
+pub type SharedSlots = Shared<Option<AnySeat>, Known, AnyCache, ReturnRule>;
 
 /// What the holder of a token knows of the slots, and may take of them.
-pub type SlotToken = TableSeat<Option<Seat>, Known>;
+pub type SlotToken = TableSeat<Option<AnySeat>, Known>;
 
 /// The first of the slots gets a token of its own.
 struct DealToken;
@@ -60,14 +61,14 @@ impl Split<Known> for DealToken {
 /// A token takes its slot.
 struct TakeSlot;
 
-impl Play<Option<Seat>, Known> for TakeSlot {
+impl Play<Option<AnySeat>, Known> for TakeSlot {
     ghost then = { takes_slot };
 }
 
 /// A seat is returned.
 struct ReturnSeat;
 
-impl Play<Option<Seat>, Known> for ReturnSeat {
+impl Play<Option<AnySeat>, Known> for ReturnSeat {
     ghost then = { returns_seat };
 }
 
@@ -92,7 +93,7 @@ impl Join<Known> for LearnBack {
 /// The keeper sees whether the next seat is returned.
 struct SeeReturned;
 
-impl Play<Option<Seat>, Known> for SeeReturned {
+impl Play<Option<AnySeat>, Known> for SeeReturned {
     ghost then = { sees_returned };
 }
 
@@ -100,10 +101,10 @@ impl Play<Option<Seat>, Known> for SeeReturned {
 /// are dealt.
 pub(crate) fn new_return_slots(
     alloc: Global,
-    cache: &SharedCache,
+    cache: &AnyCache,
     seats: u32,
 ) -> Result<(ReturnSlots, SlotToken), NoMemory>
-    requires seats { seats ≡ cache.now.seats }
+    requires seats { seats ≡ seats_of cache.now }
     ensures slots { IfOk result (λ made. IsSized made.0.shared.table_id seats ×
         (made.0.shared.key ≡ cache.now)) }
     ensures dealer { IfOk result (λ made. (made.1.table_id ≡ made.0.shared.table_id) ×
@@ -125,11 +126,11 @@ pub(crate) fn next_token(slots: &SharedSlots, dealer: &mut SlotToken) -> SlotTok
 }
 
 /// Returns a seat, by its token, which knows of it from then on.
-pub(crate) fn return_seat(slots: &SharedSlots, mut at: SlotToken, seat: Seat) -> SlotToken
-    requires token { (at.table_id ≡ slots.now.table_id) × (at.me ≡ (token seat.number, [])) }
-    requires cache { seat.cache ≡ slots.now.key }
-    requires sized { IsSized slots.now.table_id slots.now.key.seats }
-    requires low { seat.number < slots.now.key.seats }
+pub(crate) fn return_seat(slots: &SharedSlots, mut at: SlotToken, seat: AnySeat) -> SlotToken
+    requires token { (at.table_id ≡ slots.now.table_id) × (at.me ≡ (token (number_of seat), [])) }
+    requires cache { cache_of seat ≡ slots.now.key }
+    requires sized { IsSized slots.now.table_id (seats_of slots.now.key) }
+    requires low { number_of seat < seats_of slots.now.key }
     ensures table { result.table_id ≡ slots.now.table_id }
     ensures came { result.me ≡ (came seat, []) }
 {
@@ -182,15 +183,15 @@ pub(crate) fn collect_seats(
     slots: ReturnSlots,
     keeper: SlotToken,
     seats: u32,
-    mut room: Vec<Seat>,
-) -> Vec<Seat>
-    requires seats { seats ≡ slots.shared.key.seats }
+    mut room: Vec<AnySeat>,
+) -> Vec<AnySeat>
+    requires seats { seats ≡ seats_of slots.shared.key }
     requires known { KnowsReturned slots.shared.table_id keeper.table_id keeper.me seats seats
         keeper.me.0.back }
     requires room { IsRoomFor room.items (vec_capacity room) seats }
-    ensures cache { All (λ seat. seat.cache ≡ slots.shared.key) result.items }
+    ensures cache { All (λ seat. cache_of seat ≡ slots.shared.key) result.items }
     ensures all { length result.items ≡ seats }
-    ensures back { All (λ seat. slice_get result.items seat.number ≡ Some seat) keeper.me.0.back }
+    ensures back { All (λ seat. slice_get result.items (number_of seat) ≡ Some seat) keeper.me.0.back }
 {
     let mut closed = slots.close_with(keeper);
     for slot in 0..seats as usize {

@@ -1,7 +1,8 @@
 -- Each slot has a seat of the cache.
 use Rattle.std.proofs.Common.{◌≡◌, ◌∷◌, [], ◌++◌, ◌+◌, List, All, sym, subst, arith, rules}
 use Rattle.std.proofs.lemmas.List.Elements.{All-push}
-use Rattle.tsc_shared.specs.Seats.{SeatView}
+use Rattle.tsc_ffi_store.specs.declared.seats.kinds.AnySeat.{AnySeat}
+use Rattle.tsc_ffi_store.specs.Kinds.{cache_of}
 use Rattle.std.specs.Slots.{slots_items}
 use Rattle.tsc_ffi_store.specs.ReturnSlots.{Returned}
 use Rattle.tsc_ffi_store.proofs.Returning.{slot_of, its_cache, AreCollected, one_collected, known_lie, known_stand}
@@ -25,7 +26,7 @@ loop-slot-preserved c =
     c.requires.known.known c.requires.seats
     c.close_with-closed.ensures.values.2 c.loop-slot.invariant.2 c.loop-slot.slot c.take.result
     c.loop-slot-test.true c.take.ensures.value in
-    let its : c.in-Some.seat.cache ≡ c.args.slots.shared.key =
+    let its : cache_of c.in-Some.seat ≡ c.args.slots.shared.key =
     its_cache c.args.slots.shared.key c.take.result c.in-Some.seat has c.in-Some.is in
     let one = c.loop-slot.invariant.0 in let two = c.loop-slot.invariant.1 in let three =
     c.loop-slot.invariant.2 in let four = c.loop-slot.invariant.3 in let six =
@@ -36,8 +37,8 @@ loop-slot-preserved c =
       search rules,
       search rules,
       search rules,
-      subst (All (λ (seat : SeatView). seat.cache ≡ c.args.slots.shared.key)) (sym pushed)
-          (All-push (λ (seat : SeatView). seat.cache ≡ c.args.slots.shared.key)
+      subst (All (λ (seat : AnySeat). (cache_of seat) ≡ c.args.slots.shared.key)) (sym pushed)
+          (All-push (λ (seat : AnySeat). (cache_of seat) ≡ c.args.slots.shared.key)
           c.loop-slot.room.items c.in-Some.seat c.loop-slot.invariant.4 its),
       search rules,
       search rules,

@@ -1,5 +1,5 @@
 -- What is written is how many Adds the cache had that ended.
-use Rattle.std.proofs.Common.{arith, rules}
+use Rattle.std.proofs.Common.{rules}
 use Rattle.tsc_ffi_store.proofs.store.Slot.close_shared.Goals as goal
 
 pub returns-in-Ok-clause-ended : goal.returns-in-Ok-clause-ended
@@ -8,9 +8,7 @@ returns-in-Ok-clause-ended c = record {
     owner = c.in-Shared.owner;
     holds = search rules;
     none = search rules;
-    ended = c.in-Ok.ended;
     ends = c.in-Ok.ensures.closed;
-    long = omega arith;
   };
   refused = tt;
 }

@@ -1,7 +1,7 @@
 -- The handle names nothing, and then the owner learns of the seat.
 use Rattle.std.proofs.Common.{◌∙◌, ap, subst, List, [], ◌∷◌}
 use Rattle.atomic_table.specs.Seated.{TableId}
-use Rattle.tsc_shared.specs.Seats.{SeatView}
+use Rattle.tsc_ffi_store.specs.declared.seats.kinds.AnySeat.{AnySeat}
 use Rattle.tsc_ffi_store.specs.ReturnSteps.{At}
 use Rattle.tsc_ffi_store.specs.SeatCalls.{LearnsAt}
 use Rattle.tsc_ffi_store.proofs.store.Store.close_seat.Goals as goal
@@ -18,7 +18,7 @@ returns-clause-answers c = record {
     goes = c.forget.ensures ∙ c.in-Some.ensures.taken.1;
     learns = subst (λ (returns : TableId). LearnsAt returns (c.in-Some.held.seat.seat ∷ [])
         c.forget.new.self c.learn.new.self c.in-Some.held.opened_at) c.close.ensures.table
-        (subst (λ (seats : List SeatView). LearnsAt c.close.result.table_id seats
+        (subst (λ (seats : List AnySeat). LearnsAt c.close.result.table_id seats
         c.forget.new.self c.learn.new.self c.in-Some.held.opened_at)
         (ap (λ (m : At). m.0.back) c.close.ensures.came) c.learn.ensures);
   };

@@ -4,7 +4,7 @@ use Rattle.tsc_ffi_store.specs.declared.store.Slot.{Slot}
 use Rattle.tsc_ffi_store.specs.declared.store.Slot.TheVariants.{Shared, Seat}
 use Rattle.tsc_ffi_store.specs.SeatCalls.{unasked}
 use Rattle.tsc_ffi_store.proofs.Laying.{long_as_next}
-use Rattle.tsc_shared.specs.Seats.{new_seats}
+use Rattle.tsc_ffi_store.specs.Kinds.{new_any_seats}
 use Rattle.tsc_ffi_store.proofs.NewSeats.{new_handles_long, slots_of_seats}
 use Rattle.tsc_ffi_store.proofs.store.Store.open_shared.Goals as goal
 
@@ -16,21 +16,21 @@ pub put-requires-clause-room : goal.put-requires-clause-room
 put-requires-clause-room c =
     let long : length c.in-Ok.seats.items ≡ c.args.seats =
     new_handles_long c.in-Ok.owner.cache c.in-Ok.owner.returns c.args.seats c.in-Ok.seats.items
-    c.in-Ok.ensures.opened.in_order in
+    c.in-Ok.ensures.opened.seats.in_order in
     search rules
 
 pub put-requires-clause-slots : goal.put-requires-clause-slots
 put-requires-clause-slots c =
     let long : length c.in-Ok.seats.items ≡ c.args.seats =
     new_handles_long c.in-Ok.owner.cache c.in-Ok.owner.returns c.args.seats c.in-Ok.seats.items
-    c.in-Ok.ensures.opened.in_order in
+    c.in-Ok.ensures.opened.seats.in_order in
     search rules
 
 pub put-requires-clause-left : goal.put-requires-clause-left
 put-requires-clause-left c =
     let long : length c.in-Ok.seats.items ≡ c.args.seats =
     new_handles_long c.in-Ok.owner.cache c.in-Ok.owner.returns c.args.seats c.in-Ok.seats.items
-    c.in-Ok.ensures.opened.in_order in
+    c.in-Ok.ensures.opened.seats.in_order in
     grind (arith, long, c.if-self-seats.false)
 
 pub returns-then-self-seats-clause-refused : goal.returns-then-self-seats-clause-refused
@@ -52,12 +52,10 @@ returns-in-Ok-clause-opened c =
           map (λ s. Seat (unasked c.self.inside.next s)) c.in-Ok.seats.items)
           (rw (c.reserve.ensures.items, c.reserve-else-is_err.ensures.items) c.self.view_is) ∙
           ap (λ seats. c.args.self.now ++ Shared c.in-Ok.owner ∷
-          map (λ s. Seat (unasked c.self.inside.next s)) seats) opened.in_order ∙
+          map (λ s. Seat (unasked c.self.inside.next s)) seats) opened.seats.in_order ∙
           ap (λ (l : List Slot). c.args.self.now ++ Shared c.in-Ok.owner ∷ l)
           (slots_of_seats c.self.inside.next c.in-Ok.owner.returns
-          (new_seats c.in-Ok.owner.cache 0 c.args.seats));
-      settings_kept = search rules;
-      count_kept = search rules;
-      limit_kept = search rules;
-      none_back = opened.none_back;
+          (new_any_seats c.in-Ok.owner.cache 0 c.args.seats));
+      cache = opened.cache;
+      none_back = opened.seats.none_back;
     }

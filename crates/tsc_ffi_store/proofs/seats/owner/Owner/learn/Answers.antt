@@ -16,6 +16,7 @@ invariant_of-self c = (
       c.self.inside.returned c.self.invariant.0 c.learn_back.ensures.table
       c.learn_back.ensures.learned,
   c.self.invariant.1,
+  c.self.invariant.2,
 )
 
 pub returns : goal.returns

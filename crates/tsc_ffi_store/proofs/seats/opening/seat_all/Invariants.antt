@@ -3,7 +3,7 @@ use Rattle.std.proofs.Common.{◌≡◌}
 use Rattle.std.specs.Arc.{arc_value}
 use Rattle.std.specs.Vec.Iter.{into_iter_items}
 use Rattle.tsc_ffi_store.proofs.Handles.{Dealing}
-use Rattle.tsc_ffi_store.proofs.seats.handle.seat_all.Given as goal
+use Rattle.tsc_ffi_store.proofs.seats.opening.seat_all.Given as goal
 
 abbrev pub invariant-loop-seat : goal.invariant-loop-seat
 invariant-loop-seat l =
