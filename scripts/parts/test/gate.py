@@ -472,13 +472,13 @@ CRATES = {
     "crates/tsc_cache/src/lib.rt": "use low::it;\n",
     "docs/PROOFS.md": """<!-- gate: begin -->
 Measured on 2026-01-02 at commit `abc` by `rt ci`:
-60 minutes by the clock, 120 processor minutes.
+60 minutes by the clock on 2 processors, 120 processor minutes.
 
-| Crate | Proof | Tests | Edits | Number of edits | Together |
-|---|---|---|---|---|---|
-| `low` | 1.0 | 0.0 | 0.0 | 0 | 1.0 |
-| `tsc_cache` | 1.0 | 0.0 | 0.0 | 0 | 1.0 |
-| all | 2.0 | 0.0 | 0.0 | 0 | 2.0 |
+| Crate | Proof | Tests | Edits | Together |
+|---|---|---|---|---|
+| `low` | 1.0 | 0.0 | 0.0 | 1.0 |
+| `tsc_cache` | 1.0 | 0.0 | 0.0 | 1.0 |
+| all | 2.0 | 0.0 | 0.0 | 2.0 |
 <!-- gate: end -->
 """,
 }
@@ -580,8 +580,9 @@ CHECKS = {
         "there is no crate": ("crates.txt", "low:\ntsc_cache: low", "# none"),
         "a crate has no line": ("crates.txt", "low:\n", ""),
         "a line has no crate": ("crates.txt", "low:\n", "low:\nhigh:\n"),
-        "the table of the gate lacks a crate": ("docs/PROOFS.md", "| `low` | 1.0 | 0.0 | 0.0 | 0 | 1.0 |\n", ""),
-        "the table of the gate has another crate": ("docs/PROOFS.md", "| all", "| `old` | 1.0 | 0.0 | 0.0 | 0 | 1.0 |\n| all"),
+        "the table of the gate lacks a crate": ("docs/PROOFS.md", "| `low` | 1.0 | 0.0 | 0.0 | 1.0 |\n", ""),
+        "the table of the gate has another crate": ("docs/PROOFS.md", "| all", "| `old` | 1.0 | 0.0 | 0.0 | 1.0 |\n| all"),
+        "the table of the gate has another order": ("crates.txt", "low:\ntsc_cache: low", "tsc_cache: low\nlow:"),
         "the table of the gate has no day": ("docs/PROOFS.md", "Measured on", "Measured at"),
         "a test that a script calls is not there": ("crates/low/src/one.rt", "shows", "showed"),
     }),
