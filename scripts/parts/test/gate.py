@@ -11,6 +11,7 @@ import re
 import shutil
 import subprocess
 import sys
+import time
 
 from parts.check.definitions import GROUPS
 from parts.draw.documents import drawn
@@ -371,6 +372,15 @@ def try_measure(cases, room):
     cases.expect("measure gate leaves a table", is_table, told=text)
 
 
+def is_gone(pid):
+    """Says whether a process ends within a second."""
+    for _ in range(100):
+        if not os.path.exists(f"/proc/{pid}") or " Z " in text_at(f"/proc/{pid}/stat"):
+            return True
+        time.sleep(0.01)
+    return False
+
+
 def try_frame(cases, room):
     """What the frame makes of cases, of words, and of parts that fail."""
     def counted(judge):
@@ -384,8 +394,10 @@ def try_frame(cases, room):
         cases.expect(f"a program of cases ends with {what}", got, wanted)
     cases.expect("nothing is looked at", counted(lambda own: own.looked_at([], "things")), (0, 1))
     cases.expect("another value than is wanted", counted(lambda own: own.expect("it", 1, 2)), (0, 1))
-    slow = outcome("sleep", "60", seconds=0.1)
+    write(f"{room}/child", "")
+    slow = outcome("sh", "-c", f"sleep 60 & echo $! >{room}/child; wait", seconds=1)
     cases.expect("a command that takes too long has no status", slow[0], None)
+    cases.expect("nor does what it started run on", is_gone(int(text_at(f"{room}/child"))))
     scripts = f"{ROOT}/scripts"
     for kind in ("check", "build", "test", "refuse", "measure", "draw"):
         cases.expect(f"{kind} --help", outcome(f"{scripts}/{kind}", "--help")[0], 0)
