@@ -494,6 +494,15 @@ Measured on 2026-01-02 at commit `abc` by `rt ci`:
 <!-- gate: end -->
 """,
 }
+# Two lemmas of which the first one has the words of the third, in another sense.
+CHAIN = "one : (a b c d e : ℕ) → a ≡ b → b ≡ c → c ≡ d → d ≡ e → a ≡ e → a ≡ d\none = chain\n"
+OF_KEYS = " : (a b c d e : Key) → a ≡ b → b ≡ c → c ≡ d → d ≡ e → a ≡ e → d ≡ a\n"
+LEMMAS = {
+    "crates.txt": "low:\n",
+    "crates/low/src/lib.rt": "",
+    "crates/low/proofs/One.antt": f"use Rattle.low.specs.One.{{Key}}\n\n{CHAIN}three{OF_KEYS}",
+    "crates/low/proofs/Two.antt": f"use Rattle.low.specs.Two.{{Key}}\n\n{CHAIN.replace('a ≡ d', 'a ≡ c', 1)}three{OF_KEYS}",
+}
 # A public call whose comment has an example.
 SHOWN_CALL = "/// It is.\n///\n/// ```\n/// assert!(rt; is_it());\n/// ```\npub fn is_it() -> bool"
 EXAMPLES = {
@@ -609,6 +618,12 @@ CHECKS = {
         "README has other code": ("README.md", "1", "2"),
         "EMBEDDING has no code": ("docs/EMBEDDING.md", CODE, ""),
         "EMBEDDING has other code": ("docs/EMBEDDING.md", "1", "2"),
+    }),
+    "lemmas": (LEMMAS, {
+        "a lemma is stated twice": ("crates/low/proofs/Two.antt", "a ≡ c", "a ≡ d"),
+        "a lemma is stated twice in one file": ("crates/low/proofs/One.antt", "\n\n", f"\n\n{CHAIN.replace('one', 'other')}"),
+        "a lemma is stated twice by other imports": ("crates/low/proofs/Two.antt", "low.specs.Two.{Key}", "low.specs.One.{Key}"),
+        "there are no lemmas": ("crates.txt", "low:\n", "test_low:\n"),
     }),
     "rules": (RULES, {
         "a definition is not there": ("crates/tsc_cache/specs/Rule.antt", "holds", "held"),
