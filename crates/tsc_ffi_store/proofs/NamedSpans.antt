@@ -7,7 +7,7 @@ use Rattle.tsc_ffi_store.specs.declared.decode.Form.TheVariants.{Point, Range, O
 use Rattle.tsc_ffi_store.specs.declared.refusal.Refusal.{Refusal}
 use Rattle.tsc_ffi_store.specs.declared.refusal.Refusal.TheVariants as refusal
 use Rattle.tsc_ffi_store.specs.Decode.{AskedSpan, form_of, formed_to_add, IsShort, AreShort}
-use Rattle.tsc_ffi_store.specs.Decode.{NamesRange, NamesAddSpan, LacksRangeCopy, LacksCopy}
+use Rattle.tsc_ffi_store.specs.Decode.{NamesRange, NamesAddSpan, LacksRangeCopy}
 use Rattle.tsc_ffi_store.specs.Decode.{RefusesRange, RefusesAddSpan, RefusesCopy}
 use Rattle.tsc_ffi_store.proofs.WrittenRanges.{upright}
 

@@ -1,5 +1,5 @@
 -- What the cache said of the Add that was tried.
-use Rattle.std.proofs.Common.{inl, inr, sym, subst, refl, rules}
+use Rattle.std.proofs.Common.{inr, sym, subst, rules}
 use Rattle.tsc_ffi_store.specs.Marks.{AreMarks, NamesAddAll}
 use Rattle.std.proofs.lemmas.Result.{err_from_is_err_and}
 use Rattle.tsc_ffi_store.specs.Decode.{asked_batch}

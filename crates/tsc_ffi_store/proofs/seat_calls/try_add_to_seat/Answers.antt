@@ -1,5 +1,5 @@
 -- What the cache said of the Add that was tried.
-use Rattle.std.proofs.Common.{inl, inr, refl, rules}
+use Rattle.std.proofs.Common.{inr, rules}
 use Rattle.std.proofs.lemmas.Result.{err_from_is_err_and}
 use Rattle.tsc_ffi_store.specs.Decode.{asked_add, NamesAdd}
 use Rattle.tsc_ffi_store.proofs.Trying.{accepted_fits, why_refused}
