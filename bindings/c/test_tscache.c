@@ -967,8 +967,10 @@ static void wrong_without_memory(void)
     tsc_value v = {20, 0, {0}};
     tsc_added a;
     uint64_t shared = 77, at = 77, handle = 77;
-    size_t len = 77;
+    uint8_t bytes[256];
+    size_t len = 77, bytes_len = 0;
     CHECK(tsc_open_shared(&c.store, 132, 132, 2, 10, &low, 2, 1, &shared) == TSC_OK);
+    CHECK(tsc_checked_summary(&c.store, c.handle, "a", 1, "c", 1, 0, 8, bytes, sizeof bytes, &bytes_len) == TSC_OK);
     wrong_adds(&c, 0);
     wrong_adds(&c, shared + 1);
     CHECK(tsc_checked_seat_add(&c.store, shared + 1, "b", 1, NULL, 0, TSC_POINT, &v, &AT_20, 1, &at, &a) == TSC_OK && at == 0);
@@ -979,7 +981,8 @@ static void wrong_without_memory(void)
     CHECK(tsc_open_shared(&other, 132, 132, 0, 10, &low, 2, 1, &handle) == TSC_MIN_PAGES && tsc_open_shared(&other, 132, 132, 2, 10, &low, 65, 1, &handle) == TSC_SEATS);
     CHECK(tsc_move(&c.store, 99, &other, &handle) == TSC_CLOSED);
     CHECK(tsc_checked_summary(&c.store, c.handle, "c", 1, "a", 1, 0, 8, NULL, 0, &len) == TSC_INVERTED);
-    CHECK(tsc_checked_apply(&c.store, c.handle, "\1", 1, &never, &a) == TSC_TIME);
+    CHECK(tsc_checked_apply(&c.store, c.handle, bytes, bytes_len, &never, &a) == TSC_TIME && tsc_checked_apply(&c.store, c.handle, bytes, bytes_len, &AT_20, &a) == TSC_NO_MEMORY);
+    CHECK(tsc_checked_apply(&c.store, c.handle, bytes, bytes_len - 1, &never, &a) == TSC_SUMMARY_LENGTH);
     CHECK(tsc_open(&other, 132, 132, 2, 10, &low, &handle) == TSC_NO_MEMORY && tsc_move(&c.store, shared + 2, &other, &handle) == TSC_NO_MEMORY);
     CHECK(handle == 77 && len == 77 && other.at == NULL);
     none_left = false;
