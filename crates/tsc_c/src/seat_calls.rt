@@ -288,6 +288,9 @@ fn move_from(
         (slots_of other.new.owned ≡ slots_of other.old.owned) ×
         (other_handle.new ≡ other_handle.old)) }
 {
+    if !held.names(handle) {
+        return Err(Refusal::Closed);
+    }
     let mut to = store_in(alloc, other)?;
     let did = held.move_to(handle, &mut to, other_handle);
     other.lay(to);

@@ -136,6 +136,13 @@ impl AddFitting for Cache {
 }
 
 impl Cache {
+    /// How the cache was set up.
+    pub fn config(&self) -> Config
+        ensures { result ≡ self.now.settings }
+    {
+        self.config
+    }
+
     /// Whether a span fits the largest page: whether an Add of it isn't [`CacheFault::TooLarge`].
     pub fn fits(&self, span: &Span) -> bool
         ensures { result ≡ fits self.now.settings span.now }

@@ -6,10 +6,11 @@ ghost use Rattle.tsc_cache.specs.State.{is_past_retention, next_size, saturating
 ghost use Rattle.tsc_cache.specs.Batch.{all_fit};
 
 use crate::Mark;
+use crate::named_span::cost_of;
 use std::marker::Model;
 use thiserror::Error;
 use tsc_page::{LEAST_SIZE, MOST_SIZE};
-use tsc_span::{KeyRef, Span};
+use tsc_span::{AddSpan, KeyRef, Span};
 use tsc_time::Timestamp;
 
 /// The least that `min_pages` may be.
@@ -140,6 +141,13 @@ impl Config {
         ensures { result ≡ fits self.now span.now }
     {
         span.cost() <= self.page_max
+    }
+
+    /// As [`fits`](Config::fits), of a span over keys that lie elsewhere.
+    pub fn fits_ref(&self, span: &AddSpan<'_>) -> bool
+        ensures { result ≡ fits self.now span.now }
+    {
+        cost_of(span) <= self.page_max
     }
 
     /// Whether the span of a single key fits.

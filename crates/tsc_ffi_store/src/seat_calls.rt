@@ -6,7 +6,7 @@ ghost use Rattle.tsc_shared.specs.Seats.{is_seat_count};
 ghost use Rattle.tsc_shared.specs.Answers.{ReadsFloor, ReadsFigures};
 ghost use Rattle.tsc_ffi_store.specs.Decode.{time_of, value_of, added_of, asked_span, asked_add, asked_batch};
 ghost use Rattle.tsc_ffi_store.specs.Store.{seat_of, seat_at, shared_of, RefusesHandles};
-ghost use Rattle.tsc_ffi_store.specs.SeatCalls.{unasked, OpensShared, RefusesSeats, RefusesRoom, AnswersSeatLookup, TellsFiguresAt, AnswersSeatAdd, AnswersSeatAddAll, AnswersTriedAdd, AnswersTriedAddAll, AnswersMove, IsCodeOf, Learns, LearnsAt, AnswersCloseSeat, EndsShared, AnswersCloseShared};
+ghost use Rattle.tsc_ffi_store.specs.SeatCalls.{unasked, OpensShared, RefusesSeats, LacksMemoryForSeats, AnswersSeatLookup, TellsFiguresAt, AnswersSeatAdd, AnswersSeatAddAll, AnswersTriedAdd, AnswersTriedAddAll, AnswersMove, IsSpared, RefusesTried, IsCodeOf, Learns, LearnsAt, AnswersCloseSeat, EndsShared, AnswersCloseShared};
 ghost use Rattle.tsc_ffi_store.specs.Counts.{StaysWith, CountsSeatLookup, CountsSeatAdd};
 ghost use Rattle.tsc_ffi_store.specs.OpenHandles.{AreOpen, named_by};
 ghost use Rattle.tsc_ffi_store.specs.declared.store.Slot.TheVariants as kinds;
@@ -15,10 +15,10 @@ use crate::cache_calls::count;
 use crate::counts::CountedSeat;
 use crate::ctypes::{AddArgs, BatchArgs, SpanArgs, TscAdded, TscFigures, TscTime, TscValue};
 use crate::decode::{
-    added_span, looked_up_span, time, value, words_of, words_of_added, words_of_figures,
-    words_of_time,
+    added_span, copied_span, looked_up_span, time, value, words_of, words_of_added,
+    words_of_figures, words_of_time,
 };
-use crate::marks::marks;
+use crate::marks::{check_marks, marks};
 use crate::places::{lay, place_of};
 use crate::refusal::Refusal;
 use crate::seats::{Owner, SeatHandle, SlotToken};
@@ -101,7 +101,7 @@ impl Store {
         ensures opened { IfOk result
             (λ handle. OpensShared self.old self.new handle config seats limit) }
         ensures refused { IfErr result (λ why. RefusesSeats why seats ⊎
-            RefusesHandles why self.old (seats + 1) ⊎ RefusesRoom why seats) }
+            RefusesHandles why self.old (seats + 1) ⊎ LacksMemoryForSeats why seats self.old) }
         ensures unchanged { OnErr result (self.new ≡ self.old) }
     {
         if !may_seat(seats) {
@@ -216,6 +216,9 @@ impl Store {
         ensures kept { OnErr result ((self.new ≡ self.old) × (other.new ≡ other.old) ×
             (other_handle.new ≡ other_handle.old)) }
     {
+        if !self.names(handle) {
+            return Err(Refusal::Closed);
+        }
         if other.next == u64::MAX {
             return Err(Refusal::Full);
         }
@@ -368,7 +371,12 @@ fn try_add_to_seat(
 {
     let value = value(args.value)?;
     let moment = time(args.moment)?;
-    let span = added_span(alloc, &args.span)?;
+    if !seat.config().fits_ref(&added_span(&args.span)?) {
+        return Err(Refusal::TooLarge);
+    }
+    let Ok(span) = copied_span(alloc, &args.span) else {
+        return Err(without_memory(seat));
+    };
     let receipt = seat.try_add(&span, value, moment, tries)?;
     *place = receipt.place;
     *out = words_of_added(receipt.added);
@@ -429,11 +437,28 @@ fn try_add_all_to_seat(
     ensures kept { OnErr result ((place.new ≡ place.old) × (out.new ≡ out.old)) }
 {
     let moment = time(args.moment)?;
-    let marks = marks(alloc, args.keys, args.marks)?;
+    check_marks(&seat.config(), args.keys, args.marks)?;
+    let Ok(marks) = marks(alloc, args.keys, args.marks) else {
+        return Err(without_memory(seat));
+    };
     let receipt = seat.try_add_all(&marks, moment, tries)?;
     *place = receipt.place;
     *out = words_of_added(receipt.added);
     Ok(())
+}
+
+/// Why an Add is refused that fits, and whose keys could not be copied: the history is full, or
+/// there is no memory.
+fn without_memory(seat: &mut SeatHandle) -> Refusal
+    ensures tried { RefusesTried result seat.old.seat seat.new.seat }
+    ensures spared { IsSpared seat.old.seat seat.new.seat }
+    ensures same { seat.new.returns ≡ seat.old.returns }
+{
+    if seat.is_full() {
+        Refusal::Full
+    } else {
+        Refusal::NoMemory
+    }
 }
 
 /// Why an Add at a seat was refused.

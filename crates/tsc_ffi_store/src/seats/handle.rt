@@ -1,5 +1,5 @@
 //! A seat whose holder needs to know no other.
-ghost use Rattle.std.specs.Prelude.{◌≡◌, ◌<◌, ◌+◌, [], IfOk, Some, length, map};
+ghost use Rattle.std.specs.Prelude.{◌≡◌, ◌<◌, ◌+◌, [], IfOk, Some, true, false, length, map};
 ghost use Rattle.std.specs.Arc.{arc_value};
 ghost use Rattle.tsc_cache.specs.Settings.{fits};
 ghost use Rattle.tsc_cache.specs.Batch.{all_fit};
@@ -16,7 +16,7 @@ use std::alloc::Global;
 use std::marker::Model;
 use std::sync::Arc;
 use timestamp_cache::{SeatSummary, summary_at};
-use tsc_cache::Mark;
+use tsc_cache::{Config, Mark};
 use tsc_shared::{Answer, LowWater, Receipt, Seat, SeatFigures, Snapshot, TryAddFault};
 use tsc_span::{Span, SpanRef};
 use tsc_time::{NoMemory, Timestamp, Value};
@@ -39,6 +39,23 @@ impl Model for SeatHandle {
 }
 
 impl SeatHandle {
+    /// How the cache was set up.
+    pub fn config(&self) -> Config
+        ensures { result ≡ self.now.seat.cache.config }
+    {
+        self.shared.cache.config()
+    }
+
+    /// Whether the history has as many Adds as it may have. The seat sees all of it then.
+    pub fn is_full(&mut self) -> bool
+        ensures full { result ≡ true → length self.new.seat.seen ≡ self.old.seat.cache.limit }
+        ensures below { result ≡ false → length self.new.seat.seen < self.old.seat.cache.limit }
+        ensures looked { HasLookedOn self.old.seat self.new.seat }
+        ensures same { self.new.returns ≡ self.old.returns }
+    {
+        self.low_water().front >= self.shared.cache.history_limit()
+    }
+
     /// How many Adds the seat has seen, of whichever seats.
     pub fn seen(&self) -> u64
         ensures value { result ≡ length self.now.seat.seen }
