@@ -1,7 +1,7 @@
 -- A seat acquires the writer lock.
 use Rattle.std.proofs.Common.{◌≡◌, ◌∙◌, refl, sym, ap, subst, Bool, false, ℕ, ◌+◌}
-use Rattle.std.proofs.Common.{List, [], ◌∷◌, set, arith, slice_index, length-set}
-use Rattle.std.proofs.Common.{get_or-set_other, get_or-set_same, ne_eqb}
+use Rattle.std.proofs.Common.{List, [], ◌∷◌, set, arith, slice_index}
+use Rattle.std.proofs.Common.{ne_eqb}
 use Rattle.std.specs.Prelude.{◌==◌, nat_lt}
 use Rattle.std.specs.List.{sum_by}
 use mathlib.Core.Logic.{dite}
@@ -21,10 +21,11 @@ use Rattle.tsc_left_right.specs.declared.table.SeatState.{SeatState}
 use Rattle.tsc_left_right.specs.declared.table.Knowledge.{Knowledge}
 use Rattle.tsc_left_right.specs.Rule.{keeping, one_if, SharedState, LeftRightRule}
 use Rattle.tsc_left_right.specs.Rule.{holders}
-use Rattle.tsc_left_right.specs.Rule.{head_word, side_slot}
+use Rattle.tsc_left_right.specs.Rule.{side_slot}
 use Rattle.tsc_left_right.specs.Steps.{acquired, acquires}
 use Rattle.tsc_left_right.proofs.Totals.{part}
 use Rattle.tsc_left_right.proofs.Hands.{Homes}
+use Rattle.tsc_left_right.proofs.Frames.{lock_word, other_slot}
 use Rattle.tsc_left_right.proofs.Moves.{Board, Moved, moved_kept, of_one, only_fits, unmoved}
 use Rattle.tsc_left_right.proofs.Plain.{epoch_same}
 use Rattle.tsc_left_right.proofs.Moves.{seat_same, others_fit, writer_now}
@@ -39,8 +40,7 @@ module _ {P C O S E : Type 0} (R : Ghosts P C O S E) where
 
     abbrev Goes : Board C O S E → ℕ → Type 0
     Goes s n = (w : Knowledge S E) × (a : Act (Slot C O)) × Valid s.homes [] a
-        × LeftRightRule R setup
-        (stepped s 0 (either (n == 0) (p.number + 1) n) id [] w a)
+        × LeftRightRule R setup (stepped s 0 (either (n == 0) (p.number + 1) n) id [] w a)
         × acquires R st (acquirer, []) n (
           w,
           carried_after [] a,
@@ -50,7 +50,7 @@ module _ {P C O S E : Type 0} (R : Ghosts P C O S E) where
         → get_elem? s.views id
         ≡ maybe.some acquirer → slice_index s.words 0 ≡ 0 → Goes s (slice_index s.words 0)
     acquire_free idle_now s k at none =
-        let free : k.g.word ≡ 0 = sym k.word_is ∙ none in
+        let free : k.g.word ≡ 0 = sym k.shape.word_is ∙ none in
         let here = k.free free in
         let g : SharedState E = k.g in
         let h : List E = g.history in
@@ -62,23 +62,18 @@ module _ {P C O S E : Type 0} (R : Ghosts P C O S E) where
         let n1 : ℕ = p.number + 1 in
         let words : List ℕ = set s.words 0 n1 in
         let homes : Homes C O = set s.homes 0 maybe.none in
-        let wide = k.wide in
         let idle = k.idle free in
         let g' : SharedState E = writer_now g n1 g.cleared g.watched in
         let moved : Moved R setup s k id acquirer w g' words homes = record {
           at = at;
           legal = k.legal;
           limit = k.limit;
-          wide = length-set s.words 0 n1 ∙ k.wide;
-          deep = length-set s.homes 0 maybe.none ∙ k.deep;
-          word_is = get_or-set_same s.words 0 n1 0 (omega (arith, wide));
-          head_is = get_or-set_other s.words 0 head_word n1 0 (λ z. omega (arith, z)) ∙ k.head_is;
+          shape = other_slot (lock_word k.shape n1) 0 maybe.none;
           seats = λ r low. seat_same R setup g g' s.words words s.homes homes r refl refl refl
               refl refl
               (epoch_same s.words 0 n1 r (omega arith))
               (λ side less. set_else s.homes 0 (side_slot r side) maybe.none
-              (λ z. omega (arith, z)))
-              (k.seats r low);
+              (λ z. omega (arith, z))) (k.seats r low);
           fits = of_one R t q same (record {
             begins = begins_itself h;
             own = mine.own;
@@ -123,8 +118,7 @@ module _ {P C O S E : Type 0} (R : Ghosts P C O S E) where
     pub acquire_allowed : p.holds ≡ false → Allows (LeftRightRule R setup) slots id (acquirer, []) 0
         (λ n. either (n == 0) (p.number + 1) n) (acquires R st (acquirer, []))
     acquire_allowed idle_now s k deep at small = dite (ℕ_discrete (slice_index s.words 0) 0)
-        (λ none. acquire_free idle_now s k at none)
-        (λ some. (
+        (λ none. acquire_free idle_now s k at none) (λ some. (
           acquirer,
           act_keeps,
           tt,

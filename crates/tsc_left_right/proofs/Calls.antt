@@ -20,8 +20,7 @@ use Rattle.tsc_left_right.specs.declared.replicated.Replicated.{Ghosts}
 module _ {C O : Type 0} where
   -- the slot that is first in hand
   pub first_in : (slots others : Hand C O) (i j : ℕ) (x : Slot C O) → slots ≡ (j, x) ∷ others
-      → i ≡ j
-      → (y : Slot C O) × (slots ≡ (i, y) ∷ rest slots)
+      → i ≡ j → (y : Slot C O) × (slots ≡ (i, y) ∷ rest slots)
   first_in slots others i j x is same = (x, is ∙ (λ k. (sym same k, x) ∷ rest (sym is k)))
 
 module _ {C O S E : Type 0} where
@@ -51,8 +50,7 @@ module _ {C O S E : Type 0} where
 
 module _ {P C O S E : Type 0} (R : Ghosts P C O S E) where
   pub acquire_at : (key : Setup S) (slots : ℕ) (st : Step (Slot C O)) (id number : ℕ)
-      (me : At C O S E) → IsFree me
-      → number ≡ number_of me.0
+      (me : At C O S E) → IsFree me → number ≡ number_of me.0
       → Allows (LeftRightRule R key) slots id me 0 (λ n. either (n == 0) (number + 1) n)
       (acquires R st me)
   acquire_at key slots st id number me free is =
@@ -63,22 +61,18 @@ module _ {P C O S E : Type 0} (R : Ghosts P C O S E) where
       (acquire_allowed R key slots st id me.0.setup (state_in me.0) free.holds))
 
   pub pin_at : (key : Setup S) (slots : ℕ) (st : Step (Slot C O)) (id number word : ℕ)
-      (me : At C O S E) → IsAtRest me
-      → number ≡ number_of me.0 → word ≡ epoch_word number
+      (me : At C O S E) → IsAtRest me → number ≡ number_of me.0 → word ≡ epoch_word number
       → Allows (LeftRightRule R key) slots id me word (λ n. (n + 1) % 2 ^ 64) (pins st me)
   pin_at key slots st id number word me rested is at =
       subst (λ (n : ℕ). Allows (LeftRightRule R key) slots id me n (λ n. (n + 1) % 2 ^ 64)
-      (pins st me))
-      (sym (at ∙ ap epoch_word is))
+      (pins st me)) (sym (at ∙ ap epoch_word is))
       (subst (λ (m : At C O S E). Allows (LeftRightRule R key) slots id m (epoch_word
-      (number_of me.0))
-      (λ n. (n + 1) % 2 ^ 64) (pins st m)) (sym rested)
+      (number_of me.0)) (λ n. (n + 1) % 2 ^ 64) (pins st m)) (sym rested)
       (pin_allowed R key slots st id me.0.setup (at_rest (number_of me.0) (seen_of me.0)
       (count_of me.0)) [] refl))
 
   pub read_head_at : (key : Setup S) (slots : ℕ) (st : Step (Slot C O)) (id : ℕ)
-      (v : Knowledge S E) (me : At C O S E)
-      → me ≡ (with_state v (staged (state_in v) 1), [])
+      (v : Knowledge S E) (me : At C O S E) → me ≡ (with_state v (staged (state_in v) 1), [])
       → Allows (LeftRightRule R key) slots id me 16 (λ n. n) (reads_head R st me)
   read_head_at key slots st id v me is = subst (λ (m : At C O S E). Allows
       (LeftRightRule R key) slots id m
@@ -88,8 +82,7 @@ module _ {P C O S E : Type 0} (R : Ghosts P C O S E) where
   -- what it has seen then, by what it knew before it was pinned
   pub seen_at : (st : Step (Slot C O)) (found number : ℕ) (v : Knowledge S E) (me me' : At C O S E)
       → me ≡ (with_state v (staged (state_in v) 1), []) → number ≡ number_of v
-      → reads_head R st me found me'
-      → (x : Slot C O) × (head : ℕ) × (found % 2 ≡ active_side head)
+      → reads_head R st me found me' → (x : Slot C O) × (head : ℕ) × (found % 2 ≡ active_side head)
       × (me'.1 ≡ (side_slot number (found % 2), x) ∷ []) × SeesAll R v me'.0 head x
   seen_at st found number v me me' is same looked =
       let l : reads_head R st (with_state v (staged (state_in v) 1), []) found me' =
@@ -119,8 +112,7 @@ module _ {P C O S E : Type 0} (R : Ghosts P C O S E) where
       subst (λ (n : ℕ). Allows (LeftRightRule R key) slots id me n (λ n. (n + 1) % 2 ^ 64)
       (unpins st me)) (sym (at ∙ ap epoch_word is))
       (subst (λ (m : At C O S E). Allows (LeftRightRule R key) slots id m (epoch_word
-      (number_of me.0))
-      (λ n. (n + 1) % 2 ^ 64) (unpins st m))
+      (number_of me.0)) (λ n. (n + 1) % 2 ^ 64) (unpins st m))
       (sym (whole me ((side_slot (number_of me.0) side, x) ∷ []) pinned.one pinned.hand))
       (unpin_allowed R key slots st id me.0.setup (state_in me.0) [] side x pinned.stage
       pinned.small

@@ -1,18 +1,17 @@
 -- A writer clears the seats, in the shape that the calls ask for.
-use Rattle.std.proofs.Common.{◌≡◌, ◌∙◌, refl, sym, ap, subst, true, false, ℕ, suc, ◌+◌, ◌<◌}
+use Rattle.std.proofs.Common.{◌≡◌, ◌∙◌, refl, sym, subst, true, false, ℕ, suc, ◌+◌, ◌<◌}
 use Rattle.std.proofs.Common.{[], ◌∷◌, ◌++◌, arith}
 use Rattle.std.specs.Prelude.{Option, Some, None}
 use Rattle.atomic_table.specs.Table.{Step, Allows, rest, turned}
 use Rattle.tsc_left_right.specs.declared.table.Setup.{Setup}
-use Rattle.tsc_left_right.specs.declared.table.WriterState.{WriterState}
 use Rattle.tsc_left_right.specs.declared.table.Slot.{Slot}
 use Rattle.tsc_left_right.specs.declared.table.Slot.TheVariants.{Empty}
 use Rattle.tsc_left_right.specs.declared.table.Knowledge.{Knowledge}
 use Rattle.tsc_left_right.specs.Rule.{LeftRightRule, standby_side, epoch_word}
 use Rattle.tsc_left_right.specs.Rule.{side_slot}
-use Rattle.tsc_left_right.specs.Steps.{At, state_in, Acquires, clearing, has_left}
+use Rattle.tsc_left_right.specs.Steps.{At, state_in, clearing, has_left}
 use Rattle.tsc_left_right.specs.Steps.{clears, Anything}
-use Rattle.tsc_left_right.specs.Participating.{IsWriting, HasLock}
+use Rattle.tsc_left_right.specs.Participating.{IsWriting}
 use Rattle.tsc_left_right.specs.Participating.{cleared_in}
 use Rattle.tsc_left_right.proofs.Hands.{Hand, filled_push}
 use Rattle.tsc_left_right.proofs.Clearing.{clear_allowed}
@@ -33,32 +32,10 @@ module _ {C O S E : Type 0} where
             h.unpinned;
       })
 
-  -- the same, by what the writer knew before
-  pub writing_again : (v : Knowledge S E) (me me' : At C O S E) (cleared cleared' : ℕ)
-      (watched watched' : Option ℕ) → IsWriting v me cleared watched
-      → IsWriting me.0 me' cleared' watched' → IsWriting v me' cleared' watched'
-  writing_again v me me' cleared cleared' watched watched' h after =
-      let a : IsWriting (cleared_in v cleared watched) me' cleared' watched' =
-      subst (λ (m : At C O S E). IsWriting m.0 me' cleared' watched') h.is after in
-      record {
-        slots = a.slots;
-        is = a.is;
-        filled = a.filled;
-        holds = a.holds;
-        unpinned =
-            a.unpinned;
-      }
-
-  pub has_lock : (v : Knowledge S E) (me : At C O S E) (cleared : ℕ) (watched : Option ℕ)
-      → IsWriting v me cleared watched → HasLock me
-  has_lock v me cleared watched h = (cleared, watched, writing_self v me cleared watched h)
-
   -- The next seat was cleared,
   pub cleared_then : (st : Step (Slot C O)) (e : ℕ) (v : Knowledge S E) (me me' : At C O S E)
-      (cleared : ℕ)
-      (watched : Option ℕ) → (h : IsWriting v me cleared watched) → clears st me e me'
-      → has_left watched e ≡ true
-      → (x : Slot C O) × (me' ≡ (
+      (cleared : ℕ) (watched : Option ℕ) → (h : IsWriting v me cleared watched) → clears st me e me'
+      → has_left watched e ≡ true → (x : Slot C O) × (me' ≡ (
         cleared_in v (suc cleared) None,
         (side_slot cleared (standby_side (state_in v).head), x) ∷ (0, Empty) ∷ h.slots,
       ))
@@ -67,8 +44,7 @@ module _ {C O S E : Type 0} where
 
   -- or watched
   pub watched_then : (st : Step (Slot C O)) (e : ℕ) (v : Knowledge S E) (me me' : At C O S E)
-      (cleared : ℕ)
-      (watched : Option ℕ) → IsWriting v me cleared watched → clears st me e me'
+      (cleared : ℕ) (watched : Option ℕ) → IsWriting v me cleared watched → clears st me e me'
       → has_left watched e
       ≡ false
       → IsWriting v me' cleared (Some e)
@@ -83,9 +59,7 @@ module _ {C O S E : Type 0} where
 
   -- Its slot is empty, and goes behind the others.
   pub cleared_more : (v : Knowledge S E) (me me₁ me₂ me₃ : At C O S E) (cleared slot : ℕ)
-      (watched : Option ℕ)
-      (x : Slot C O) → (h : IsWriting v me cleared watched)
-      → me₁ ≡ (
+      (watched : Option ℕ) (x : Slot C O) → (h : IsWriting v me cleared watched) → me₁ ≡ (
         cleared_in v (suc cleared) None,
         (
           side_slot cleared (standby_side (state_in v).head),
@@ -109,21 +83,6 @@ module _ {C O S E : Type 0} where
       })
 
 module _ {P C O S E : Type 0} (R : Ghosts P C O S E) where
-  -- A seat that has acquired the lock has cleared none.
-  pub acquired_then : (v : Knowledge S E) (me : At C O S E) (state : WriterState C O)
-      → Acquires R v me.0 state
-      → (state_in v).stage ≡ 0 → me.1 ≡ (0, Empty) ∷ [] → IsWriting me.0 me 0 None
-  acquired_then v me state a unpinned hand = record {
-    slots = [];
-    is = (λ i. (a.after i, hand i)) ∙ (λ i. let w = sym a.after i in (
-      cleared_in w 0 None,
-      (0, Empty) ∷ [],
-    ));
-    filled = refl;
-    holds = ap (λ (w : Knowledge S E). (state_in w).holds) a.after;
-    unpinned = ap (λ (w : Knowledge S E). (state_in w).stage) a.after ∙ unpinned;
-  }
-
   pub clear_at : (key : Setup S) (slots : ℕ) (st : Step (Slot C O)) (id word : ℕ)
       (v : Knowledge S E) (me : At C O S E)
       (cleared : ℕ) (watched : Option ℕ) → IsWriting v me cleared watched
@@ -134,7 +93,6 @@ module _ {P C O S E : Type 0} (R : Ghosts P C O S E) where
       let hand : Hand C O = (0, Empty) ∷ h.slots in
       subst (λ (n : ℕ). Allows (LeftRightRule R key) slots id me n (λ n. n) (clears st me)) (sym at)
       (subst (λ (m : At C O S E). Allows (LeftRightRule R key) slots id m (epoch_word cleared)
-      (λ n. n)
-      (clears st m)) (sym h.is)
+      (λ n. n) (clears st m)) (sym h.is)
       (clear_allowed R key slots st id v.setup (clearing (state_in v) cleared watched) hand h.holds
       below h.unpinned))

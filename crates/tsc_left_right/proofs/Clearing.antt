@@ -15,11 +15,12 @@ use Rattle.tsc_left_right.specs.declared.table.Setup.{Setup}
 use Rattle.tsc_left_right.specs.declared.table.Slot.{Slot}
 use Rattle.tsc_left_right.specs.declared.table.SeatState.{SeatState}
 use Rattle.tsc_left_right.specs.declared.table.Knowledge.{Knowledge}
-use Rattle.tsc_left_right.specs.Rule.{keeping, SharedState, LeftRightRule, SeatFits, head_word}
+use Rattle.tsc_left_right.specs.Rule.{keeping, SharedState, LeftRightRule, SeatFits}
 use Rattle.tsc_left_right.specs.Rule.{epoch_word, side_slot, active_side, standby_side}
 use Rattle.tsc_left_right.specs.Steps.{clearing, has_left, clears}
 use Rattle.tsc_left_right.proofs.Hands.{Homes, Hand}
 use Rattle.tsc_left_right.proofs.Plain.{some_same}
+use Rattle.tsc_left_right.proofs.Frames.{same_word, other_slots}
 use Rattle.tsc_left_right.proofs.Moves.{Board, knows_all, moved_kept, of_one}
 use Rattle.tsc_left_right.proofs.Plain.{same_number, none_is_no, false_is_no}
 use Rattle.tsc_left_right.proofs.Moves.{others_fit, writer_fits, writer_now}
@@ -42,8 +43,7 @@ module _ {P C O S E : Type 0} (R : Ghosts P C O S E) where
       false_is_no (sym none ∙ left)
 
   module _ (setup : Setup S) (slots : ℕ) (st : Step (Slot C O)) (id : ℕ) (t : Setup S)
-      (p : SeatState E)
-      (hand : Hand C O) where
+      (p : SeatState E) (hand : Hand C O) where
     abbrev holder : Knowledge S E
     holder = keeping t (p ∷ [])
 
@@ -85,22 +85,17 @@ module _ {P C O S E : Type 0} (R : Ghosts P C O S E) where
           views = set s.views id (keeping t (clearing p c wt ∷ []));
         })
         = λ c wt homes as_deep seats. moved_kept R setup s k id holder
-        (keeping t (clearing p c wt ∷ [])) (writer_now g g.word c wt) words homes
-        (record {
+        (keeping t (clearing p c wt ∷ [])) (writer_now g g.word c wt) words homes (record {
           at = at;
           legal = k.legal;
           limit = k.limit;
-          wide = length-set s.words i e ∙ k.wide;
-          deep = as_deep ∙ k.deep;
-          word_is = same 0 ∙ k.word_is;
-          head_is = same head_word ∙ k.head_is;
+          shape = other_slots (same_word k.shape i) homes as_deep;
           seats = seats;
           fits = of_one R t (clearing p c wt) all.same
               (writer_fits R g p p.holds g.word p.head c wt c wt all.mine
               (λ _. (all.all, all.taken, refl, refl, all.head)));
           others = λ other u apart z. others_fit R setup g g.word c wt u
-              (all.nobody other u apart z)
-              (k.views other u z);
+              (all.nobody other u apart z) (k.views other u z);
           each = λ _. refl;
           one = omega (arith, k.one);
           idle = λ z. absurd (omega (arith, z, taken));

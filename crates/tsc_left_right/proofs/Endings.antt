@@ -58,8 +58,7 @@ module _ {C O : Type 0} where
 module _ {P C O S E : Type 0} (R : Ghosts P C O S E) where
   -- If a participant keeps as many states as there are seats, it keeps each seat's once.
   pub each_there : (setup : Setup S) (s : Board C O S E) (k : LeftRightRule R setup s) (id : ℕ)
-      (v : Knowledge S E)
-      → get_elem? s.views id ≡ maybe.some v → length v.states ≡ setup.seats
+      (v : Knowledge S E) → get_elem? s.views id ≡ maybe.some v → length v.states ≡ setup.seats
       → (number : ℕ) → number < setup.seats → of_seat number v.states ≡ 1
   each_there setup s k id v at long number low =
       let some = all_there setup.seats v.states (low_number R setup s k v id at)
@@ -79,8 +78,7 @@ module _ {P C O S E : Type 0} (R : Ghosts P C O S E) where
 
   -- If it keeps all states, and none of them holds the lock, nobody does.
   pub nobody_holds : (setup : Setup S) (s : Board C O S E) (k : LeftRightRule R setup s) (id : ℕ)
-      (v : Knowledge S E)
-      → get_elem? s.views id ≡ maybe.some v
+      (v : Knowledge S E) → get_elem? s.views id ≡ maybe.some v
       → holders v ≡ 0 → length v.states ≡ setup.seats → k.g.word ≡ 0
   nobody_holds setup s k id v at none long = by_word k.g.word refl
     where
@@ -119,11 +117,9 @@ module _ {P C O S E : Type 0} (R : Ghosts P C O S E) where
       (v : Knowledge S E)
       → get_elem? s.views id ≡ maybe.some v → holders v ≡ 0 → length v.states ≡ key.seats
       → (slots : List (Slot C O)) → ((i : ℕ) (y : Slot C O)
-      → get_elem? s.homes i ≡ maybe.some (maybe.some y)
-      → get_elem? slots i ≡ maybe.some y)
+      → get_elem? s.homes i ≡ maybe.some (maybe.some y) → get_elem? slots i ≡ maybe.some y)
       → (x : Slot C O) → get_elem? slots 0 ≡ maybe.some x
-      → (state : LaidState C O) × (x ≡ Writer state)
-      × IsEnd R key v.states state.value
+      → (state : LaidState C O) × (x ≡ Writer state) × IsEnd R key v.states state.value
   home_at key s k id v at none long slots get x is =
       let free : k.g.word ≡ 0 = nobody_holds key s k id v at none long in
       let here = k.free free in

@@ -34,8 +34,7 @@ module _ {P C O S E : Type 0} (R : Ghosts P C O S E) where
 
   -- A front goes to another participant.
   pub join_at : (key : Setup S) (id : ℕ) (me : At C O S E) (other : ℕ) (front : At C O S E)
-      → IsAtRest me
-      → IsFront front
+      → IsAtRest me → IsFront front
       → Joins (LeftRightRule R key) id me.0 other front.0 (record me.0 { front = front.0.front })
       (spent R.unsettled)
   join_at key id me other front rested is =
@@ -66,8 +65,7 @@ module _ {P C O S E : Type 0} (R : Ghosts P C O S E) where
   ))
 
   pub catch_up_at : (key : Setup S) (slots : ℕ) (st : Step (Slot C O)) (id : ℕ) (me : At C O S E)
-      (t : Setup S)
-      (number : ℕ) (seen : List E) (count : ℕ) (other : List E)
+      (t : Setup S) (number : ℕ) (seen : List E) (count : ℕ) (other : List E)
       → me ≡ (with_front t (at_rest number seen count) other, [])
       → Allows (LeftRightRule R key) slots id me 0 (λ n. n) (catches_up R st me)
   catch_up_at key slots st id me t number seen count other is =
@@ -107,8 +105,7 @@ module _ {P C O S E : Type 0} (R : Ghosts P C O S E) where
 
   -- and is at rest
   pub caught_up_rests : (me me' : At C O S E) (other : List E) → IsAtRest me
-      → CatchesUp R me me' other
-      → IsAtRest me'
+      → CatchesUp R me me' other → IsAtRest me'
   caught_up_rests me me' other rested c =
       let is : me' ≡ (seated me.0.setup (number_of me.0) c.history (count_of me.0), []) = c.after
       ∙ (λ i. (with_state me.0 (record (state_in (rested i).0) { seen = c.history }), [])) in
@@ -154,8 +151,7 @@ module _ {P C O S E : Type 0} (R : Ghosts P C O S E) where
 
   -- two participants come together
   pub merge_at : (key : Setup S) (id : ℕ) (v : Knowledge S E) (other : ℕ) (w : Knowledge S E)
-      → KeepsStates v
-      → KeepsStates w
+      → KeepsStates v → KeepsStates w
       → Joins (LeftRightRule R key) id v other w (keeping v.setup (v.states ++ w.states))
       (spent R.unsettled)
   merge_at key id v other w is iw =

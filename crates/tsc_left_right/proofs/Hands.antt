@@ -65,8 +65,7 @@ module _ {C O : Type 0} where
 
     -- One that is among them is at home then, with what was in hand.
     pub put_among : (hs : Homes C O) (from : ℕ) (xs : Hand C O) (to r : ℕ)
-        → Filled P side from xs to
-        → from ≤ r → r < to → side_slot r side < length hs
+        → Filled P side from xs to → from ≤ r → r < to → side_slot r side < length hs
         → (x : Slot C O) × (get_elem? (put_all hs xs) (side_slot r side)
         ≡ maybe.some (maybe.some x))
         × P x
@@ -91,8 +90,7 @@ module _ {C O : Type 0} where
     filled_push from (x ∷ xs) to y f p = (f.0, f.1, filled_push (suc from) xs to y f.2 p)
 
     pub filled_weaker : (Q : Slot C O → Type 0) → ((x : Slot C O) → P x → Q x)
-        → (from : ℕ) (xs : Hand C O)
-        (to : ℕ) → Filled P side from xs to → Filled Q side from xs to
+        → (from : ℕ) (xs : Hand C O) (to : ℕ) → Filled P side from xs to → Filled Q side from xs to
     filled_weaker Q weaker from [] to f = f
     filled_weaker Q weaker from (x ∷ xs) to f = (
       f.0,

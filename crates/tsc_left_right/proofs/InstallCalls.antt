@@ -148,8 +148,7 @@ module _ {C O S E : Type 0} where
           ))
 
   pub installed_all : (v : Knowledge S E) (cache : C) (me : At C O S E) (adds seat seats : ℕ)
-      (all : Bool)
-      → Installs v me cache adds seat seats all → seats ≤ seat → all ≡ true
+      (all : Bool) → Installs v me cache adds seat seats all → seats ≤ seat → all ≡ true
       → HasInstalled v me cache adds seats
   installed_all v cache me adds seat seats all h high is_all = by_todo h.todo h.is h.left
     where

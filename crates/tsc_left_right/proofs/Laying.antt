@@ -41,8 +41,7 @@ module _ {C O : Type 0} where
 
   -- a full line
   pub line_full : (before xs : List (Slot C O)) (x : Slot C O) (n : ℕ)
-      → xs ≡ before ++ x ∷ replicate n Empty
-      → n ≡ 7 → xs ≡ before ++ line_of x
+      → xs ≡ before ++ x ∷ replicate n Empty → n ≡ 7 → xs ≡ before ++ line_of x
   line_full before xs x n is full = is ∙ ap (λ (k : ℕ). before ++ x ∷ replicate k Empty) full
 
   -- What is found in a list of slots is found in a longer one.
@@ -58,8 +57,7 @@ module _ {C O : Type 0} where
       (at_next xs (replicate 7 Empty) x i long)
 
   line_length : (xs ys : List (Slot C O)) (x : Slot C O) (n : ℕ) → ys ≡ xs ++ line_of x
-      → length xs ≡ n
-      → length ys ≡ n + 8
+      → length xs ≡ n → length ys ≡ n + 8
   line_length xs ys x n is long = omega (arith, ap length is, length-append xs (line_of x), long)
 
   -- a seat more: a handle on side 0, and nothing on side 1
@@ -93,21 +91,9 @@ module _ {C O : Type 0} where
             (arith, low, isnt))));
       }
 
-  -- no seat yet
-  pub laid_none : (state : LaidState C O) (xs : List (Slot C O)) → xs ≡ line_of (Writer state)
-      → IsLaidOut state 0 xs
-  laid_none state xs is = subst (IsLaidOut state 0) (sym is) (record {
-    deep = refl;
-    writer = refl;
-    active = λ seat low. absurd (omega (arith, low));
-    standby = λ seat low.
-        absurd (omega (arith, low));
-  })
-
   -- all seats
   pub laid_all : (state : LaidState C O) (n m : ℕ) (xs : List (Slot C O)) → n ≤ m → m ≤ n
-      → IsLaidOut state n xs
-      → IsLaidOut state m xs
+      → IsLaidOut state n xs → IsLaidOut state m xs
   laid_all state n m xs le ge laid = subst (λ (k : ℕ). IsLaidOut state k xs) (let g : n ≡ m =
       omega (arith, le, ge) in g) laid
 

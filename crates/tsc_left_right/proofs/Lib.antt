@@ -2,6 +2,7 @@ pub mod Plain
 pub mod Totals
 pub mod Updates
 pub mod Hands
+pub mod Frames
 pub mod Prefixes
 pub mod Moves
 pub mod Openings

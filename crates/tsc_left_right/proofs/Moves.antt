@@ -1,7 +1,7 @@
 -- A step of one participant keeps the rule.
 use Rattle.std.proofs.Common.{◌≡◌, ◌≢◌, ◌∙◌, inl, inr, refl, sym, ap, subst, true, ℕ, zero}
 use Rattle.std.proofs.Common.{suc, ◌+◌, ◌<◌, ◌≤◌, List, [], ◌∷◌, length, set, arith}
-use Rattle.std.proofs.Common.{slice_index, get_or-set_other, length-set, ◌%◌}
+use Rattle.std.proofs.Common.{slice_index, ◌%◌}
 use Rattle.std.specs.Prelude.{Option, None, Bool, ◌==◌, nat_lt}
 use Rattle.std.specs.List.{sum_by}
 use mathlib.Core.Option as maybe
@@ -20,11 +20,12 @@ use Rattle.tsc_left_right.specs.declared.table.Knowledge.{Knowledge}
 use Rattle.tsc_left_right.specs.Rule.{LaidState, keeping, one_if, SharedState, LeftRightRule}
 use Rattle.tsc_left_right.specs.Rule.{active_side, standby_side, epoch_word, side_slot}
 use Rattle.tsc_left_right.specs.Rule.{SeatFits, KnowledgeFits, WriterFits}
-use Rattle.tsc_left_right.specs.Rule.{StateFits, IsAfter, states_of, holders, head_word}
-use Rattle.tsc_left_right.specs.Rule.{word_count, slot_count}
+use Rattle.tsc_left_right.specs.Rule.{StateFits, IsAfter, states_of, holders}
+use Rattle.tsc_left_right.specs.Rule.{HasShape}
 use Rattle.tsc_left_right.proofs.Prefixes.{begins_empty}
 use Rattle.tsc_left_right.proofs.Totals.{part, two_parts, total_set}
 use Rattle.tsc_left_right.proofs.Hands.{Homes}
+use Rattle.tsc_left_right.proofs.Frames.{other_word}
 use Rattle.tsc_left_right.proofs.Plain.{same_number, at_most_one, busy_word, epoch_same}
 use Rattle.tsc_left_right.specs.declared.replicated.Replicated.{Ghosts}
 use Rattle.tsc_left_right.specs.Histories.{IsLegal}
@@ -74,20 +75,15 @@ module _ {S E : Type 0} where
 module _ {P C O S E : Type 0} (R : Ghosts P C O S E) where
   -- the table when one participant knows something else, with all that may change
   pub record Moved (setup : Setup S) (s : Board C O S E) (k : LeftRightRule R setup s) (id : ℕ)
-      (v w : Knowledge S E)
-      (g : SharedState E) (words : List ℕ) (homes : Homes C O) : Type 0 where
+      (v w : Knowledge S E) (g : SharedState E) (words : List ℕ) (homes : Homes C O) : Type 0 where
     pub at : get_elem? s.views id ≡ maybe.some v
     pub legal : IsLegal R setup.settings setup.seats g.history
     pub limit : length g.history ≤ setup.limit
-    pub wide : length words ≡ word_count setup.seats
-    pub deep : length homes ≡ slot_count setup.seats
-    pub word_is : slice_index words 0 ≡ g.word
-    pub head_is : slice_index words head_word ≡ g.head
+    pub shape : HasShape setup.seats g.word g.head words homes
     pub seats : (seat : ℕ) → seat < setup.seats → SeatFits R setup g words homes seat
     pub fits : KnowledgeFits R setup g w
     pub others : (other : ℕ) (u : Knowledge S E) → other ≢ id
-        → get_elem? s.views other ≡ maybe.some u
-        → KnowledgeFits R setup g u
+        → get_elem? s.views other ≡ maybe.some u → KnowledgeFits R setup g u
     pub each : (number : ℕ) → states_of number w ≡ states_of number v
     pub one : sum_by holders s.views + holders w ≡ one_if (nat_lt 0 g.word) + holders v
     pub idle : g.word ≡ 0 → (g.cleared ≡ 0) × (g.watched ≡ None)
@@ -96,8 +92,7 @@ module _ {P C O S E : Type 0} (R : Ghosts P C O S E) where
         × IsAfter R setup g.history g.head state.value
 
   pub moved_kept : (setup : Setup S) (s : Board C O S E) (k : LeftRightRule R setup s) (id : ℕ)
-      (v w : Knowledge S E)
-      (g : SharedState E) (words : List ℕ) (homes : Homes C O)
+      (v w : Knowledge S E) (g : SharedState E) (words : List ℕ) (homes : Homes C O)
       → Moved setup s k id v w g words homes → LeftRightRule R setup (record {
         words = words;
         homes =
@@ -108,10 +103,7 @@ module _ {P C O S E : Type 0} (R : Ghosts P C O S E) where
     g = g;
     legal = m.legal;
     limit = m.limit;
-    wide = m.wide;
-    deep = m.deep;
-    word_is = m.word_is;
-    head_is = m.head_is;
+    shape = m.shape;
     seats = m.seats;
     views = λ other u e. elim (at_set s.views id other w u e) [
       | inl same ↦ subst (KnowledgeFits R setup g) same.1 m.fits
@@ -163,8 +155,7 @@ module _ {P C O S E : Type 0} (R : Ghosts P C O S E) where
 
   -- Of two participants only one keeps the state of a seat.
   pub no_other : (setup : Setup S) (s : Board C O S E) (k : LeftRightRule R setup s)
-      (id other number : ℕ)
-      (v u : Knowledge S E) → other ≢ id → get_elem? s.views id ≡ maybe.some v
+      (id other number : ℕ) (v u : Knowledge S E) → other ≢ id → get_elem? s.views id ≡ maybe.some v
       → get_elem? s.views other
       ≡ maybe.some u
       → states_of number v ≡ 1 → states_of number u ≡ 0
@@ -179,8 +170,7 @@ module _ {P C O S E : Type 0} (R : Ghosts P C O S E) where
 
   -- what the writer knows
   pub record KnowsAll (setup : Setup S) (s : Board C O S E) (k : LeftRightRule R setup s) (id : ℕ)
-      (t : Setup S)
-      (p : SeatState E) : Type 0 where
+      (t : Setup S) (p : SeatState E) : Type 0 where
     pub same : t ≡ setup
     pub mine : StateFits R k.g p
     pub all : p.seen ≡ k.g.history
@@ -191,12 +181,10 @@ module _ {P C O S E : Type 0} (R : Ghosts P C O S E) where
     pub low : p.number < setup.seats
     pub one : sum_by holders s.views ≡ 1
     pub nobody : (other : ℕ) (u : Knowledge S E) → other ≢ id
-        → get_elem? s.views other ≡ maybe.some u
-        → holders u ≡ 0
+        → get_elem? s.views other ≡ maybe.some u → holders u ≡ 0
 
   pub knows_all : (setup : Setup S) (s : Board C O S E) (k : LeftRightRule R setup s) (id : ℕ)
-      (t : Setup S)
-      (p : SeatState E) → p.holds ≡ true
+      (t : Setup S) (p : SeatState E) → p.holds ≡ true
       → get_elem? s.views id ≡ maybe.some (keeping t (p ∷ [])) → KnowsAll setup s k id t p
   knows_all setup s k id t p holding at =
       let v : Knowledge S E = keeping t (p ∷ []) in
@@ -226,8 +214,7 @@ module _ {P C O S E : Type 0} (R : Ghosts P C O S E) where
 
   -- Nothing changes by a step that leaves its word as it is.
   pub unmoved : (setup : Setup S) (s : Board C O S E) (k : LeftRightRule R setup s) (id : ℕ)
-      (v : Knowledge S E)
-      (i : ℕ) → get_elem? s.views id ≡ maybe.some v
+      (v : Knowledge S E) (i : ℕ) → get_elem? s.views id ≡ maybe.some v
       → LeftRightRule R setup (record {
         words = set s.words i (slice_index s.words i);
         homes = s.homes;
@@ -235,8 +222,7 @@ module _ {P C O S E : Type 0} (R : Ghosts P C O S E) where
       })
   unmoved setup s k id v i at = subst (λ (vs : List (Knowledge S E)). LeftRightRule R setup
       (record { words = set s.words i (slice_index s.words i); homes = s.homes; views = vs }))
-      (sym (set_again s.views id v at))
-      (subst (λ (ws : List ℕ). LeftRightRule R setup (record {
+      (sym (set_again s.views id v at)) (subst (λ (ws : List ℕ). LeftRightRule R setup (record {
         words = ws;
         homes = s.homes;
         views = s.views;
@@ -244,14 +230,12 @@ module _ {P C O S E : Type 0} (R : Ghosts P C O S E) where
 
   -- and a seat fits as before where its epoch and its side slots stay.
   pub seat_same : (setup : Setup S) (g g' : SharedState E) (words words' : List ℕ)
-      (homes homes' : Homes C O)
-      (r : ℕ)
+      (homes homes' : Homes C O) (r : ℕ)
       → g'.history ≡ g.history → g'.head ≡ g.head → g'.stage_of r ≡ g.stage_of r
       → g'.cleared ≡ g.cleared → g'.watched ≡ g.watched
       → slice_index words' (epoch_word r) ≡ slice_index words (epoch_word r)
       → ((side : ℕ) → side < 2 → get_elem? homes' (side_slot r side) ≡ get_elem? homes
-      (side_slot r side))
-      → SeatFits R setup g words homes r → SeatFits R setup g' words' homes' r
+      (side_slot r side)) → SeatFits R setup g words homes r → SeatFits R setup g' words' homes' r
   seat_same setup g g' words words' homes homes' r history head stage cleared watched epoch sides
       ok = record {
         unpinned = λ z. ap (λ (e : ℕ). e % 2) epoch ∙ ok.unpinned (sym stage ∙ z);
@@ -313,10 +297,7 @@ module _ {P C O S E : Type 0} (R : Ghosts P C O S E) where
     g = k.g;
     legal = k.legal;
     limit = k.limit;
-    wide = length-set s.words 1 y ∙ k.wide;
-    deep = k.deep;
-    word_is = get_or-set_other s.words 1 0 y 0 (λ z. omega (arith, z)) ∙ k.word_is;
-    head_is = get_or-set_other s.words 1 head_word y 0 (λ z. omega (arith, z)) ∙ k.head_is;
+    shape = other_word k.shape 1 y (λ z. omega (arith, z)) (λ z. omega (arith, z));
     seats = λ r low. seat_same setup k.g k.g s.words (set s.words 1 y) s.homes s.homes r refl refl
         refl refl refl (epoch_same s.words 1 y r (omega arith)) (λ _ _. refl) (k.seats r low);
     views = k.views;

@@ -128,10 +128,12 @@ module _ {P C O S E : Type 0} (R : Ghosts P C O S E) where
         g = first_shared;
         legal = legal_empty R setup.settings setup.seats;
         limit = omega arith;
-        wide = length-replicate (word_count setup.seats) 0;
-        deep = length-map slots (λ (x : Slot C O). maybe.some x) ∙ laid.deep;
-        word_is = blank 0;
-        head_is = blank 16;
+        shape = record {
+          wide = length-replicate (word_count setup.seats) 0;
+          deep = length-map slots (λ (x : Slot C O). maybe.some x) ∙ laid.deep;
+          word_is = blank 0;
+          head_is = blank 16;
+        };
         seats = λ r low. let x = laid.active r low in let y = laid.standby r low in record {
           unpinned = λ _. ap (λ (e : ℕ). e % 2) (blank (epoch_word r));
           pinned = λ z. absurd (omega (arith, z));
@@ -162,8 +164,7 @@ module _ {P C O S E : Type 0} (R : Ghosts P C O S E) where
           e) (record {
             settled = λ _. refl;
             states = λ i p e'. subst (StateFits R first_shared) (sym
-                (fresh_at 0 setup.seats i p e'))
-                (record {
+                (fresh_at 0 setup.seats i p e')) (record {
                   begins = begins_empty [];
                   own = refl;
                   own_seen = refl;

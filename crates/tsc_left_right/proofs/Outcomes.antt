@@ -1,8 +1,7 @@
 -- What a writer knows from the time when it has acquired the lock until it has released it.
-use Rattle.std.proofs.Common.{◌≡◌, ◌∙◌, refl, sym, ap, subst, ℕ, ◌+◌, ◌<◌, ◌≤◌, [], ◌∷◌}
-use Rattle.std.proofs.Common.{◌++◌, length, arith, length-append, true≢false}
-use Rattle.std.specs.Prelude.{Option, Some, None, Result, Ok, Err, IfOk, IfErr, List}
-use Rattle.std.specs.Prelude.{IsNone, is_some}
+use Rattle.std.proofs.Common.{◌≡◌, ◌∙◌, refl, sym, ap, subst, ℕ, ◌+◌, ◌<◌, [], ◌∷◌}
+use Rattle.std.proofs.Common.{◌++◌, length}
+use Rattle.std.specs.Prelude.{Option, None, Result, Ok, Err, IfOk, IfErr, List}
 use Rattle.std.specs.Arc.{arc_value}
 use Rattle.std.specs.declared.sync.Arc.{Arc}
 use Rattle.std.specs.declared.alloc.Global.{Global}
@@ -18,28 +17,23 @@ use Rattle.tsc_left_right.specs.declared.preparing.Aborted.{Aborted}
 use Rattle.tsc_left_right.specs.declared.round.Outcome.{Outcome}
 use Rattle.tsc_left_right.specs.declared.round.Outcome.TheVariants.{Busy, Made, Refused}
 use Rattle.tsc_left_right.specs.Histories.{own_count, IsLegal}
-use Rattle.tsc_left_right.specs.Copies.{CanBe, HandleLags, MayTake, IsNextCopy, StillStand}
+use Rattle.tsc_left_right.specs.Copies.{CanBe, HandleLags, MayTake}
 use Rattle.tsc_left_right.specs.Rule.{at_rest, IsAfter}
 use Rattle.tsc_left_right.specs.Steps.{At, state_in, with_state, seated, number_of, seen_of}
-use Rattle.tsc_left_right.specs.Steps.{count_of, acquired, published}
+use Rattle.tsc_left_right.specs.Steps.{count_of, acquired}
 use Rattle.tsc_left_right.specs.Participating.{IsNumber, IsAtRest, IsWriting, CanAdd}
-use Rattle.tsc_left_right.specs.Participating.{HasAcquired, HasInstalled, IsReady}
+use Rattle.tsc_left_right.specs.Participating.{HasAcquired}
 use Rattle.tsc_left_right.specs.Participating.{cleared_in, published_in, released_in}
-use Rattle.tsc_left_right.specs.Round.{IsNewWriter, MayPrepare, IsSwapped, resting, IsHindered}
+use Rattle.tsc_left_right.specs.Round.{IsNewWriter, MayPrepare, resting, IsHindered}
 use Rattle.tsc_left_right.specs.Round.{IsPrepared, MayLeave, IsAborted, IsApplied, IsNotApplied}
 use Rattle.tsc_left_right.specs.Round.{IsOutcome, IsBusy}
 use Rattle.tsc_left_right.proofs.Prefixes.{begins_itself, begins_on, legal_push}
 use Rattle.tsc_left_right.proofs.ClearCalls.{writing_self}
 
--- A lock that was not tried was not acquired.
-pub no_state : {X : Type 0} (P : Type 0) (o : Option X) (state : X) → o ≡ Some state → IsNone o → P
-no_state P o state is none = absurd (true≢false (sym (ap is_some is) ∙ none))
-
 module _ {P C O S E : Type 0} (R : Ghosts P C O S E) where
   -- A seat that was at rest and has acquired the lock.
   pub new_writer : (me me' : At C O S E) (state : WriterState C O) → IsAtRest me
-      → HasAcquired R me.0 me' state
-      → IsNewWriter R me' state
+      → HasAcquired R me.0 me' state → IsNewWriter R me' state
   new_writer me me' state rested a =
       let p : SeatState E = at_rest (number_of me.0) (seen_of me.0) (count_of me.0) in
       let is : me' ≡ (
@@ -88,8 +82,7 @@ module _ {P C O S E : Type 0} (R : Ghosts P C O S E) where
     release = record {
       lock = (cleared, watched, writing_self me.0 me' cleared watched w);
       is_after = subst (λ (u : Knowledge S E). IsAfter R u.setup (seen_of u)
-          (state_in u).head state)
-          (sym (cleared_new me me' cleared watched state n w)) n.is_after;
+          (state_in u).head state) (sym (cleared_new me me' cleared watched state n w)) n.is_after;
     };
     same = ap (λ (m : At C O S E). released_in m.0) w.is;
   }
@@ -127,22 +120,6 @@ module _ {P C O S E : Type 0} (R : Ghosts P C O S E) where
     count = count_of me.0;
     next = m.can (seen_of me.0) (number_of me.0) (count_of me.0)
         (subst (λ (r : ℕ). r < me.0.setup.seats) low.0 low.1) m.own;
-  }
-
-  -- If memory is refused, the writer may release the lock with copies that stand for the same.
-  pub held_leaves : (me : At C O S E) (seats : ℕ) (state state₁ : WriterState C O) (op : O)
-      → MayPrepare R seats me state op → StillStand R state.copies state₁.copies
-      → state₁.length ≡ state.length → state₁.head ≡ state.head → MayLeave R me.0 me state₁
-  held_leaves me seats state state₁ op m still long head = record {
-    release = record {
-      lock = (seats, None, m.writing);
-      is_after = record {
-        stand = still.stand me.0.setup.settings (seen_of me.0) m.is_after.stand;
-        length = long ∙ m.is_after.length;
-        head_is = head ∙ m.is_after.head_is;
-      };
-    };
-    same = refl;
   }
 
   -- The writer knows the same once handles are installed.
@@ -210,64 +187,6 @@ module _ {P C O S E : Type 0} (R : Ghosts P C O S E) where
   }
 
   module _ {A : Type 0} (answers : S → List E → O → A) where
-    -- All is prepared that is to be published, where there was memory.
-    pub prepared : (me me₂ : At C O S E) (seats : ℕ) (state between state₄ : WriterState C O)
-        (op : O) (answer : A) (adds : ℕ) (next : Arc C Global)
-        → seats ≡ me.0.setup.seats → MayPrepare R seats me state op
-        → IsNextCopy R answers state.copies op (arc_value next) answer
-        → HasInstalled me.0 me₂ (arc_value next) adds seats → adds ≡ state.length + 1
-        → between.copies.active ≡ state.copies.active → between.length ≡ state.length
-        → between.head ≡ state.head → IsSwapped between next op state₄
-        → IsPrepared R answers me.0 me₂ op state₄ answer
-    prepared me me₂ seats state between state₄ op answer adds next all may made installed adds_is
-        active long head_at sw =
-        let p : SeatState E = state_in me.0 in
-        let t : Setup S = me.0.setup in
-        let e = R.entry_of p.number p.count op in
-        let h : List E = p.seen in
-        let after = may.is_after in
-        let one_more : length (h ++ e ∷ []) ≡ length h + 1 = length-append h (e ∷ []) in
-        let same : me₂.0 ≡ me.0 = installed_same me me₂ seats state op may
-        (ap (λ (m : At C O S E). m.0) installed.is) in
-        let seats_is : seats ≡ me₂.0.setup.seats =
-        all ∙ ap (λ (v : Knowledge S E). v.setup.seats) (sym same) in
-        let ready : IsReady R me.0 state₄ = record {
-          can = subst (CanAdd R t) (sym sw.lagging) may.can;
-          limit = subst (λ (o : Option O). length (published R p o) ≤ t.limit)
-              (sym sw.lagging) (omega (arith, one_more, may.room, after.length));
-          is_after = subst (λ (o : Option O). IsAfter R t (published R p o) p.head state₄)
-              (sym sw.lagging) (record {
-                stand = record {
-                  active = subst (λ (c : Arc C Global). R.stands t.settings (h ++ e ∷ [])
-                      (arc_value c)) (sym sw.active)
-                      (made.stands t.settings h p.number p.count after.stand);
-                  behind = subst (λ (o : Option O). HandleLags R t.settings (h ++ e ∷ []) o
-                      state₄.copies.standby) (sym sw.lagging)
-                      (subst (HandleLags R t.settings (h ++ e ∷ []) (Some op))
-                      (sym (sw.standby ∙ ap Some active))
-                      (h, p.number, p.count, refl, after.stand.active));
-                };
-                length = omega (arith, sw.length, long, after.length, one_more);
-                head_is = sw.head ∙ head_at ∙ after.head_is;
-              });
-        } in record {
-          ready = record {
-            installed = subst (λ (n : ℕ). HasInstalled me₂.0 me₂ (arc_value state₄.copies.active)
-                state₄.length n) seats_is
-                (subst (λ (n : ℕ). HasInstalled me₂.0 me₂ (arc_value state₄.copies.active) n seats)
-                (omega (arith, adds_is, sw.length, long))
-                (subst (λ (c : Arc C Global). HasInstalled me₂.0 me₂ (arc_value c) adds seats)
-                (sym sw.active)
-                (subst (λ (v : Knowledge S E). HasInstalled v me₂ (arc_value next) adds seats)
-                (sym same) installed)));
-            ready = subst (λ (v : Knowledge S E). IsReady R v state₄) (sym same) ready;
-          };
-          lagging = sw.lagging;
-          same = ap released_in same;
-          below = omega (arith, may.room, after.length);
-          answer_is = made.told t.settings h after.stand;
-        }
-
     -- What is prepared by a copy is what is asked for.
     pub made_of_copy : (Asked : O → Type 0) (u v : Knowledge S E) (me : At C O S E) (op : O)
         (r : Result (Prepared C O A) (Aborted C O)) → released_in u ≡ released_in v → Asked op
@@ -334,8 +253,7 @@ module _ {P C O S E : Type 0} (R : Ghosts P C O S E) where
 
     -- What became of the operation, by what the seat knew before it acquired the lock.
     since_applied : (me me₁ me₂ : At C O S E) (state : WriterState C O) (op : O) (place : ℕ)
-        (answer : A) → HasAcquired R me.0 me₁ state
-        → IsApplied R answers me₁.0 me₂ op place answer
+        (answer : A) → HasAcquired R me.0 me₁ state → IsApplied R answers me₁.0 me₂ op place answer
         → IsApplied R answers me.0 me₂ op place answer
     since_applied me me₁ me₂ state op place answer a i =
         let w : Knowledge S E = with_state me.0 (acquired (state_in me.0) a.0.history a.0.head) in

@@ -1,6 +1,6 @@
 -- A seat is pinned, takes its slot of the active side, and is unpinned.
 use Rattle.std.proofs.Common.{◌≡◌, ◌≢◌, ◌∙◌, refl, sym, ap, subst, ℕ, ◌+◌, ◌%◌, ◌^◌, ◌<◌, List, []}
-use Rattle.std.proofs.Common.{◌∷◌, length, set, arith, slice_index, length-set, get_or-set_other}
+use Rattle.std.proofs.Common.{◌∷◌, set, arith, slice_index, get_or-set_other}
 use Rattle.std.proofs.Common.{get_or-set_same}
 use Rattle.std.specs.Prelude.{◌==◌}
 use mathlib.Core.Logic.{dite}
@@ -18,10 +18,11 @@ use Rattle.tsc_left_right.specs.declared.table.Knowledge.{Knowledge}
 use Rattle.tsc_left_right.specs.Rule.{keeping, one_if, SharedState, LeftRightRule, SeatFits, Shows}
 use Rattle.tsc_left_right.specs.Rule.{IsHome, StateFits, states_of, head_word}
 use Rattle.tsc_left_right.specs.Rule.{epoch_word, side_slot}
-use Rattle.tsc_left_right.specs.Rule.{active_side, standby_side}
+use Rattle.tsc_left_right.specs.Rule.{active_side, standby_side, HasShape}
 use Rattle.tsc_left_right.specs.Steps.{staged, pins, reads_head, unpins}
 use Rattle.tsc_left_right.proofs.Updates.{put, put_here, put_else}
 use Rattle.tsc_left_right.proofs.Hands.{Homes, Hand}
+use Rattle.tsc_left_right.proofs.Frames.{other_word, other_slot, same_word}
 use Rattle.tsc_left_right.proofs.Moves.{Board, moved_kept, of_one, only_fits, low_number, not_its}
 use Rattle.tsc_left_right.proofs.Plain.{same_number}
 use Rattle.tsc_left_right.proofs.Moves.{no_other, seat_same}
@@ -43,12 +44,8 @@ module _ {E : Type 0} where
 module _ {P C O S E : Type 0} (R : Ghosts P C O S E) where
   -- A seat goes to another stage. Its own epoch and side slots alone change.
   pub record Stepped (setup : Setup S) (s : Board C O S E) (k : LeftRightRule R setup s)
-      (p q : SeatState E)
-      (stage : ℕ) (words : List ℕ) (homes : Homes C O) : Type 0 where
-    pub wide : length words ≡ length s.words
-    pub deep : length homes ≡ length s.homes
-    pub word_same : slice_index words 0 ≡ slice_index s.words 0
-    pub head_same : slice_index words head_word ≡ slice_index s.words head_word
+      (p q : SeatState E) (stage : ℕ) (words : List ℕ) (homes : Homes C O) : Type 0 where
+    pub shape : HasShape setup.seats k.g.word k.g.head words homes
     pub lock_slot_same : get_elem? homes 0 ≡ get_elem? s.homes 0
     pub others : (r : ℕ) → r ≢ p.number → (slice_index words (epoch_word r) ≡ slice_index s.words
         (epoch_word r)) × ((side : ℕ) → side < 2 → get_elem? homes (side_slot r side)
@@ -59,8 +56,7 @@ module _ {P C O S E : Type 0} (R : Ghosts P C O S E) where
     pub fits : StateFits R (stage_now k.g p.number stage) q
 
   pub stage_kept : (setup : Setup S) (s : Board C O S E) (k : LeftRightRule R setup s) (id : ℕ)
-      (t : Setup S)
-      (p q : SeatState E) (stage : ℕ) (words : List ℕ) (homes : Homes C O)
+      (t : Setup S) (p q : SeatState E) (stage : ℕ) (words : List ℕ) (homes : Homes C O)
       → get_elem? s.views id ≡ maybe.some (keeping t (p ∷ [])) → Stepped setup s k p q stage words
       homes
       → LeftRightRule R setup (record {
@@ -80,10 +76,7 @@ module _ {P C O S E : Type 0} (R : Ghosts P C O S E) where
         at = at;
         legal = k.legal;
         limit = k.limit;
-        wide = m.wide ∙ k.wide;
-        deep = m.deep ∙ k.deep;
-        word_is = m.word_same ∙ k.word_is;
-        head_is = m.head_same ∙ k.head_is;
+        shape = m.shape;
         seats = λ r low. dite (ℕ_discrete r n)
             (λ is. subst (SeatFits R setup g' words homes) (sym is) m.here)
             (λ isnt. let o = m.others r isnt in seat_same R setup g g' s.words words s.homes homes r
@@ -109,8 +102,7 @@ module _ {P C O S E : Type 0} (R : Ghosts P C O S E) where
       })
 
   module _ (setup : Setup S) (slots : ℕ) (st : Step (Slot C O)) (id : ℕ) (t : Setup S)
-      (p : SeatState E)
-      (hand : Hand C O) where
+      (p : SeatState E) (hand : Hand C O) where
     abbrev v : Knowledge S E
     v = keeping t (p ∷ [])
 
@@ -127,7 +119,7 @@ module _ {P C O S E : Type 0} (R : Ghosts P C O S E) where
         let e : ℕ = slice_index s.words i in
         let y : ℕ = (e + 1) % 18446744073709551616 in
         let even : e % 2 ≡ 0 = ok.unpinned is in
-        let wide = k.wide in
+        let wide = k.shape.wide in
         let now : slice_index (set s.words i y) i ≡ y = get_or-set_same s.words i y 0
         (omega (arith, wide, low)) in
         let stage = put_here g.stage_of n 1 in (
@@ -135,10 +127,7 @@ module _ {P C O S E : Type 0} (R : Ghosts P C O S E) where
           act_keeps,
           tt,
           stage_kept setup s k id t p (staged p 1) 1 (set s.words i y) s.homes at (record {
-            wide = length-set s.words i y;
-            deep = refl;
-            word_same = get_or-set_other s.words i 0 y 0 (λ z. omega (arith, z));
-            head_same = get_or-set_other s.words i head_word y 0 (λ z. omega (arith, z));
+            shape = other_word k.shape i y (λ z. omega (arith, z)) (λ z. omega (arith, z));
             lock_slot_same = refl;
             others = λ r isnt. (
               get_or-set_other s.words i (epoch_word r) y 0
@@ -183,7 +172,7 @@ module _ {P C O S E : Type 0} (R : Ghosts P C O S E) where
         let ok = k.seats n low in
         let found : ℕ = slice_index s.words head_word in
         let side : ℕ = active_side found in
-        let head = k.head_is in
+        let head = k.shape.head_is in
         let j : ℕ = side_slot n side in
         let words : List ℕ = set s.words head_word found in
         let homes : Homes C O = set s.homes j maybe.none in
@@ -197,10 +186,7 @@ module _ {P C O S E : Type 0} (R : Ghosts P C O S E) where
           act_takes j x.0,
           x.1,
           stage_kept setup s k id t p q (side + 2) words homes at (record {
-            wide = length-set s.words head_word found;
-            deep = length-set s.homes j maybe.none;
-            word_same = same 0;
-            head_same = same head_word;
+            shape = other_slot (same_word k.shape head_word) j maybe.none;
             lock_slot_same = set_else s.homes j 0 maybe.none (λ z. omega (arith, z));
             others = λ r isnt. (
               same (epoch_word r),
@@ -269,8 +255,8 @@ module _ {P C O S E : Type 0} (R : Ghosts P C O S E) where
           let e : ℕ = slice_index s.words i in
           let y : ℕ = (e + 1) % 18446744073709551616 in
           let odd : e % 2 ≡ 1 = ok.pinned (omega (arith, is)) in
-          let wide = k.wide in
-          let tall = k.deep in
+          let wide = k.shape.wide in
+          let tall = k.shape.deep in
           let homes : Homes C O = set s.homes j (maybe.some x) in
           let stage = put_here g.stage_of n 0 in
           let now : slice_index (set s.words i y) i ≡ y = get_or-set_same s.words i y 0
@@ -286,10 +272,9 @@ module _ {P C O S E : Type 0} (R : Ghosts P C O S E) where
             act_gives,
             tt,
             stage_kept setup s k id t p (staged p 0) 0 (set s.words i y) homes at (record {
-              wide = length-set s.words i y;
-              deep = length-set s.homes j (maybe.some x);
-              word_same = get_or-set_other s.words i 0 y 0 (λ z. omega (arith, z));
-              head_same = get_or-set_other s.words i head_word y 0 (λ z. omega (arith, z));
+              shape = other_slot
+                  (other_word k.shape i y (λ z. omega (arith, z)) (λ z. omega (arith, z))) j
+                  (maybe.some x);
               lock_slot_same = set_else s.homes j 0 (maybe.some x) (λ z. omega (arith, z));
               others = λ r isnt. (
                 get_or-set_other s.words i (epoch_word r) y 0

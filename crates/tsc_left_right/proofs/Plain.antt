@@ -123,7 +123,3 @@ some_part f (x ∷ xs) some = elim (same_or_not (f x) 0) [
   ))) in (suc rest.0, rest.1, rest.2, rest.3))
   | inr is ↦ (0, x, refl, is)
 ]
-
-pub holds_if : (b : Bool) → one_if b ≢ 0 → b ≡ true
-holds_if true some = refl
-holds_if false some = absurd (some refl)

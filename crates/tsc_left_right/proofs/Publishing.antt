@@ -1,7 +1,6 @@
 -- The writer's Add comes into the history by one step, which swaps the copies.
 use Rattle.std.proofs.Common.{◌≡◌, ◌≢◌, ◌∙◌, refl, sym, ap, subst, true, ℕ, suc, ◌+◌, ◌%◌, ◌<◌}
-use Rattle.std.proofs.Common.{◌≤◌, List, [], ◌∷◌, ◌++◌, length, set, arith, length-set}
-use Rattle.std.proofs.Common.{get_or-set_other, get_or-set_same}
+use Rattle.std.proofs.Common.{◌≤◌, List, [], ◌∷◌, ◌++◌, length, set, arith}
 use Rattle.std.specs.Prelude.{Option, Some, None, ◌==◌}
 use Rattle.std.specs.Arc.{arc_value}
 use lib.ListN.{get_elem?}
@@ -21,6 +20,7 @@ use Rattle.tsc_left_right.proofs.Prefixes.{begins_more, legal_push, own_append, 
 use Rattle.tsc_left_right.proofs.Prefixes.{own_of_other}
 use Rattle.tsc_left_right.proofs.Hands.{Homes, Hand, put_all, give_all, given_homes, given_none}
 use Rattle.tsc_left_right.proofs.Hands.{given_valid, put_length, put_apart, put_among}
+use Rattle.tsc_left_right.proofs.Frames.{turned_head, other_slots}
 use Rattle.tsc_left_right.proofs.Moves.{Moved, moved_kept, of_one, low_number, not_its, not_holding}
 use Rattle.tsc_left_right.proofs.Plain.{busy_word, none_is_no, same_number}
 use Rattle.tsc_left_right.proofs.Moves.{knows_all, no_other}
@@ -86,8 +86,7 @@ module _ {P C O S E : Type 0} (R : Ghosts P C O S E) where
       }
 
   module _ (setup : Setup S) (slots : ℕ) (st : Step (Slot C O)) (id : ℕ) (t : Setup S)
-      (p : SeatState E)
-      (state : LaidState C O) (sides : Hand C O) where
+      (p : SeatState E) (state : LaidState C O) (sides : Hand C O) where
     abbrev v : Knowledge S E
     v = keeping t (p ∷ [])
 
@@ -136,8 +135,7 @@ module _ {P C O S E : Type 0} (R : Ghosts P C O S E) where
         let words : List ℕ = set s.words head_word n in
         let homes : Homes C O = put_all s.homes sides in
         let w : Knowledge S E = with_state v (flipped R p add) in
-        let tall = k.deep in
-        let wide = k.wide in
+        let tall = k.shape.deep in
         let taken = all.taken in
         let head_is = all.head in
         let one = all.one in
@@ -163,10 +161,7 @@ module _ {P C O S E : Type 0} (R : Ghosts P C O S E) where
           at = at;
           legal = more.legal;
           limit = omega (arith, room, ap (λ (x : Setup S). x.limit) all.same);
-          wide = length-set s.words head_word n ∙ k.wide;
-          deep = put_length s.homes sides ∙ k.deep;
-          word_is = get_or-set_other s.words head_word 0 n 0 (λ z. omega (arith, z)) ∙ k.word_is;
-          head_is = get_or-set_same s.words head_word n 0 (omega (arith, wide));
+          shape = other_slots (turned_head k.shape n) homes (put_length s.homes sides);
           seats = λ r low. let ok = k.seats r low in
               let epoch = epoch_same s.words head_word n r (omega arith) in record {
                 unpinned = λ z. ap (λ (b : ℕ). b % 2) epoch ∙ ok.unpinned z;

@@ -1,7 +1,6 @@
 -- A writer releases the lock.
 use Rattle.std.proofs.Common.{◌≡◌, ◌∙◌, refl, sym, ap, subst, true, ℕ, ◌%◌}
-use Rattle.std.proofs.Common.{List, [], ◌∷◌, ◌++◌, set, arith, length-set}
-use Rattle.std.proofs.Common.{get_or-set_other, get_or-set_same}
+use Rattle.std.proofs.Common.{List, [], ◌∷◌, ◌++◌, set, arith}
 use Rattle.std.specs.Prelude.{None, false}
 use mathlib.Core.Logic.{dite}
 use native.Mathlib.Decide.{dec_le}
@@ -16,11 +15,12 @@ use Rattle.tsc_left_right.specs.declared.table.SeatState.{SeatState}
 use Rattle.tsc_left_right.specs.declared.table.Knowledge.{Knowledge}
 use Rattle.tsc_left_right.specs.Rule.{keeping, one_if, LaidState, SharedState, LeftRightRule}
 use Rattle.tsc_left_right.specs.Rule.{IsAfter}
-use Rattle.tsc_left_right.specs.Rule.{head_word, side_slot, active_side, standby_side}
+use Rattle.tsc_left_right.specs.Rule.{side_slot, active_side, standby_side}
 use Rattle.tsc_left_right.specs.Steps.{Filled, Anything, released}
 use Rattle.tsc_left_right.proofs.Hands.{Homes, Hand, put_all, give_all, given_homes, given_none}
 use Rattle.tsc_left_right.proofs.Hands.{given_valid, put_length, put_apart, put_among}
 use Rattle.tsc_left_right.proofs.Plain.{none_is_no}
+use Rattle.tsc_left_right.proofs.Frames.{lock_word, other_slot, other_slots}
 use Rattle.tsc_left_right.proofs.Moves.{Moved, moved_kept, of_one, knows_all}
 use Rattle.tsc_left_right.proofs.Plain.{false_is_no, epoch_same}
 use Rattle.tsc_left_right.proofs.Moves.{others_fit, writer_fits, writer_now}
@@ -28,8 +28,7 @@ use Rattle.tsc_left_right.specs.declared.replicated.Replicated.{Ghosts}
 
 module _ {P C O S E : Type 0} (R : Ghosts P C O S E) where
   module _ (setup : Setup S) (slots : ℕ) (id : ℕ) (t : Setup S) (p : SeatState E)
-      (state : LaidState C O)
-      (sides : Hand C O) where
+      (state : LaidState C O) (sides : Hand C O) where
     abbrev releaser : Knowledge S E
     releaser = keeping t (p ∷ [])
 
@@ -48,8 +47,7 @@ module _ {P C O S E : Type 0} (R : Ghosts P C O S E) where
         let words : List ℕ = set s.words 0 0 in
         let put : Homes C O = put_all s.homes sides in
         let homes : Homes C O = set put 0 (maybe.some (Writer state)) in
-        let tall = k.deep in
-        let wide = k.wide in
+        let tall = k.shape.deep in
         let one = all.one in
         let cleared_is = all.cleared in
         let head_is = all.head in
@@ -58,10 +56,9 @@ module _ {P C O S E : Type 0} (R : Ghosts P C O S E) where
           at = at;
           legal = k.legal;
           limit = k.limit;
-          wide = length-set s.words 0 0 ∙ k.wide;
-          deep = length-set put 0 (maybe.some (Writer state)) ∙ put_length s.homes sides ∙ k.deep;
-          word_is = get_or-set_same s.words 0 0 0 (omega (arith, wide));
-          head_is = get_or-set_other s.words 0 head_word 0 0 (λ z. omega (arith, z)) ∙ k.head_is;
+          shape = other_slot
+              (other_slots (lock_word k.shape 0) put (put_length s.homes sides)) 0
+              (maybe.some (Writer state));
           seats = λ r low. let ok = k.seats r low in
               let epoch = epoch_same s.words 0 0 r (omega arith) in record {
                 unpinned = λ z. ap (λ (e : ℕ). e % 2) epoch ∙ ok.unpinned z;
@@ -96,8 +93,7 @@ module _ {P C O S E : Type 0} (R : Ghosts P C O S E) where
                       x.0,
                       ap (λ (c : ℕ). get_elem? homes (side_slot r (standby_side c))) (sym head_is)
                           ∙ set_else put 0 (side_slot r (standby_side p.head))
-                          (maybe.some (Writer state))
-                          (λ z. omega (arith, z)) ∙ x.1,
+                          (maybe.some (Writer state)) (λ z. omega (arith, z)) ∙ x.1,
                     ));
                 left = λ z. absurd (omega (arith, z));
                 late = λ e _ z. absurd (none_is_no e z);

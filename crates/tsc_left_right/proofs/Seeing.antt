@@ -80,10 +80,7 @@ module _ {P C O S E : Type 0} (R : Ghosts P C O S E) where
     g = k.g;
     legal = k.legal;
     limit = k.limit;
-    wide = k.wide;
-    deep = k.deep;
-    word_is = k.word_is;
-    head_is = k.head_is;
+    shape = k.shape;
     seats = k.seats;
     views = fits;
     each = λ number. each number ∙ k.each number;
@@ -94,8 +91,7 @@ module _ {P C O S E : Type 0} (R : Ghosts P C O S E) where
 
   -- One participant knows something else.
   changed : (setup : Setup S) (s : Board C O S E) (k : LeftRightRule R setup s) (id : ℕ)
-      (v w : Knowledge S E)
-      → get_elem? s.views id ≡ maybe.some v → Fits setup s k w
+      (v w : Knowledge S E) → get_elem? s.views id ≡ maybe.some v → Fits setup s k w
       → ((number : ℕ) → states_of number w ≡ states_of number v) → holders w ≡ holders v
       → LeftRightRule R setup (record {
         words = s.words;
@@ -117,8 +113,7 @@ module _ {P C O S E : Type 0} (R : Ghosts P C O S E) where
       (v left right : Knowledge S E) → get_elem? s.views id ≡ maybe.some v
       → Fits setup s k left → Fits setup s k right
       → ((number : ℕ) → states_of number left + states_of number right ≡ states_of number v)
-      → holders left + holders right ≡ holders v
-      → LeftRightRule R setup (record {
+      → holders left + holders right ≡ holders v → LeftRightRule R setup (record {
         words = s.words;
         homes = s.homes;
         views = set s.views id left ++
@@ -157,13 +152,10 @@ module _ {P C O S E : Type 0} (R : Ghosts P C O S E) where
 
   -- Two participants are put together to one that fits, with the states of both.
   pub join_kept : (setup : Setup S) (s : Board C O S E) (k : LeftRightRule R setup s) (id : ℕ)
-      (v : Knowledge S E)
-      (other : ℕ) (w both : Knowledge S E) → get_elem? s.views id ≡ maybe.some v
-      → other ≢ id → get_elem? s.views other ≡ maybe.some w
-      → Fits setup s k both
+      (v : Knowledge S E) (other : ℕ) (w both : Knowledge S E) → get_elem? s.views id ≡ maybe.some v
+      → other ≢ id → get_elem? s.views other ≡ maybe.some w → Fits setup s k both
       → ((number : ℕ) → states_of number both ≡ states_of number v + states_of number w)
-      → holders both ≡ holders v + holders w
-      → LeftRightRule R setup (record {
+      → holders both ≡ holders v + holders w → LeftRightRule R setup (record {
         words = s.words;
         homes = s.homes;
         views =
@@ -195,8 +187,7 @@ module _ {P C O S E : Type 0} (R : Ghosts P C O S E) where
       ))
 
   note_fits : (setup : Setup S) (s : Board C O S E) (k : LeftRightRule R setup s) (t : Setup S)
-      (seen : List E)
-      → t ≡ setup → BeginsWith k.g.history seen → Fits setup s k (front_of t seen)
+      (seen : List E) → t ≡ setup → BeginsWith k.g.history seen → Fits setup s k (front_of t seen)
   note_fits setup s k t seen same begins = record {
     settled = λ _. same;
     states =
@@ -216,8 +207,7 @@ module _ {P C O S E : Type 0} (R : Ghosts P C O S E) where
 
   -- It goes to another participant.
   pub front_joins : (setup : Setup S) (id : ℕ) (t : Setup S) (p : SeatState E) (other : ℕ)
-      (u : Setup S)
-      (seen : List E)
+      (u : Setup S) (seen : List E)
       → Joins (LeftRightRule R setup) id (keeping t (p ∷ [])) other (front_of u seen)
       (with_front t p seen) (spent R.unsettled)
   front_joins setup id t p other u seen s k at apart at_other =
@@ -312,8 +302,7 @@ module _ {P C O S E : Type 0} (R : Ghosts P C O S E) where
 
   -- The states of two participants come together.
   pub states_join : (setup : Setup S) (id : ℕ) (t : Setup S) (ps : List (SeatState E)) (other : ℕ)
-      (u : Setup S)
-      (qs : List (SeatState E))
+      (u : Setup S) (qs : List (SeatState E))
       → Joins (LeftRightRule R setup) id (keeping t ps) other (keeping u qs) (keeping t (ps ++ qs))
       (spent R.unsettled)
   states_join setup id t ps other u qs s k at apart at_other =
@@ -322,8 +311,7 @@ module _ {P C O S E : Type 0} (R : Ghosts P C O S E) where
       sym (set_else s.views id other (keeping t (ps ++ qs)) apart) ∙ at_other in
       let theirs = k.views other (keeping u qs) there in
       join_kept setup s k id (keeping t ps) other (keeping u qs) (keeping t
-      (ps ++ qs)) at apart there
-      (record {
+      (ps ++ qs)) at apart there (record {
         settled = fits.settled;
         states = λ i q e. elim (at_joined ps qs i q e) [
           | inl a ↦

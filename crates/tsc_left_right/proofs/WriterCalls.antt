@@ -50,8 +50,7 @@ module _ {P C O S E : Type 0} (R : Ghosts P C O S E) where
 
   -- It is all there when the state says what HEAD is to be.
   can_publish : (v : Knowledge S E) (old : WriterState C O) (n : ℕ) (w : WriterState C O)
-      (sides : Hand C O)
-      → IsReady R v old
+      (sides : Hand C O) → IsReady R v old
       → Filled (IsHandleOn (arc_value old.copies.active) old.length) (standby_side
       (state_in v).head) 0 sides
       v.setup.seats
@@ -84,8 +83,7 @@ module _ {P C O S E : Type 0} (R : Ghosts P C O S E) where
 
   pub is_laid : (me me₁ me₂ : At C O S E) (old : WriterState C O) (n : ℕ) (state : LaidState C O)
       → HasInstalled me.0 me (arc_value old.copies.active) old.length me.0.setup.seats
-      → IsReady R me.0 old
-      → n ≡ standby_side old.head → state.value ≡ record old { head = n }
+      → IsReady R me.0 old → n ≡ standby_side old.head → state.value ≡ record old { head = n }
       → me₁ ≡ (me.0, (0, Writer state) ∷ rest me.1) → me₂ ≡ (me₁.0, turned me₁.1)
       → IsLaid me.0 me₂ old n state
   is_laid me me₁ me₂ old n state h ready n_is same laid turned_is =
@@ -106,8 +104,7 @@ module _ {P C O S E : Type 0} (R : Ghosts P C O S E) where
       → Allows (LeftRightRule R key) slots id me 16 (λ _. n) (publishes R st me)
   publish_at key slots st id v me old n state q =
       subst (λ (k : ℕ). Allows (LeftRightRule R key) slots id me 16 (λ _. k) (publishes R st me))
-      (sym q.head_is)
-      (subst (λ (m : At C O S E). Allows (LeftRightRule R key) slots id m 16
+      (sym q.head_is) (subst (λ (m : At C O S E). Allows (LeftRightRule R key) slots id m 16
       (λ _. standby_side (state_in v).head) (publishes R st m)) (sym q.hand)
       (publish_allowed R key slots st id v.setup (clearing (state_in v) v.setup.seats None) state
       q.sides q.holds q.can.can q.can.filled refl q.can.limit q.can.is_after))

@@ -102,6 +102,15 @@ WriterFits g p =
     (p.seen ≡ g.history) × (g.word ≡ suc p.number) × (p.cleared ≡ g.cleared)
     × (p.watched ≡ g.watched) × (p.head ≡ g.head)
 
+-- A table for so many seats has these words and slots, of which the words of the lock and of HEAD
+-- are these.
+pub record HasShape {X : Type 0} (seats word head : ℕ) (words : List ℕ) (homes : List X) : Type 0
+  where
+    pub wide : length words ≡ word_count seats
+    pub deep : length homes ≡ slot_count seats
+    pub word_is : slice_index words 0 ≡ word
+    pub head_is : slice_index words head_word ≡ head
+
 -- A slot is at home, and what it has meets P.
 abbrev pub IsHome : {X : Type 0} → List (maybe.Option X) → ℕ → (X → Type 0) → Type 0
 IsHome {X} homes i P = (x : X) × (get_elem? homes i ≡ maybe.some (maybe.some x)) × P x
@@ -151,8 +160,7 @@ module _ {P C O S E : Type 0} (R : Ghosts P C O S E) where
         ≡ maybe.some (maybe.some x))
     pub left : seat < g.cleared → g.stage_of seat ≢ standby_side g.head + 2
     pub late : (e : ℕ) → seat ≡ g.cleared → g.watched ≡ Some e
-        → g.stage_of seat ≡ standby_side g.head + 2
-        → slice_index words (epoch_word seat) ≡ e
+        → g.stage_of seat ≡ standby_side g.head + 2 → slice_index words (epoch_word seat) ≡ e
 
   -- What the writer works with is after a history, and says what HEAD is.
   pub record IsAfter (setup : Setup S) (h : List E) (head : ℕ) (state : WriterState C O) : Type 0
@@ -168,10 +176,7 @@ module _ {P C O S E : Type 0} (R : Ghosts P C O S E) where
     pub g : SharedState E
     pub legal : IsLegal R setup.settings setup.seats g.history
     pub limit : length g.history ≤ setup.limit
-    pub wide : length s.words ≡ word_count setup.seats
-    pub deep : length s.homes ≡ slot_count setup.seats
-    pub word_is : slice_index s.words 0 ≡ g.word
-    pub head_is : slice_index s.words head_word ≡ g.head
+    pub shape : HasShape setup.seats g.word g.head s.words s.homes
     pub seats : (seat : ℕ) → seat < setup.seats → SeatFits setup g s.words s.homes seat
     pub views : (id : ℕ) (v : Knowledge S E) → get_elem? s.views id ≡ maybe.some v
         → KnowledgeFits setup g v

@@ -134,8 +134,7 @@ module _ {C O S E : Type 0} where
   -- watched.
   abbrev pub clears : Step (Slot C O) → At C O S E → ℕ → At C O S E → Type 0
   clears st me e me' = let p = state_in me.0 in
-      (has_left p.watched e ≡ true → (x : Slot C O)
-      × (me' ≡ (
+      (has_left p.watched e ≡ true → (x : Slot C O) × (me' ≡ (
         with_state me.0 (clearing p (suc p.cleared) None),
         (side_slot p.cleared (standby_side p.head), x) ∷ me.1,
       )))
@@ -166,8 +165,7 @@ module _ {P C O S E : Type 0} (R : Ghosts P C O S E) where
   abbrev pub acquires : Step (Slot C O) → At C O S E → ℕ → At C O S E → Type 0
   acquires st me found me' =
       (found ≡ 0 → (state : LaidState C O) × Acquires me.0 me'.0 state.value
-      × (me'.1 ≡ (0, Writer state) ∷ []))
-      × (found ≢ 0 → me' ≡ me)
+      × (me'.1 ≡ (0, Writer state) ∷ [])) × (found ≢ 0 → me' ≡ me)
 
   -- the history once the writer has published its operation, if it has one, and how many of these
   -- are its own

@@ -89,13 +89,6 @@ told_no_rotation old new m made added now is seen =
       ]
     ]
 
--- what follows where an Add was made
-pub if_made : (tried : InPlace) (P Q : Added → Type 0) → IfMade tried P →
-    ((added : Added) → P added → Q added) → IfMade tried Q
-if_made (Made added) P Q p f = f added p
-if_made Untouched P Q p f = tt
-if_made Spoiled P Q p f = tt
-
 -- what holds where a call succeeds holds where it was not refused
 pub not_refused : {T E : Type 0} (r : Result T E) (P : Type 0) → is_err r ≡ false → OnOk r P → P
 not_refused (Ok x) P is p = p
