@@ -3,17 +3,18 @@ use Rattle.std.proofs.Common.{◌≡◌, ◌∙◌, refl, sym, ap, subst, ℕ, s
 use Rattle.std.specs.Prelude.{All, map, slice_index_or}
 use Rattle.std.proofs.lemmas.List.{length-append, length_push}
 use Rattle.atomic_table.specs.Seated.{TableId}
-use Rattle.tsc_left_right.specs.declared.table.Setup.{Setup}
-use Rattle.tsc_left_right.specs.declared.table.SeatState.{SeatState}
 use Rattle.tsc_left_right.specs.Rule.{at_rest, keeping, first_knowledge, fresh_states}
-use Rattle.tsc_left_right.specs.Steps.{At, seated, first_state, other_states, number_of, seen_of, count_of}
-use Rattle.tsc_left_right.specs.Participating.{Participant, IsAtRest, IsOf, KeepsStates}
+use Rattle.tsc_left_right.specs.Steps.{seated, first_state, other_states, number_of, seen_of, count_of}
+use Rattle.tsc_left_right.specs.Participating.{IsAtRest, IsOf, KeepsStates}
 use Rattle.tsc_left_right.proofs.Calls.{still_of}
+use Rattle.tsc_cache.specs.declared.history.Entry.{Entry}
 use Rattle.tsc_shared.specs.Seats.{SeatView}
 use Rattle.tsc_shared.specs.Keeping.{state_of_seat}
+use Rattle.tsc_shared.specs.Caches.{At, Participant, SeatState, Setup}
 
 -- the first of the states that are left
-fresh_first : (number n : ℕ) → number < n → fresh_states number (n - number) ≡ at_rest number [] 0 ∷
+fresh_first : (number n : ℕ) → number < n → fresh_states {E = Entry} number (n - number)
+    ≡ at_rest number [] 0 ∷
     fresh_states (number + 1) (n - (number + 1))
 fresh_first number n low =
     let more : n - number ≡ suc (n - (number + 1)) = omega arith in
