@@ -7,6 +7,7 @@ pub mod Lookup
 pub mod CacheView
 pub mod Batch
 pub mod AddSpans
+pub mod AnswersAdd
 pub mod Stacks
 pub mod CacheParts
 pub mod Laws

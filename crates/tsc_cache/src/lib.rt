@@ -17,7 +17,6 @@
 //! of what was added: slow, and easy to believe.
 #![tactic(auto)]
 
-mod add_fitting;
 mod added;
 mod cache;
 mod config;

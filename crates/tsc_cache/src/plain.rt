@@ -1,11 +1,10 @@
 ghost use Rattle.std.specs.Prelude.{◌≡◌, ◌<◌, ◌+◌, ◌^◌, length, true, false, IfOk, OnErr};
 ghost use Rattle.tsc_span.specs.Span.{is_empty_span};
 ghost use Rattle.tsc_cache.specs.Settings.{fits};
-ghost use Rattle.tsc_cache.specs.State.{kept_after_rotation};
+ghost use Rattle.tsc_cache.specs.State.{is_kept, kept_after_rotation};
 ghost use Rattle.tsc_cache.specs.CacheView.{RotatesWith};
 ghost use Rattle.tsc_cache.specs.Batch.{all_fit, is_any_kept, AddsAll};
 
-use crate::add_fitting::AddFitting;
 use crate::config::saturating_inc;
 use crate::mark::is_any_kept;
 use crate::page_stack::PageStack;
@@ -66,7 +65,23 @@ impl TimestampCache for PlainCache {
         if !self.config.fits(span) {
             return Err(CacheFault::TooLarge);
         }
-        Ok(self.add_fitting(span, value, now)?)
+        Ok(self.add_one_fitting(span, value, now)?)
+    }
+
+    fn add_one_fitting(
+        &mut self,
+        span: &Span,
+        value: Value,
+        now: Timestamp,
+    ) -> Result<Added, NoMemory> {
+        if !self.keeps(span, value) {
+            return Ok(Added::nothing());
+        }
+        if self.pages.front().room(span) {
+            self.pages.mark_front(span, value)?;
+            return Ok(Added::without_rotation());
+        }
+        self.rotate(span, value, now)
     }
 
     /// A batch of which a mark is kept costs a copy of the whole cache.
@@ -102,31 +117,14 @@ impl TimestampCache for PlainCache {
     }
 }
 
-impl AddFitting for PlainCache {
-    ghost seen = { λ c. c };
-
-    fn add_fitting(
-        &mut self,
-        span: &Span,
-        value: Value,
-        now: Timestamp,
-    ) -> Result<Added, NoMemory> {
-        if !self.keeps(span, value) {
-            return Ok(Added::nothing());
-        }
-        if self.pages.front().room(span) {
-            self.pages.mark_front(span, value)?;
-            return Ok(Added::without_rotation());
-        }
-        self.rotate(span, value, now)
-    }
-
-    fn keeps(&self, span: &Span, value: Value) -> bool {
+impl PlainCache {
+    /// Whether an Add is kept.
+    fn keeps(&self, span: &Span, value: Value) -> bool
+        ensures { result ≡ is_kept self.now.floor (record { span = span.now; value = value }) }
+    {
         !span.is_empty() && self.floor < value.time()
     }
-}
 
-impl PlainCache {
     /// Brings a page with one mark to the front, and drops what is expired. All memory is asked for
     /// before the first change.
     fn rotate(&mut self, span: &Span, value: Value, now: Timestamp) -> Result<Added, NoMemory>
@@ -157,7 +155,7 @@ impl PlainCache {
     {
         let mut added = Added::nothing();
         for mark in marks {
-            added = added.with(self.add_fitting(&mark.span, mark.value, now)?);
+            added = added.with(self.add_one_fitting(&mark.span, mark.value, now)?);
         }
         Ok(added)
     }

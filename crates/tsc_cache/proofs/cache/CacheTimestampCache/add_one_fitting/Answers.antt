@@ -10,11 +10,11 @@ use Rattle.tsc_cache.specs.State.{is_kept, kept_after_rotation}
 use Rattle.tsc_cache.specs.CacheView.{CacheView, Adds, RotatesWith, MarksFront, front_has_room_for}
 use Rattle.tsc_cache.specs.CacheParts.{pages_of}
 use Rattle.tsc_cache.specs.Stacks.{AreStacked}
-use Rattle.tsc_cache.proofs.StatesSeen.{adds_stands, marks_adds, marks_stacked}
-use Rattle.tsc_cache.proofs.AddsSeen.{rotated_seen, seen_stands, seen_added}
-use Rattle.tsc_cache.proofs.cache.CacheAddFitting.add_fitting.Goals as goal
-use Rattle.tsc_cache.proofs.cache.CacheAddFitting.add_fitting.Goals.{After-without_rotation}
-use Rattle.tsc_cache.proofs.cache.CacheAddFitting.add_fitting.Goals.{After-rotate}
+use Rattle.tsc_cache.proofs.StatesSeen.{marks_adds, marks_stacked}
+use Rattle.tsc_cache.proofs.AddsSeen.{rotated_seen}
+use Rattle.tsc_cache.proofs.cache.CacheTimestampCache.add_one_fitting.Goals as goal
+use Rattle.tsc_cache.proofs.cache.CacheTimestampCache.add_one_fitting.Goals.{After-without_rotation}
+use Rattle.tsc_cache.proofs.cache.CacheTimestampCache.add_one_fitting.Goals.{After-rotate}
 
 pub invariant_of-self-then-branch : goal.invariant_of-self-then-branch
 invariant_of-self-then-branch c =
@@ -57,17 +57,9 @@ in_place c =
     (ap (λ (v : CacheView). v.floor) c.self.view_is)
     (ap (λ (v : CacheView). v.rotations) c.self.view_is) c.without_rotation.ensures
 
-pub returns-then-branch-clause-stands : goal.returns-then-branch-clause-stands
-returns-then-branch-clause-stands c settings s stands =
-    (adds_stands c.args.self.now _ _ c.args.now c.without_rotation.result
-    (in_place (goal.at.returns-then-branch-clause-stands c).After-without_rotation) settings s
-    stands).0
-
-pub returns-then-branch-clause-added : goal.returns-then-branch-clause-added
-returns-then-branch-clause-added c settings s stands =
-    (adds_stands c.args.self.now _ _ c.args.now c.without_rotation.result
-    (in_place (goal.at.returns-then-branch-clause-added c).After-without_rotation) settings s
-    stands).1
+pub returns-then-branch-clause-seen : goal.returns-then-branch-clause-seen
+returns-then-branch-clause-seen c = in_place
+    (goal.at.returns-then-branch-clause-seen c).After-without_rotation
 
 -- what the rotation made
 turned : (c : After-rotate) → IfOk c.rotate.result
@@ -103,14 +95,6 @@ turned c =
     (subst (λ (v : CacheView). IfOk c.rotate.result
     (λ (a : Added). RotatesWith v c.rotate.new.self m c.args.now a.evicted ×
     (a ≡ kept_after_rotation a.evicted))) same c.rotate.ensures.rotated))
-
-pub returns-clause-stands : goal.returns-clause-stands
-returns-clause-stands c = seen_stands c.args.self.now c.rotate.new.self _ c.args.now
-    c.rotate.result (turned (goal.at.returns-clause-stands c).After-rotate)
-
-pub returns-clause-added : goal.returns-clause-added
-returns-clause-added c = seen_added c.args.self.now c.rotate.new.self _ c.args.now
-    c.rotate.result (turned (goal.at.returns-clause-added c).After-rotate)
 
 pub returns-clause-seen : goal.returns-clause-seen
 returns-clause-seen c = turned (goal.at.returns-clause-seen c).After-rotate
