@@ -3,9 +3,10 @@ use Rattle.std.proofs.Common.{◌≡◌, true, false}
 use Rattle.std.specs.Prelude.{Result, Ok, Err, IfOk, OnOk, List}
 use Rattle.tsc_time.specs.Time.{Time}
 use Rattle.tsc_page_nodes.specs.Page.{Mark}
+use Rattle.tsc_cache.specs.Rotation.{RotatesWith}
 use Rattle.tsc_cache.specs.declared.added.Added.{Added}
 use Rattle.tsc_cache.specs.State.{kept_after_rotation, is_kept}
-use Rattle.tsc_cache.specs.CacheView.{CacheView, StandsAfter, StandsAfterAll, TellsAdded, TellsAddedAll, Adds, RotatesWith, front_has_room_for}
+use Rattle.tsc_cache.specs.CacheView.{CacheView, StandsAfter, StandsAfterAll, TellsAdded, TellsAddedAll, Adds, front_has_room_for}
 use Rattle.tsc_cache.specs.Batch.{AddsAll}
 use Rattle.tsc_cache.specs.Laws.{AddsAreSteps}
 use Rattle.tsc_cache.proofs.StatesSeen.{adds_stands, rotates_adds}

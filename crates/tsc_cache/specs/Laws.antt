@@ -8,8 +8,8 @@ use Rattle.tsc_page_nodes.specs.Limits.{least_size, most_size}
 use Rattle.tsc_page_nodes.specs.Page.{Mark, PageMarks, top}
 use Rattle.tsc_cache.specs.Settings.{Settings}
 use Rattle.tsc_cache.specs.declared.added.Added.{Added}
-use Rattle.tsc_cache.specs.State.{CacheState, look, evict, doubled, next_size, added_with, step, step_all}
-use Rattle.tsc_cache.specs.Eviction.{highest, Evicts}
+use Rattle.tsc_cache.specs.State.{CacheState, look, added_with, step, step_all}
+use Rattle.tsc_cache.specs.Rotation.{doubled, next_size, evict, highest, Evicts}
 use Rattle.tsc_cache.specs.CacheView.{CacheView, StandsAfter, StandsAfterAll, TellsAdded, TellsAddedAll, Adds}
 use Rattle.tsc_cache.specs.Batch.{AddsAll}
 use Rattle.tsc_cache.specs.History.{Entry, History, state_of, marks_on, BeginsWith, IsLegal}

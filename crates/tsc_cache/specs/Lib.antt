@@ -1,7 +1,8 @@
 pub mod Limits
 pub mod Settings
+pub mod Caches
+pub mod Rotation
 pub mod State
-pub mod Eviction
 pub mod History
 pub mod Lookup
 pub mod CacheView

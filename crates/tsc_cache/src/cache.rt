@@ -8,13 +8,12 @@ ghost use Rattle.tsc_cache.specs.Settings.{Settings, fits};
 ghost use Rattle.tsc_cache.specs.State.{CacheState, step, look, is_kept, kept_after_rotation};
 ghost use Rattle.tsc_cache.specs.Lookup.{LooksIntoPages};
 ghost use Rattle.tsc_cache.specs.Keys.{keys_on, keys_seen};
-ghost use Rattle.tsc_cache.specs.CacheView.{RepresentsState, Adds, AddsWithoutRotation, RotatesWith, would_rotate, cache_answer, LooksIntoViews};
+ghost use Rattle.tsc_cache.specs.CacheView.{RepresentsState, Adds, AddsWithoutRotation, would_rotate, cache_answer, LooksIntoViews};
 ghost use Rattle.tsc_cache.specs.Counts.{figures_of, figures_seen};
 ghost use Rattle.tsc_cache.specs.AddSpans.{named};
 ghost use Rattle.tsc_cache.specs.Batch.{all_fit, is_any_kept, AddsAll, AddsSome};
 ghost use Rattle.tsc_cache.specs.AnswersAdd.{AnswersAdd, AnswersAddNamed};
 
-use crate::config::saturating_inc;
 use crate::mark::is_any_kept;
 use crate::named_span::{cost_of, named_span};
 use crate::page_stack::{PageStack, Pages};
@@ -30,10 +29,10 @@ use tsc_time::{NoMemory, Timestamp, Value, ratchet};
 /// A page that another cache holds too, as after [`Cache::next`], is never changed.
 #[derive(Debug, Drop)]
 pub struct Cache {
-    config: Config,
-    floor: Timestamp,
-    pages: Pages,
-    rotations: u64,
+    pub(crate) config: Config,
+    pub(crate) floor: Timestamp,
+    pub(crate) pages: Pages,
+    pub(crate) rotations: u64,
 }
 
 impl Model for Cache {
@@ -264,33 +263,6 @@ impl Cache {
             return Ok(Added::without_rotation());
         }
         self.rotate(span, value, now)
-    }
-
-    /// Brings a page with one mark to the front, and drops what is expired. All memory is asked for
-    /// before the first change.
-    fn rotate(
-        &mut self,
-        span: &AddSpan<'_>,
-        value: Value,
-        now: Timestamp,
-    ) -> Result<Added, NoMemory>
-        requires not_empty { is_empty_span span.now ≡ false }
-        requires fits { fits self.old.settings span.now ≡ true }
-        ensures rotated { IfOk result
-            (λ added. RotatesWith self.old self.new (record { span = span.now; value = value }) now
-            added.evicted × (added ≡ kept_after_rotation added.evicted)) }
-        ensures settings { self.new.settings ≡ self.old.settings }
-        ensures unchanged { OnErr result (self.new ≡ self.old) }
-    {
-        let former = self.pages.front();
-        let size = self.config.next_size(former.size(), cost_of(span));
-        let mut front = Page::new(self.pages.alloc(), size, former.top())?;
-        front.add_span(span, value)?;
-        self.pages.push_front(front)?;
-        let (floor, evicted) = self.pages.evict(&self.config, self.floor, now);
-        self.floor = floor;
-        self.rotations = saturating_inc(self.rotations);
-        Ok(Added::after_rotation(evicted))
     }
 
     /// Adds a span with its value where that needs no rotation of the pages, at whatever moment.

@@ -30,6 +30,7 @@ mod page_stack;
 mod pages;
 mod plain;
 mod plain_pages;
+mod rotation;
 mod timestamp_cache;
 
 pub use added::Added;

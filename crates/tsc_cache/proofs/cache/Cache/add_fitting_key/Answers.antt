@@ -1,5 +1,5 @@
 -- What the mark makes of all that can be seen.
-use Rattle.std.proofs.Common.{◌≡◌, ◌∙◌, sym, ap, subst, true, false}
+use Rattle.std.proofs.Common.{◌≡◌, ◌∙◌, sym, ap, subst, true}
 use Rattle.tsc_span.specs.Span.{point}
 use Rattle.tsc_page_nodes.specs.Page.{Mark}
 use Rattle.tsc_cache.specs.contracts.cache.Cache.{the_view}

@@ -4,9 +4,9 @@ use Rattle.std.proofs.lemmas.List.{length_push}
 use Rattle.std.proofs.Math.Seq.{take-append_seam}
 use Rattle.tsc_page_nodes.specs.PageView.{PageView}
 use Rattle.tsc_cache.specs.CacheParts.{older_of}
-use Rattle.tsc_cache.specs.Stacks.{IsExpiredTop}
+use Rattle.tsc_cache.specs.Stacks.{IsDroppedTop}
 use Rattle.tsc_cache.proofs.Droppings.{Dropping, dropping-more, dropped_count}
-use Rattle.tsc_cache.proofs.pages.PagesPageStackPage.evict.Goals as goal
+use Rattle.tsc_cache.proofs.page_stack.Pages.evict.Goals as goal
 
 -- all but the last of a list
 but_last : (ps newer : List PageView) (p : PageView) → ps ≡ newer ++ p ∷ [] →
@@ -21,8 +21,8 @@ pub loop-top-preserved : goal.loop-top-preserved
 loop-top-preserved c =
     let all = older_of c.args.self.now in
     let ps = older_of c.loop-top.self in
-    let found = subst (IsExpiredTop c.args.config.now c.args.now ps) c.in-Some.is
-    c.expired_top.ensures in
+    let found = subst (IsDroppedTop c.args.config.now c.args.now ps) c.in-Some.is
+    c.dropped_top.ensures in
     let left = but_last ps found.0 found.1 found.2 ∙
     ap (λ qs. qs ++ found.1 ∷ []) (sym c.pop_back.ensures.left) in
     let had = dropped_count c.args.config.now c.args.floor c.args.now all ps c.loop-top.floor

@@ -2,7 +2,7 @@
 use Rattle.tsc_cache.specs.CacheParts.{older_of}
 use Rattle.tsc_cache.proofs.Droppings.{Dropping}
 use Rattle.std.proofs.Common.{◌≡◌, ◌-◌, length}
-use Rattle.tsc_cache.proofs.pages.PagesPageStackPage.evict.Given as goal
+use Rattle.tsc_cache.proofs.page_stack.Pages.evict.Given as goal
 
 abbrev pub invariant-loop-top : goal.invariant-loop-top
 invariant-loop-top l = (l.self.front ≡ l.initial.self.front) ×
