@@ -104,33 +104,6 @@ last_before xs x some is =
     let long = ap length (last_parted xs x some is) ∙
     length_push (take (length xs - 1) xs) x in omega arith
 
--- the oldest page, where it goes
-pub found_dropped : (settings : Settings) (now : Time) (ps : List PageView) (p : PageView) (t : Time)
-    → 0 < length ps → p ≡ get_or ps (length ps - 1) p → p.top ≡ t →
-    drops_oldest settings (length ps - 1) t now ≡ true → IsDroppedTop settings now ps (Some t)
-found_dropped settings now ps p t some is top_is goes = (
-  take (length ps - 1) ps,
-  p,
-  last_parted ps p some is,
-  top_is,
-  subst (λ n. drops_oldest settings n t now ≡ true) (sym (last_before ps p some is)) goes,
-)
-
--- the oldest page, where it stays
-pub found_none : (settings : Settings) (now : Time) (ps : List PageView) (p : PageView) (t : Time)
-    → 0 < length ps → p ≡ get_or ps (length ps - 1) p → p.top ≡ t →
-    drops_oldest settings (length ps - 1) t now ≡ false
-    → OldestStays settings now (map (λ q. q.top) ps)
-found_none settings now ps p t some is top_is stays newer oldest parts =
-    let before : List PageView = take (length ps - 1) ps in
-    let all : tops ps ≡ tops before ++ p.top ∷ [] =
-    ap tops (last_parted ps p some is) ∙
-    map-append (λ (q : PageView). q.top) before (p ∷ []) in
-    let same = same_from_push newer (tops before) oldest p.top (sym parts ∙ all) in
-    subst (λ u. drops_oldest settings (length newer) u now ≡ false) (sym (same.1 ∙ top_is))
-    (subst (λ n. drops_oldest settings n t now ≡ false)
-    (sym (ap length same.0 ∙ tops_long before ∙ last_before ps p some is)) stays)
-
 -- what was taken from the end
 pub popped_plain : (ps qs : List PageView) (o : Option PageView) → IsSome o →
     ps ≡ qs ++ option_to_list o → (p : PageView) × (ps ≡ qs ++ p ∷ [])
