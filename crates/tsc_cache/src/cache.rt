@@ -333,8 +333,9 @@ impl Cache {
     }
 
     /// Adds marks that fit a page at the moment `now`, one after another, in place. Where memory is
-    /// refused, those before the one that was refused stay: so it is for a single mark, and for a
-    /// cache that is thrown away then. [`add_all_fitting`](Cache::add_all_fitting) is for any other.
+    /// refused, those before the one that was refused stay. So it is for a single mark, and for a
+    /// cache that is thrown away then; [`add_all_fitting`](Cache::add_all_fitting) is for any
+    /// other.
     ///
     /// A mark that is not kept changes nothing, and takes no memory. Each other one costs an
     /// [`add`](TimestampCache::add).
