@@ -247,10 +247,7 @@ impl Table for CacheTable {
                 self.go_on(made)
             }
             By::Each if !self.cache.fits_all(marks) => Err(Refusal::TooLarge),
-            By::Each => self
-                .cache
-                .add_fitting(marks, now)
-                .map_err(of_no_memory),
+            By::Each => self.cache.add_fitting(marks, now).map_err(of_no_memory),
             _ => self.cache.add_all(marks, now).map_err(of_cache),
         }
     }
