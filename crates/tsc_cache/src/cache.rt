@@ -345,6 +345,7 @@ impl Cache {
         ensures left { OnErr result (AddsSome self.old self.new marks.now now) }
         ensures memory { is_any_kept self.old.floor marks.now ≡ false → IsOk result }
     {
+        // A field is read so that the proof has the invariant.
         let _pages = &self.pages;
         let mut added = Added::nothing();
         for mark in marks {
