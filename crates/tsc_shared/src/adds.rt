@@ -1,4 +1,5 @@
 //! Adds: what a caller asks for, and what the copies keep of it.
+use std::slice;
 use tsc_cache::Mark;
 use tsc_span::Span;
 use tsc_time::{Timestamp, Value};
@@ -8,6 +9,21 @@ use tsc_time::{Timestamp, Value};
 pub(crate) enum MarkList {
     One(Mark),
     Many(Vec<Mark>),
+}
+
+impl MarkList {
+    ghost use Rattle.std.specs.Prelude.{◌≡◌};
+    ghost use Rattle.tsc_shared.specs.Caches.{marks_in};
+
+    /// The marks, one after another.
+    pub(crate) fn as_slice(&self) -> &[Mark]
+        ensures { result.now ≡ marks_in self.now }
+    {
+        match self {
+            MarkList::One(mark) => slice::from_ref(mark),
+            MarkList::Many(marks) => marks,
+        }
+    }
 }
 
 /// An Add by a copy of its marks, which the copies have in turn.

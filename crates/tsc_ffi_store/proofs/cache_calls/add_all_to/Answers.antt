@@ -16,7 +16,7 @@ returns-in-Ok-clause-answers c = record {
             (sym c.deref.ensures.value) c.in_ok-marks.ensures.value;
       }) (added_fits _ c.in-Ok.added c.in-Ok.ensures.too_large) c.in_ok-moment.ensures.value
       c.words_of_added.ensures
-      c.in-Ok.ensures.seen c.in-Ok.ensures.stands c.in-Ok.ensures.added;
+      c.in-Ok.ensures.seen;
   refused = tt;
   unchanged = tt;
 }

@@ -22,7 +22,7 @@ returns-in-Ok-clause-answers c =
             names = names_point (asked_span c.args.args.now.span) c.in_ok-key.key is
                 c.in_ok-key.ensures.value c.in_ok-key.ensures.short;
           }) fit c.in_ok-value.ensures.value c.in_ok-moment.ensures.value c.words_of_added.ensures
-          c.in-Ok.ensures.seen c.in-Ok.ensures.stands c.in-Ok.ensures.added;
+          c.in-Ok.ensures.seen;
       refused = tt;
       unchanged = tt;
     }
