@@ -110,11 +110,6 @@ made_fit settings (m ∷ ms) made = rw (
   made_fit settings ms (All-tail (λ n. IsMadeMark settings n) m ms made),
 ) refl
 
--- where a list of one mark fits, the mark does
-pub one_fits : (settings : Settings) (m : Mark) → all_fit settings (m ∷ []) ≡ true
-    → fits settings m.span ≡ true
-one_fits settings m fit = sym (and-true (fits settings m.span)) ∙ fit
-
 -- What a cache has not had yet fits a page of it.
 late_fits : (t : Setup) (h : History) (late : Option UnappliedAdd) (cache : CacheView)
     → IsLegal t.config t.seats h → LagsBy t h late cache → LateFits cache late

@@ -1,7 +1,7 @@
 -- What a cache has had of an Add, where it was made in place or left out.
 use Rattle.std.proofs.Common.{◌≡◌, ◌∙◌, inl, inr, refl, sym, ap, subst, Bool, true, false, List}
 use Rattle.std.proofs.Common.{[], ◌∷◌, length, take, not, ◌&&◌, arith}
-use Rattle.std.specs.Prelude.{Option, Some, None, Result, Ok, Err, OnOk}
+use Rattle.std.specs.Prelude.{Option, Some, None, Result, Ok, Err, OnOk, IfOk, OnErr}
 use Rattle.std.specs.Result.{is_err}
 use Rattle.std.proofs.lemmas.Bool.{cases_Bool}
 use Rattle.std.proofs.lemmas.List.{take_all}
@@ -9,10 +9,11 @@ use Rattle.tsc_time.specs.Time.{Time}
 use Rattle.tsc_page_nodes.specs.Page.{Mark}
 use Rattle.tsc_cache.specs.declared.added.Added.{Added}
 use Rattle.tsc_cache.specs.State.{is_kept, not_kept}
-use Rattle.tsc_cache.specs.CacheView.{CacheView, Adds, AddsWithoutRotation, front_has_room_for}
-use Rattle.tsc_cache.specs.Batch.{AddsAll}
+use Rattle.tsc_cache.specs.CacheView.{CacheView, TellsAddedAll, Adds, AddsWithoutRotation, front_has_room_for}
+use Rattle.tsc_cache.specs.Batch.{AddsAll, AddsSome}
 use Rattle.tsc_cache.proofs.Batches.{settings_stay}
 use Rattle.tsc_cache.proofs.Steps.{answer_alone}
+use Rattle.tsc_cache.proofs.AddsSeen.{adds_are_steps}
 use Rattle.tsc_left_right.specs.declared.table.UnappliedAdd.{UnappliedAdd}
 use Rattle.tsc_left_right.specs.declared.table.MarkList.{MarkList}
 use Rattle.tsc_left_right.specs.declared.table.MarkList.TheVariants.{One, Many}
@@ -36,18 +37,24 @@ had_all old new ms now added all = (
 pub had_none : (v : CacheView) (ms : List Mark) (now : Time) → HasHadSome v v ms now
 had_none v ms now = (0, not_kept, (refl, refl))
 
--- the one that there is
-pub had_one : (old new : CacheView) (m n : Mark) (now : Time) (added : Added) → m ≡ n →
-    Adds old new m now added → HasHadSome old new (n ∷ []) now
-had_one old new m n now added is adds =
-    had_all old new (n ∷ []) now added (
-      new,
-      added,
-      not_kept,
-      subst (λ (x : Mark). Adds old new x now added) is adds,
-      (refl, refl),
-      sym (answer_alone added),
-    )
+-- all of them, or those before the one that was refused
+pub had_some : {E : Type 0} (old new : CacheView) (ms : List Mark) (now : Time)
+    (r : Result Added E) → IfOk r (λ added. AddsAll old new ms now added) →
+    OnErr r (AddsSome old new ms now) → HasHadSome old new ms now
+had_some old new ms now (Ok added) all some = had_all old new ms now added all
+had_some old new ms now (Err e) all some = (some.0, some.1, some.3)
+
+-- what an Add of the one mark tells
+pub told_one : (old new : CacheView) (m : Mark) (now : Time) (added : Added) →
+    Adds old new m now added → TellsAddedAll old (m ∷ []) now added
+told_one old new m now added adds = adds_are_steps.all_answer old new (m ∷ []) now added (
+  new,
+  added,
+  not_kept,
+  adds,
+  (refl, refl),
+  sym (answer_alone added),
+)
 
 -- who catches up stays set up as it is
 pub caught_up_settings : (late : Option UnappliedAdd) (old new : CacheView)

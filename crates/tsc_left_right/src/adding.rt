@@ -2,7 +2,6 @@
 ghost use Rattle.std.specs.Prelude.{◌≡◌, ◌∷◌, [], ℕ, true, false, IfOk, IfErr, OnOk, OnErr, Some};
 ghost use Rattle.std.specs.Prelude.{None};
 ghost use Rattle.std.specs.Arc.{arc_value};
-ghost use Rattle.tsc_cache.specs.Settings.{fits};
 ghost use Rattle.tsc_cache.specs.History.{History};
 ghost use Rattle.tsc_cache.specs.Batch.{all_fit};
 ghost use Rattle.tsc_cache.specs.CacheView.{StandsAfterAll, TellsAddedAll};
@@ -16,22 +15,8 @@ ghost use Rattle.tsc_left_right.specs.Adding.{KeepsOthers, keeps_pages, CanTake,
 use crate::table::{MarkList, UnappliedAdd, WriterState};
 use std::alloc::Global;
 use std::sync::Arc;
-use tsc_cache::{Added, Cache, CacheFault, Mark, TimestampCache};
+use tsc_cache::{Added, Cache, Mark, TimestampCache};
 use tsc_time::{NoMemory, Timestamp};
-
-/// Adds a mark that fits a page of the cache, so that only memory may be refused.
-fn add_one(cache: &mut Cache, mark: &Mark, moment: Timestamp) -> Result<Added, NoMemory>
-    requires fits { fits cache.old.settings mark.now.span ≡ true }
-    ensures stands { OnOk result (StandsAfterAll cache.old cache.new (mark.now ∷ []) moment) }
-    ensures added { IfOk result (TellsAddedAll cache.old (mark.now ∷ []) moment) }
-    ensures some { HasHadSome cache.old cache.new (mark.now ∷ []) moment }
-{
-    match cache.add(&mark.span, mark.value, moment) {
-        Ok(added) => Ok(added),
-        Err(CacheFault::NoMemory) => Err(NoMemory),
-        Err(CacheFault::TooLarge) => unreachable!(),
-    }
-}
 
 /// Adds marks of which each fits a page of the cache, in place, so that only memory may be refused.
 /// Some of them are there then.
@@ -41,11 +26,7 @@ fn add_many(cache: &mut Cache, marks: &[Mark], moment: Timestamp) -> Result<Adde
     ensures added { IfOk result (TellsAddedAll cache.old marks.now moment) }
     ensures some { HasHadSome cache.old cache.new marks.now moment }
 {
-    match cache.add_each_until_refused(marks, moment) {
-        Ok(added) => Ok(added),
-        Err(CacheFault::NoMemory) => Err(NoMemory),
-        Err(CacheFault::TooLarge) => unreachable!(),
-    }
+    cache.add_fitting(marks, moment)
 }
 
 /// Adds what fits a page of the cache, in place, so that only memory may be refused. A part of it
@@ -57,36 +38,7 @@ fn add_fitting(cache: &mut Cache, add: &UnappliedAdd) -> Result<Added, NoMemory>
     ensures added { IfOk result (TellsAddedAll cache.old (marks_in add.now.marks) add.now.moment) }
     ensures some { HasHadSome cache.old cache.new (marks_in add.now.marks) add.now.moment }
 {
-    match &add.marks {
-        MarkList::One(mark) => add_one(cache, mark, add.moment),
-        MarkList::Many(marks) => add_many(cache, marks, add.moment),
-    }
-}
-
-/// The cache after a mark that fits a page of it, so that only memory may be refused.
-fn next_one(cache: &Cache, mark: &Mark, moment: Timestamp) -> Result<(Cache, Added), NoMemory>
-    requires fits { fits cache.now.settings mark.now.span ≡ true }
-    ensures stands { IfOk result (λ next. StandsAfterAll cache.now next.0 (mark.now ∷ []) moment) }
-    ensures added { IfOk result (λ next. TellsAddedAll cache.now (mark.now ∷ []) moment next.1) }
-{
-    match cache.next(&mark.span, mark.value, moment) {
-        Ok(next) => Ok(next),
-        Err(CacheFault::NoMemory) => Err(NoMemory),
-        Err(CacheFault::TooLarge) => unreachable!(),
-    }
-}
-
-/// The cache after marks of which each fits a page of it, so that only memory may be refused.
-fn next_many(cache: &Cache, marks: &[Mark], moment: Timestamp) -> Result<(Cache, Added), NoMemory>
-    requires fits { all_fit cache.now.settings marks.now ≡ true }
-    ensures stands { IfOk result (λ next. StandsAfterAll cache.now next.0 marks.now moment) }
-    ensures added { IfOk result (λ next. TellsAddedAll cache.now marks.now moment next.1) }
-{
-    match cache.next_all(marks, moment) {
-        Ok(next) => Ok(next),
-        Err(CacheFault::NoMemory) => Err(NoMemory),
-        Err(CacheFault::TooLarge) => unreachable!(),
-    }
+    add_many(cache, add.marks.as_slice(), add.moment)
 }
 
 /// The cache after an Add that fits a page of it, so that only memory may be refused.
@@ -97,10 +49,7 @@ fn next_fitting(cache: &Cache, add: &UnappliedAdd) -> Result<(Cache, Added), NoM
     ensures added { IfOk result (λ next.
         TellsAddedAll cache.now (marks_in add.now.marks) add.now.moment next.1) }
 {
-    match &add.marks {
-        MarkList::One(mark) => next_one(cache, mark, add.moment),
-        MarkList::Many(marks) => next_many(cache, marks, add.moment),
-    }
+    cache.next_fitting(add.marks.as_slice(), add.moment)
 }
 
 /// Adds the Add that the cache has not had yet, if there is one. If memory is refused, the cache

@@ -2,6 +2,7 @@
 use atomic_table::{Seat as TableSeat, Shared, Table, TableRule};
 use std::alloc::Global;
 use std::collections::LinkedList;
+use std::slice;
 use std::sync::Arc;
 use tsc_cache::{Cache, Config, Entry, Mark};
 use tsc_time::Timestamp;
@@ -22,6 +23,21 @@ pub struct Setup {
 pub enum MarkList {
     One(Mark),
     Many(Vec<Mark>),
+}
+
+impl MarkList {
+    ghost use Rattle.std.specs.Prelude.{◌≡◌};
+    ghost use Rattle.tsc_left_right.specs.Rule.{marks_in};
+
+    /// The marks, one after another.
+    pub fn as_slice(&self) -> &[Mark]
+        ensures { result.now ≡ marks_in self.now }
+    {
+        match self {
+            MarkList::One(mark) => slice::from_ref(mark),
+            MarkList::Many(marks) => marks,
+        }
+    }
 }
 
 /// An Add that the standby copy has not had yet.

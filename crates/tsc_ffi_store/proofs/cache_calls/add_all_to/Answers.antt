@@ -13,7 +13,7 @@ returns-in-Ok-clause-answers c = record {
       (subst (AreMarks c.args.args.now.keys.now c.args.args.now.marks.now)
       (sym c.deref.ensures.value) c.in_ok-marks.ensures.value) c.in_ok-moment.ensures.value
       c.words_of_added.ensures
-      c.in-Ok.ensures.seen c.in-Ok.ensures.stands c.in-Ok.ensures.added;
+      c.in-Ok.ensures.seen;
   refused = tt;
   unchanged = tt;
 }

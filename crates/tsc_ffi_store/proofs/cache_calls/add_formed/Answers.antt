@@ -1,7 +1,19 @@
--- Why the cache refused an Add of the span that was named.
+-- What an Add of the span that was named did, or why the cache refused it.
 use Rattle.std.proofs.Common.{inr}
+use Rattle.tsc_ffi_store.specs.Decode.{asked_add, added_of}
+use Rattle.tsc_ffi_store.proofs.Answering.{adds_in}
 use Rattle.tsc_ffi_store.proofs.Trying.{why_refused_in}
 use Rattle.tsc_ffi_store.proofs.cache_calls.add_formed.Goals as goal
+
+pub returns-in-Ok-clause-answers : goal.returns-in-Ok-clause-answers
+returns-in-Ok-clause-answers c = record {
+  added = adds_in c.args.cache.now c.add.new.self (asked_add c.args.args.now) c.in_ok-span.span
+      c.in_ok-value.value c.in_ok-moment.moment c.in-Ok.added (added_of c.words_of_added.result)
+      c.in_ok-span.ensures.value c.in_ok-value.ensures.value c.in_ok-moment.ensures.value
+      c.words_of_added.ensures c.in-Ok.ensures.seen;
+  refused = tt;
+  unchanged = tt;
+}
 
 pub returns-clause-answers : goal.returns-clause-answers
 returns-clause-answers c = record {

@@ -1,18 +1,16 @@
--- All Adds of a list were made, or some of them.
-use Rattle.std.proofs.Common.{subst}
-use Rattle.tsc_cache.specs.declared.fault.CacheFault.{CacheFault}
-use Rattle.tsc_cache.specs.Batch.{AddsSome, LeavesSome}
-use Rattle.tsc_left_right.proofs.InPlace.{had_all}
+-- Proves the contract of `add_many`. What the marks make of the cache are steps of its states.
+use Rattle.tsc_cache.proofs.AddsSeen.{all_stand, all_added}
+use Rattle.tsc_left_right.proofs.InPlace.{had_some}
 use Rattle.tsc_left_right.proofs.adding.add_many.Goals as goal
 
-pub returns-in-Ok-clause-some : goal.returns-in-Ok-clause-some
-returns-in-Ok-clause-some c = had_all c.args.cache.now c.add_each_until_refused.new.self
-    c.args.marks.now c.args.moment c.in-Ok.added c.in-Ok.ensures.seen
+pub returns-clause-stands : goal.returns-clause-stands
+returns-clause-stands c = all_stand c.args.cache.now c.add_fitting.new.self c.args.moment
+    c.args.marks.now c.add_fitting.result c.add_fitting.ensures.seen
 
-pub returns-in-Err-NoMemory-clause-some : goal.returns-in-Err-NoMemory-clause-some
-returns-in-Err-NoMemory-clause-some c =
-    let some : AddsSome c.args.cache.now c.add_each_until_refused.new.self c.args.marks.now
-    c.args.moment = subst (λ (f : CacheFault). LeavesSome c.args.cache.now
-    c.add_each_until_refused.new.self c.args.marks.now c.args.moment f)
-    c.in-Err-NoMemory.field-0-is c.in-Err-NoMemory.ensures.left in
-    (some.0, some.1, some.3)
+pub returns-clause-added : goal.returns-clause-added
+returns-clause-added c = all_added c.args.cache.now c.add_fitting.new.self c.args.moment
+    c.args.marks.now c.add_fitting.result c.add_fitting.ensures.seen
+
+pub returns-clause-some : goal.returns-clause-some
+returns-clause-some c = had_some c.args.cache.now c.add_fitting.new.self c.args.marks.now
+    c.args.moment c.add_fitting.result c.add_fitting.ensures.seen c.add_fitting.ensures.left
