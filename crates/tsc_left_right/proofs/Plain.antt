@@ -1,9 +1,10 @@
 -- Facts on numbers, truth values and lists of words.
-use Rattle.std.proofs.Common.{◌≡◌, ◌≢◌, ◌⊎◌, inl, inr, refl, ap, true, false, Bool, ℕ, zero, suc}
-use Rattle.std.proofs.Common.{◌+◌, ◌<◌, ◌≤◌, List, [], ◌∷◌, set, arith, slice_index}
-use Rattle.std.proofs.Common.{get_or-set_other, replicate}
+use Rattle.std.proofs.Common.{◌≡◌, ◌≢◌, ◌⊎◌, ◌∙◌, inl, inr, refl, sym, ap, subst, true, false, Bool}
+use Rattle.std.proofs.Common.{ℕ, zero, suc, ◌+◌, ◌<◌, ◌≤◌, List, [], ◌∷◌, ◌++◌, length, set, arith}
+use Rattle.std.proofs.Common.{get_or-set_other, replicate, slice_index, slice_index_or}
 use Rattle.std.specs.Prelude.{Option, Some, None, ◌==◌, nat_lt}
-use Rattle.std.specs.List.{sum_by}
+use Rattle.std.specs.List.{All, sum_by}
+use Rattle.std.proofs.lemmas.List.{length-append, length_push}
 use mathlib.Core.Option as maybe
 use lib.ListN.{get_elem?}
 use Rattle.std.proofs.lemmas.Bool.{lt-ltb}
@@ -123,3 +124,37 @@ some_part f (x ∷ xs) some = elim (same_or_not (f x) 0) [
   ))) in (suc rest.0, rest.1, rest.2, rest.3))
   | inr is ↦ (0, x, refl, is)
 ]
+
+-- what stands in two lists
+pub at_left : {X : Type 0} (xs ys : List X) (i : ℕ) (x : X) → get_elem? xs i ≡ maybe.some x
+    → get_elem? (xs ++ ys) i ≡ maybe.some x
+at_left [] ys i x e = absurd (maybe.some-ne-none x (sym e))
+at_left (y ∷ xs) ys zero x e = e
+at_left (y ∷ xs) ys (suc i) x e = at_left xs ys i x e
+
+pub at_right : {X : Type 0} (xs ys : List X) (i : ℕ)
+    → get_elem? (xs ++ ys) (length xs + i) ≡ get_elem? ys i
+at_right [] ys i =
+    let same : 0 + i ≡ i = omega arith in
+    ap (get_elem? ys) same
+at_right (x ∷ xs) ys i =
+    let same : suc (length xs) + i ≡ suc (length xs + i) = omega arith in
+    ap (get_elem? (x ∷ (xs ++ ys))) same ∙ at_right xs ys i
+
+get_middle : {X : Type 0} (xs ys : List X) (x : X)
+    → slice_index_or ((xs ++ x ∷ []) ++ ys) (length xs) x ≡ x
+get_middle [] ys x = refl
+get_middle (y ∷ xs) ys x = get_middle xs ys x
+
+-- what holds of all holds of one among them
+pub all_middle : {X : Type 0} (P : X → Type 0) (xs ys zs ws : List X) (x : X) → zs ≡ ws ++ ys
+    → ws ≡ xs ++ x ∷ [] → All P zs → P x
+all_middle P xs ys zs ws x is whole all =
+    let same : zs ≡ (xs ++ x ∷ []) ++ ys = is ∙ ap (λ v. v ++ ys) whole in
+    subst P (ap (λ v. slice_index_or v (length xs) x) same ∙ get_middle xs ys x)
+    (all (length xs) x (omega (
+      arith,
+      ap length same,
+      length-append (xs ++ x ∷ []) ys,
+      length_push xs x,
+    )))
