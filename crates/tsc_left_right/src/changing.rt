@@ -17,19 +17,22 @@ pub struct Next<C, A> {
     pub retired: Option<Arc<C>>,
 }
 
-/// The code that changes copies. An operation answers an `A`.
-pub trait Replicate<C, O, S, E, A>: Replicated<C, O, S, E> {
+/// The code that changes copies.
+pub trait Replicate: Replicated {
+    /// What an operation answers.
+    type Answer: Drop;
+
     /// What the operation answers behind this history.
-    ghost answer: { S → List E → O → A };
+    ghost answer: { Self.Settings → List Self.Entry → Self.Operation → Self.Answer };
 
     /// The copy after the operation, made of the standby copy or of the active one. What is refused
     /// is memory alone: the copies stand for what they stood for then, and a copy that was spoiled
     /// is handed out.
     fn next(
         alloc: Global,
-        copies: &mut Copies<C, O>,
-        operation: &O,
-    ) -> Result<Next<C, A>, Option<Arc<C>>>
+        copies: &mut Copies<Self::Value, Self::Operation>,
+        operation: &Self::Operation,
+    ) -> Result<Next<Self::Value, Self::Answer>, Option<Arc<Self::Value>>>
         requires may { MayTake Self.Replicated copies.old operation.now }
         ensures next { IfOk result (λ next.
             IsNextCopy Self.Replicated answer copies.old operation.now (arc_value next.copy)

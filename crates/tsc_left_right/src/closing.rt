@@ -9,10 +9,10 @@ use crate::steps::Merge;
 use crate::table::{Participant, Replicas, SharedReplicas, Slot, WriterState};
 
 /// The states of another participant come to this one, behind its own.
-pub fn merge<C, O, S, E, P: Replicated<C, O, S, E>>(
-    shared: &SharedReplicas<C, O, S, E, P>,
-    who: &mut Participant<C, O, S, E>,
-    other: Participant<C, O, S, E>,
+pub fn merge<P: Replicated>(
+    shared: &SharedReplicas<P>,
+    who: &mut Participant<P>,
+    other: Participant<P>,
 )
     requires table { (who.old.table_id ≡ shared.now.table_id)
         × (other.table_id ≡ shared.now.table_id) }
@@ -23,14 +23,14 @@ pub fn merge<C, O, S, E, P: Replicated<C, O, S, E>>(
     ensures both { who.new.me
         ≡ (keeping who.old.me.0.setup (who.old.me.0.states ++ other.me.0.states), who.old.me.1) }
 {
-    shared.join_seat::<Merge<C, O, P>>(who, other);
+    shared.join_seat::<Merge<P>>(who, other);
 }
 
 /// Closes the table when one participant keeps the states of all seats, and gives what lay there.
-pub fn close<C: Drop, O: Drop, S, E, P: Replicated<C, O, S, E>>(
-    replicas: Replicas<C, O, S, E, P>,
-    all: Participant<C, O, S, E>,
-) -> WriterState<C, O>
+pub fn close<P: Replicated>(
+    replicas: Replicas<P>,
+    all: Participant<P>,
+) -> WriterState<P::Value, P::Operation>
     requires table { all.table_id ≡ replicas.shared.table_id }
     requires slots { 0 < replicas.shared.table_id.slots }
     requires none { holders all.me.0 ≡ 0 }

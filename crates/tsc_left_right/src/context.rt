@@ -6,9 +6,9 @@ use std::alloc::Global;
 /// What an operation of a seat works with: where memory comes from, the table, how that was set up,
 /// and the number of the seat.
 #[derive(Drop)]
-pub struct Context<'c, C, O, S, E, P: Replicated<C, O, S, E>> {
+pub struct Context<'c, P: Replicated> {
     pub alloc: Global,
-    pub shared: &'c SharedReplicas<C, O, S, E, P>,
-    pub setup: &'c Setup<S>,
+    pub shared: &'c SharedReplicas<P>,
+    pub setup: &'c Setup<P::Settings>,
     pub number: u32,
 }

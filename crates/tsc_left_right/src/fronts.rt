@@ -9,10 +9,10 @@ use crate::steps::{CatchUp, JoinFront, SplitFront};
 use crate::table::{Participant, SharedReplicas};
 
 /// A front of all that the seat of this participant has seen.
-pub fn new_front<C, O, S, E, P: Replicated<C, O, S, E>>(
-    shared: &SharedReplicas<C, O, S, E, P>,
-    who: &mut Participant<C, O, S, E>,
-) -> Participant<C, O, S, E>
+pub fn new_front<P: Replicated>(
+    shared: &SharedReplicas<P>,
+    who: &mut Participant<P>,
+) -> Participant<P>
     requires of { IsOf who.old shared.now.table_id }
     requires rest { IsAtRest who.old.me }
     ensures same { (who.new.table_id ≡ who.old.table_id) × (who.new.me ≡ who.old.me) }
@@ -23,10 +23,10 @@ pub fn new_front<C, O, S, E, P: Replicated<C, O, S, E>>(
 }
 
 /// The seat has then seen what a front says, if that is longer than what it had seen.
-fn see_front<C, O, S, E, P: Replicated<C, O, S, E>>(
-    shared: &SharedReplicas<C, O, S, E, P>,
-    who: &mut Participant<C, O, S, E>,
-    front: Participant<C, O, S, E>,
+fn see_front<P: Replicated>(
+    shared: &SharedReplicas<P>,
+    who: &mut Participant<P>,
+    front: Participant<P>,
 )
     requires of { IsOf who.old shared.now.table_id }
     requires rest { IsAtRest who.old.me }
@@ -35,17 +35,17 @@ fn see_front<C, O, S, E, P: Replicated<C, O, S, E>>(
     ensures table { who.new.table_id ≡ who.old.table_id }
     ensures seen { CatchesUp P.Replicated who.old.me who.new.me front.me.0.front }
 {
-    shared.join_seat::<JoinFront<C, O, P>>(who, front);
+    shared.join_seat::<JoinFront<P>>(who, front);
     shared.load::<CatchUp<P>>(who, 0);
 }
 
 /// The seat has then seen the whole history, which begins with what a front says. The result is how
 /// many operations it has.
-pub fn see_newest<C, O, S, E, P: Replicated<C, O, S, E>>(
-    shared: &SharedReplicas<C, O, S, E, P>,
-    who: &mut Participant<C, O, S, E>,
+pub fn see_newest<P: Replicated>(
+    shared: &SharedReplicas<P>,
+    who: &mut Participant<P>,
     number: u32,
-    front: Participant<C, O, S, E>,
+    front: Participant<P>,
 ) -> u64
     requires of { IsOf who.old shared.now.table_id }
     requires rest { IsAtRest who.old.me }
@@ -59,10 +59,10 @@ pub fn see_newest<C, O, S, E, P: Replicated<C, O, S, E>>(
 }
 
 /// The seat of one participant has then seen what that of the other has seen, if that is longer.
-pub fn catch_up<C, O, S, E, P: Replicated<C, O, S, E>>(
-    shared: &SharedReplicas<C, O, S, E, P>,
-    who: &mut Participant<C, O, S, E>,
-    other: &mut Participant<C, O, S, E>,
+pub fn catch_up<P: Replicated>(
+    shared: &SharedReplicas<P>,
+    who: &mut Participant<P>,
+    other: &mut Participant<P>,
 )
     requires of { IsOf who.old shared.now.table_id }
     requires other { IsOf other.old shared.now.table_id }

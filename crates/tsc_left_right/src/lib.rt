@@ -20,10 +20,10 @@
 //!   operation.
 //! - The writer changes one copy an operation. The other one catches up before the next operation.
 //!
-//! What is replicated is a type `C`, by a marker `P` that is [`Replicated`]: operations `O` change
-//! a copy under settings `S`, and a history has an entry `E` for each. [`Replicate`] is the code
-//! that makes the next copy, and the answer `A` of an operation. The proof of this crate knows no
-//! more of these types.
+//! What is replicated is said by a marker that is [`Replicated`]: operations change copies of a
+//! value under some settings, and a history has an entry for each. [`Replicate`] is the code that
+//! makes the next copy, and the answer of an operation. The proof of this crate knows no more of
+//! these types.
 //!
 //! What the functions are for:
 //!

@@ -24,11 +24,11 @@ pub(crate) fn standby_side(head: u64) -> u64
 }
 
 /// Tries once to acquire the writer lock: `None` if somebody holds it.
-pub(crate) fn acquire<C: Drop, O: Drop, S, E, P: Replicated<C, O, S, E>>(
-    shared: &SharedReplicas<C, O, S, E, P>,
-    who: &mut Participant<C, O, S, E>,
+pub(crate) fn acquire<P: Replicated>(
+    shared: &SharedReplicas<P>,
+    who: &mut Participant<P>,
     number: u32,
-) -> Option<Box<WriterState<C, O>>>
+) -> Option<Box<WriterState<P::Value, P::Operation>>>
     requires of { IsOf who.old shared.now.table_id }
     requires free { IsFree who.old.me × (number ≡ number_of who.old.me.0) }
     ensures table { who.new.table_id ≡ who.old.table_id }
@@ -46,9 +46,9 @@ pub(crate) fn acquire<C: Drop, O: Drop, S, E, P: Replicated<C, O, S, E>>(
 }
 
 /// What stands in the word of the seat that goes first.
-pub(crate) fn first_in_line<C, O, S, E, P: Replicated<C, O, S, E>>(
-    shared: &SharedReplicas<C, O, S, E, P>,
-    who: &mut Participant<C, O, S, E>,
+pub(crate) fn first_in_line<P: Replicated>(
+    shared: &SharedReplicas<P>,
+    who: &mut Participant<P>,
 ) -> u64
     requires of { IsOf who.old shared.now.table_id }
     ensures same { (who.new.table_id ≡ who.old.table_id) × (who.new.me ≡ who.old.me) }
@@ -57,9 +57,9 @@ pub(crate) fn first_in_line<C, O, S, E, P: Replicated<C, O, S, E>>(
 }
 
 /// Writes the word of the seat that goes first.
-pub(crate) fn set_first<C, O, S, E, P: Replicated<C, O, S, E>>(
-    shared: &SharedReplicas<C, O, S, E, P>,
-    who: &mut Participant<C, O, S, E>,
+pub(crate) fn set_first<P: Replicated>(
+    shared: &SharedReplicas<P>,
+    who: &mut Participant<P>,
     first: u64,
 )
     requires of { IsOf who.old shared.now.table_id }
@@ -70,9 +70,9 @@ pub(crate) fn set_first<C, O, S, E, P: Replicated<C, O, S, E>>(
 
 /// Looks once whether the next seat, watched at this epoch before, has left the standby side. If so
 /// its slot there is taken, and is empty then. Else the result is the epoch at which it is watched.
-pub(crate) fn clear<C: Drop, O: Drop, S, E, P: Replicated<C, O, S, E>>(
-    shared: &SharedReplicas<C, O, S, E, P>,
-    who: &mut Participant<C, O, S, E>,
+pub(crate) fn clear<P: Replicated>(
+    shared: &SharedReplicas<P>,
+    who: &mut Participant<P>,
     seat: u32,
     standby: u64,
     watched: Option<u64>,
@@ -106,10 +106,10 @@ fn handle_on<C, O>(active: &Arc<C>, length: u64) -> (bool, Slot<C, O>)
 
 /// Lays a handle on this copy, which has had `length` operations, into each slot that was cleared.
 /// The result says whether there was memory for all of them.
-pub(crate) fn install_handles<C: Drop, O: Drop, S, E, P: Replicated<C, O, S, E>>(
-    shared: &SharedReplicas<C, O, S, E, P>,
-    who: &mut Participant<C, O, S, E>,
-    active: &Arc<C>,
+pub(crate) fn install_handles<P: Replicated>(
+    shared: &SharedReplicas<P>,
+    who: &mut Participant<P>,
+    active: &Arc<P::Value>,
     length: u64,
     seats: u32,
     standby: u64,
@@ -135,10 +135,10 @@ pub(crate) fn install_handles<C: Drop, O: Drop, S, E, P: Replicated<C, O, S, E>>
 
 /// Publishes what the writer has prepared, and releases the writer lock: lookups read the copy on
 /// which the handles are.
-pub(crate) fn publish<C: Drop, O: Drop, S, E, P: Replicated<C, O, S, E>>(
-    shared: &SharedReplicas<C, O, S, E, P>,
-    who: &mut Participant<C, O, S, E>,
-    state: Box<WriterState<C, O>>,
+pub(crate) fn publish<P: Replicated>(
+    shared: &SharedReplicas<P>,
+    who: &mut Participant<P>,
+    state: Box<WriterState<P::Value, P::Operation>>,
 )
     requires of { IsOf who.old shared.now.table_id }
     requires installed { HasInstalled who.old.me.0 who.old.me (arc_value state.value.copies.active)
@@ -158,10 +158,10 @@ pub(crate) fn publish<C: Drop, O: Drop, S, E, P: Replicated<C, O, S, E>>(
 }
 
 /// Releases the writer lock. The result is how many operations there are.
-pub(crate) fn release<C: Drop, O: Drop, S, E, P: Replicated<C, O, S, E>>(
-    shared: &SharedReplicas<C, O, S, E, P>,
-    who: &mut Participant<C, O, S, E>,
-    state: Box<WriterState<C, O>>,
+pub(crate) fn release<P: Replicated>(
+    shared: &SharedReplicas<P>,
+    who: &mut Participant<P>,
+    state: Box<WriterState<P::Value, P::Operation>>,
 ) -> u64
     requires of { IsOf who.old shared.now.table_id }
     requires may { MayRelease P.Replicated who.old.me state.value }

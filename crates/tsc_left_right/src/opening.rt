@@ -56,12 +56,12 @@ fn first_slots<C: Drop, O: Drop>(
 }
 
 /// What the writer works with at the opening: two copies to which nothing was applied.
-fn new_state<C: Drop, O: Drop, S, E, P: Replicated<C, O, S, E>>(
+fn new_state<P: Replicated>(
     alloc: Global,
-    setup: &Setup<S>,
-    active: Arc<C>,
-    standby: Arc<C>,
-) -> Result<Box<WriterState<C, O>>, AllocError>
+    setup: &Setup<P::Settings>,
+    active: Arc<P::Value>,
+    standby: Arc<P::Value>,
+) -> Result<Box<WriterState<P::Value, P::Operation>>, AllocError>
     requires active { P.stands setup.now.settings [] (arc_value active) }
     requires standby { P.stands setup.now.settings [] (arc_value standby) }
     ensures { IfOk result (λ state. IsFirst P.Replicated setup.now state.value) }
@@ -81,12 +81,12 @@ fn new_state<C: Drop, O: Drop, S, E, P: Replicated<C, O, S, E>>(
 
 /// A table with two copies, to which nothing was applied, and its first participant, which keeps
 /// the states of all seats.
-pub fn new_replicas<C: Drop, O: Drop, S, E, P: Replicated<C, O, S, E>>(
+pub fn new_replicas<P: Replicated>(
     alloc: Global,
-    setup: &Setup<S>,
-    active: Arc<C>,
-    standby: Arc<C>,
-) -> Result<(Replicas<C, O, S, E, P>, Participant<C, O, S, E>), AllocError>
+    setup: &Setup<P::Settings>,
+    active: Arc<P::Value>,
+    standby: Arc<P::Value>,
+) -> Result<(Replicas<P>, Participant<P>), AllocError>
     requires active { P.stands setup.now.settings [] (arc_value active) }
     requires standby { P.stands setup.now.settings [] (arc_value standby) }
     ensures replicas { IfOk result (λ made. IsSized made.0.shared.table_id setup.now.seats
@@ -95,7 +95,7 @@ pub fn new_replicas<C: Drop, O: Drop, S, E, P: Replicated<C, O, S, E>>(
         × (made.1.me ≡ (first_knowledge setup.now, []))) }
 {
     let words = blank_words(alloc, setup.seats)?;
-    let state = new_state::<C, O, S, E, P>(alloc, setup, active, standby)?;
+    let state = new_state::<P>(alloc, setup, active, standby)?;
     let slots = first_slots(alloc, state, setup.seats)?;
     match Table::new(alloc, words.as_slice(), slots, setup) {
         Ok(made) => Ok(made),
@@ -104,10 +104,10 @@ pub fn new_replicas<C: Drop, O: Drop, S, E, P: Replicated<C, O, S, E>>(
 }
 
 /// The first of the states that a participant keeps goes to a participant of its own.
-pub fn split_off<C, O, S, E, P: Replicated<C, O, S, E>>(
-    shared: &SharedReplicas<C, O, S, E, P>,
-    all: &mut Participant<C, O, S, E>,
-) -> Participant<C, O, S, E>
+pub fn split_off<P: Replicated>(
+    shared: &SharedReplicas<P>,
+    all: &mut Participant<P>,
+) -> Participant<P>
     requires of { IsOf all.old shared.now.table_id }
     requires states { KeepsStates all.old.me.0 }
     requires some { 0 < length all.old.me.0.states }

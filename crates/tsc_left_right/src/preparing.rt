@@ -63,12 +63,12 @@ struct Ready<C, A> {
 
 /// Prepares an operation that is to be published. All readers have handles on their copy then. If
 /// memory is refused, what the writer works with stands for what it stood for.
-fn prepare<C: Drop, O: Drop, S, E, A: Drop, P: Replicate<C, O, S, E, A>>(
-    context: &Context<'_, C, O, S, E, P>,
-    who: &mut Participant<C, O, S, E>,
-    state: &mut WriterState<C, O>,
-    operation: O,
-) -> Result<Ready<C, A>, Option<Arc<C>>>
+fn prepare<P: Replicate>(
+    context: &Context<'_, P>,
+    who: &mut Participant<P>,
+    state: &mut WriterState<P::Value, P::Operation>,
+    operation: P::Operation,
+) -> Result<Ready<P::Value, P::Answer>, Option<Arc<P::Value>>>
     requires seat { IsSeatOf context.now.shared.now.table_id context.now.setup.now
         context.now.number who.old }
     requires may { MayPrepare P.Replicated context.now.setup.now.seats who.old.me state.old
@@ -102,12 +102,12 @@ fn prepare<C: Drop, O: Drop, S, E, A: Drop, P: Replicate<C, O, S, E, A>>(
 }
 
 /// Prepares an operation as [`prepare`] does, with what the writer works with in its box.
-fn prepare_boxed<C: Drop, O: Drop, S, E, A: Drop, P: Replicate<C, O, S, E, A>>(
-    context: &Context<'_, C, O, S, E, P>,
-    who: &mut Participant<C, O, S, E>,
-    mut state: Box<WriterState<C, O>>,
-    operation: O,
-) -> Result<Prepared<C, O, A>, Aborted<C, O>>
+fn prepare_boxed<P: Replicate>(
+    context: &Context<'_, P>,
+    who: &mut Participant<P>,
+    mut state: Box<WriterState<P::Value, P::Operation>>,
+    operation: P::Operation,
+) -> Result<Prepared<P::Value, P::Operation, P::Answer>, Aborted<P::Value, P::Operation>>
     requires seat { IsSeatOf context.now.shared.now.table_id context.now.setup.now
         context.now.number who.old }
     requires may { MayPrepare P.Replicated context.now.setup.now.seats who.old.me state.value
@@ -134,22 +134,13 @@ fn prepare_boxed<C: Drop, O: Drop, S, E, A: Drop, P: Replicate<C, O, S, E, A>>(
 
 /// Prepares an operation by a copy of what is asked for, which is made only if the history is not
 /// full. All readers leave the standby copy first, unless the policy gives up.
-pub(crate) fn prepare_copy<
-    C: Drop,
-    O: Drop,
-    S,
-    E,
-    A: Drop,
-    P: Replicate<C, O, S, E, A>,
-    W: WaitPolicy,
-    Q: Ask<O>,
->(
+pub(crate) fn prepare_copy<P: Replicate, W: WaitPolicy, Q: Ask<P::Operation>>(
     policy: &W,
-    context: &Context<'_, C, O, S, E, P>,
-    who: &mut Participant<C, O, S, E>,
-    state: Box<WriterState<C, O>>,
+    context: &Context<'_, P>,
+    who: &mut Participant<P>,
+    state: Box<WriterState<P::Value, P::Operation>>,
     asked: &Q,
-) -> Result<Prepared<C, O, A>, Aborted<C, O>>
+) -> Result<Prepared<P::Value, P::Operation, P::Answer>, Aborted<P::Value, P::Operation>>
     requires seat { IsSeatOf context.now.shared.now.table_id context.now.setup.now
         context.now.number who.old }
     requires writer { IsNewWriter P.Replicated who.old.me state.value }

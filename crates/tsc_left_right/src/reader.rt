@@ -32,11 +32,7 @@ impl<C> Look<C, ()> for Nothing {
 }
 
 /// The seat is pinned, and has its slot of the active side in hand. The result is that side.
-fn pin<C, O, S, E, P: Replicated<C, O, S, E>>(
-    shared: &SharedReplicas<C, O, S, E, P>,
-    who: &mut Participant<C, O, S, E>,
-    number: u32,
-) -> u64
+fn pin<P: Replicated>(shared: &SharedReplicas<P>, who: &mut Participant<P>, number: u32) -> u64
     requires of { IsOf who.old shared.now.table_id }
     requires rest { IsAtRest who.old.me }
     requires number { IsNumber who.old.me.0 number }
@@ -51,11 +47,7 @@ fn pin<C, O, S, E, P: Replicated<C, O, S, E>>(
 }
 
 /// The seat lays its slot back as it was, and is unpinned.
-fn unpin<C, O, S, E, P: Replicated<C, O, S, E>>(
-    shared: &SharedReplicas<C, O, S, E, P>,
-    who: &mut Participant<C, O, S, E>,
-    number: u32,
-)
+fn unpin<P: Replicated>(shared: &SharedReplicas<P>, who: &mut Participant<P>, number: u32)
     requires of { IsOf who.old shared.now.table_id }
     requires number { IsNumber who.old.me.0 number }
     requires pinned { (side : ℕ) × (x : _) × IsPinned P.Replicated who.old.me side x }
@@ -80,9 +72,9 @@ fn look_at<C, O, F, L: Look<C, F>>(slot: &Slot<C, O>, look: &L) -> (F, u64)
 /// What is found in the active copy, and after how long a history that is. A handle that is found
 /// stays as it is, whoever applies operations meanwhile: while it lives, a writer that comes to
 /// this copy makes a new one in its place.
-pub fn read<C, O, S, E, P: Replicated<C, O, S, E>, F, L: Look<C, F>>(
-    shared: &SharedReplicas<C, O, S, E, P>,
-    who: &mut Participant<C, O, S, E>,
+pub fn read<P: Replicated, F, L: Look<P::Value, F>>(
+    shared: &SharedReplicas<P>,
+    who: &mut Participant<P>,
     number: u32,
     look: &L,
 ) -> (F, u64)

@@ -26,24 +26,14 @@ pub enum Outcome<A> {
 
 /// Applies an operation of the seat that has just acquired the lock, and releases it. The gate is
 /// told before the operation is published.
-fn apply_locked<
-    C: Drop,
-    O: Drop,
-    S,
-    E,
-    A: Drop,
-    P: Replicate<C, O, S, E, A>,
-    W: WaitPolicy,
-    Q: Ask<O>,
-    G: Gate,
->(
+fn apply_locked<P: Replicate, W: WaitPolicy, Q: Ask<P::Operation>, G: Gate>(
     policy: &W,
-    context: &Context<'_, C, O, S, E, P>,
-    who: &mut Participant<C, O, S, E>,
-    state: Box<WriterState<C, O>>,
+    context: &Context<'_, P>,
+    who: &mut Participant<P>,
+    state: Box<WriterState<P::Value, P::Operation>>,
     asked: &Q,
     notice: &mut Notice<'_, G>,
-) -> Outcome<A>
+) -> Outcome<P::Answer>
     requires writer { IsSeatOf context.now.shared.now.table_id context.now.setup.now
         context.now.number who.old × IsNewWriter P.Replicated who.old.me state.value }
     requires make { (op : _) → Q.is asked.now op → CanBe P.Replicated context.now.setup.now op }
@@ -82,23 +72,13 @@ fn apply_locked<
 
 /// Acquires the lock and applies an operation by a copy of what is asked for. Nothing is copied if
 /// the lock was held at each try, or the history is full.
-pub fn apply_by<
-    C: Drop,
-    O: Drop,
-    S,
-    E,
-    A: Drop,
-    P: Replicate<C, O, S, E, A>,
-    W: WaitPolicy,
-    Q: Ask<O>,
-    G: Gate,
->(
+pub fn apply_by<P: Replicate, W: WaitPolicy, Q: Ask<P::Operation>, G: Gate>(
     policy: &W,
-    context: &Context<'_, C, O, S, E, P>,
-    who: &mut Participant<C, O, S, E>,
+    context: &Context<'_, P>,
+    who: &mut Participant<P>,
     asked: &Q,
     notice: &mut Notice<'_, G>,
-) -> Outcome<A>
+) -> Outcome<P::Answer>
     requires seat { IsSeatOf context.now.shared.now.table_id context.now.setup.now
         context.now.number who.old × IsAtRest who.old.me }
     requires make { (op : _) → Q.is asked.now op → CanBe P.Replicated context.now.setup.now op }

@@ -9,7 +9,8 @@ pub(crate) struct Acquire<P> {
     replicated: PhantomData<P>,
 }
 
-impl<C, O, S, E, P: Replicated<C, O, S, E>> Play<Slot<C, O>, Knowledge<S, E>> for Acquire<P> {
+impl<P: Replicated> Play<Slot<P::Value, P::Operation>, Knowledge<P::Settings, P::Entry>>
+    for Acquire<P> {
     ghost use Rattle.tsc_left_right.specs.Steps.{acquires};
 
     ghost then = { acquires P.Replicated };
@@ -47,7 +48,8 @@ pub(crate) struct Publish<P> {
     replicated: PhantomData<P>,
 }
 
-impl<C, O, S, E, P: Replicated<C, O, S, E>> Play<Slot<C, O>, Knowledge<S, E>> for Publish<P> {
+impl<P: Replicated> Play<Slot<P::Value, P::Operation>, Knowledge<P::Settings, P::Entry>>
+    for Publish<P> {
     ghost use Rattle.tsc_left_right.specs.Steps.{publishes};
 
     ghost then = { publishes P.Replicated };
@@ -67,7 +69,8 @@ pub(crate) struct ReadHead<P> {
     replicated: PhantomData<P>,
 }
 
-impl<C, O, S, E, P: Replicated<C, O, S, E>> Play<Slot<C, O>, Knowledge<S, E>> for ReadHead<P> {
+impl<P: Replicated> Play<Slot<P::Value, P::Operation>, Knowledge<P::Settings, P::Entry>>
+    for ReadHead<P> {
     ghost use Rattle.tsc_left_right.specs.Steps.{reads_head};
 
     ghost then = { reads_head P.Replicated };
@@ -87,7 +90,8 @@ pub(crate) struct CatchUp<P> {
     replicated: PhantomData<P>,
 }
 
-impl<C, O, S, E, P: Replicated<C, O, S, E>> Play<Slot<C, O>, Knowledge<S, E>> for CatchUp<P> {
+impl<P: Replicated> Play<Slot<P::Value, P::Operation>, Knowledge<P::Settings, P::Entry>>
+    for CatchUp<P> {
     ghost use Rattle.tsc_left_right.specs.Steps.{catches_up};
 
     ghost then = { catches_up P.Replicated };
@@ -118,11 +122,11 @@ impl<S, E> Split<Knowledge<S, E>> for SplitFront {
 }
 
 /// The states of two participants come together.
-pub(crate) struct Merge<C, O, P> {
-    replicated: PhantomData<(C, O, P)>,
+pub(crate) struct Merge<P> {
+    replicated: PhantomData<P>,
 }
 
-impl<C, O, S, E, P: Replicated<C, O, S, E>> Join<Knowledge<S, E>> for Merge<C, O, P> {
+impl<P: Replicated> Join<Knowledge<P::Settings, P::Entry>> for Merge<P> {
     ghost use Rattle.std.specs.Prelude.{◌++◌};
     ghost use Rattle.tsc_left_right.specs.Rule.{keeping};
     ghost use Rattle.tsc_left_right.specs.Steps.{spent};
@@ -133,11 +137,11 @@ impl<C, O, S, E, P: Replicated<C, O, S, E>> Join<Knowledge<S, E>> for Merge<C, O
 }
 
 /// What a front says goes to another participant.
-pub(crate) struct JoinFront<C, O, P> {
-    replicated: PhantomData<(C, O, P)>,
+pub(crate) struct JoinFront<P> {
+    replicated: PhantomData<P>,
 }
 
-impl<C, O, S, E, P: Replicated<C, O, S, E>> Join<Knowledge<S, E>> for JoinFront<C, O, P> {
+impl<P: Replicated> Join<Knowledge<P::Settings, P::Entry>> for JoinFront<P> {
     ghost use Rattle.tsc_left_right.specs.Steps.{spent};
 
     ghost both = { λ v w. record v { front = w.front } };

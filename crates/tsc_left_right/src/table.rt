@@ -86,8 +86,11 @@ pub struct LeftRight<P> {
     replicated: PhantomData<P>,
 }
 
-impl<C, O, S, E, P: Replicated<C, O, S, E>> TableRule<Slot<C, O>, Knowledge<S, E>, Setup<S>>
-    for LeftRight<P> {
+impl<P: Replicated> TableRule<
+    Slot<P::Value, P::Operation>,
+    Knowledge<P::Settings, P::Entry>,
+    Setup<P::Settings>,
+> for LeftRight<P> {
     ghost use Rattle.tsc_left_right.specs.Rule.{LeftRightRule, first_knowledge};
 
     ghost holds = { LeftRightRule P.Replicated };
@@ -103,21 +106,24 @@ impl<C, O, S, E, P: Replicated<C, O, S, E>> TableRule<Slot<C, O>, Knowledge<S, E
 /// the epoch of each seat. Slot 0 is the writer's, and slot 16 * s + 8 * k + 8 is that of seat s on
 /// side k. The lock, HEAD, each epoch and each slot has a line of 128 bytes of its own: sixteen
 /// words, or eight slots of sixteen bytes or more (`places.rt`).
-pub type Replicas<C, O, S, E, P> = Table<
-    Slot<C, O>,
-    Knowledge<S, E>,
-    Setup<S>,
+pub type Replicas<P> = Table<
+    Slot<<P as Replicated>::Value, <P as Replicated>::Operation>,
+    Knowledge<<P as Replicated>::Settings, <P as Replicated>::Entry>,
+    Setup<<P as Replicated>::Settings>,
     LeftRight<P>,
     Global,
 >;
 
 /// The replicas as threads share them.
-pub type SharedReplicas<C, O, S, E, P> = Shared<
-    Slot<C, O>,
-    Knowledge<S, E>,
-    Setup<S>,
+pub type SharedReplicas<P> = Shared<
+    Slot<<P as Replicated>::Value, <P as Replicated>::Operation>,
+    Knowledge<<P as Replicated>::Settings, <P as Replicated>::Entry>,
+    Setup<<P as Replicated>::Settings>,
     LeftRight<P>,
 >;
 
 /// One that takes part: a seat of the table.
-pub type Participant<C, O, S, E> = TableSeat<Slot<C, O>, Knowledge<S, E>>;
+pub type Participant<P> = TableSeat<
+    Slot<<P as Replicated>::Value, <P as Replicated>::Operation>,
+    Knowledge<<P as Replicated>::Settings, <P as Replicated>::Entry>,
+>;

@@ -19,12 +19,12 @@ pub trait WaitPolicy {
     ghost tries: { Self → Option ℕ };
 
     /// Acquires the writer lock, once it is free: `None` if it was held at each try.
-    fn acquire<C: Drop, O: Drop, S, E, P: Replicated<C, O, S, E>>(
+    fn acquire<P: Replicated>(
         &self,
-        shared: &SharedReplicas<C, O, S, E, P>,
-        who: &mut Participant<C, O, S, E>,
+        shared: &SharedReplicas<P>,
+        who: &mut Participant<P>,
         number: u32,
-    ) -> Option<Box<WriterState<C, O>>>
+    ) -> Option<Box<WriterState<P::Value, P::Operation>>>
         requires of { IsOf who.old shared.now.table_id }
         requires free { IsFree who.old.me × (number ≡ number_of who.old.me.0) }
         ensures table { who.new.table_id ≡ who.old.table_id }
@@ -35,10 +35,10 @@ pub trait WaitPolicy {
 
     /// Takes the slot of the next seat on the standby side, once that seat has left it. It tells
     /// whether the seat left it.
-    fn clear<C: Drop, O: Drop, S, E, P: Replicated<C, O, S, E>>(
+    fn clear<P: Replicated>(
         &self,
-        shared: &SharedReplicas<C, O, S, E, P>,
-        who: &mut Participant<C, O, S, E>,
+        shared: &SharedReplicas<P>,
+        who: &mut Participant<P>,
         seat: u32,
         standby: u64,
     ) -> bool
@@ -60,12 +60,12 @@ const COURTESY: u32 = 64;
 /// Tries once to acquire the writer lock, after so many tries. Another seat that has waited long
 /// goes first for a while, and this one does when it has. Who acquires the lock ends that: the
 /// thread of a seat that was to go first may have been stopped.
-fn try_in_turn<C: Drop, O: Drop, S, E, P: Replicated<C, O, S, E>>(
-    shared: &SharedReplicas<C, O, S, E, P>,
-    who: &mut Participant<C, O, S, E>,
+fn try_in_turn<P: Replicated>(
+    shared: &SharedReplicas<P>,
+    who: &mut Participant<P>,
     number: u32,
     tries: u32,
-) -> Option<Box<WriterState<C, O>>>
+) -> Option<Box<WriterState<P::Value, P::Operation>>>
     requires of { IsOf who.old shared.now.table_id }
     requires free { IsFree who.old.me × (number ≡ number_of who.old.me.0) }
     ensures table { who.new.table_id ≡ who.old.table_id }
@@ -98,12 +98,12 @@ pub struct Blocking<'r, R>(pub &'r R);
 impl<'r, R: Wait> WaitPolicy for Blocking<'r, R> {
     ghost tries = { λ _. None };
 
-    fn acquire<C: Drop, O: Drop, S, E, P: Replicated<C, O, S, E>>(
+    fn acquire<P: Replicated>(
         &self,
-        shared: &SharedReplicas<C, O, S, E, P>,
-        who: &mut Participant<C, O, S, E>,
+        shared: &SharedReplicas<P>,
+        who: &mut Participant<P>,
         number: u32,
-    ) -> Option<Box<WriterState<C, O>>> {
+    ) -> Option<Box<WriterState<P::Value, P::Operation>>> {
         let backoff = Backoff::new();
         let mut tries: u32 = 0;
         for _ in self.0.forever() {
@@ -116,10 +116,10 @@ impl<'r, R: Wait> WaitPolicy for Blocking<'r, R> {
         unreachable!()
     }
 
-    fn clear<C: Drop, O: Drop, S, E, P: Replicated<C, O, S, E>>(
+    fn clear<P: Replicated>(
         &self,
-        shared: &SharedReplicas<C, O, S, E, P>,
-        who: &mut Participant<C, O, S, E>,
+        shared: &SharedReplicas<P>,
+        who: &mut Participant<P>,
         seat: u32,
         standby: u64,
     ) -> bool {
@@ -144,12 +144,12 @@ pub struct Bounded(pub u32);
 impl WaitPolicy for Bounded {
     ghost tries = { λ t. Some t.0 };
 
-    fn acquire<C: Drop, O: Drop, S, E, P: Replicated<C, O, S, E>>(
+    fn acquire<P: Replicated>(
         &self,
-        shared: &SharedReplicas<C, O, S, E, P>,
-        who: &mut Participant<C, O, S, E>,
+        shared: &SharedReplicas<P>,
+        who: &mut Participant<P>,
         number: u32,
-    ) -> Option<Box<WriterState<C, O>>> {
+    ) -> Option<Box<WriterState<P::Value, P::Operation>>> {
         let backoff = Backoff::new();
         for _ in 0..self.0 {
             if let Some(state) = acquire(shared, who, number) {
@@ -160,10 +160,10 @@ impl WaitPolicy for Bounded {
         None
     }
 
-    fn clear<C: Drop, O: Drop, S, E, P: Replicated<C, O, S, E>>(
+    fn clear<P: Replicated>(
         &self,
-        shared: &SharedReplicas<C, O, S, E, P>,
-        who: &mut Participant<C, O, S, E>,
+        shared: &SharedReplicas<P>,
+        who: &mut Participant<P>,
         seat: u32,
         standby: u64,
     ) -> bool {
@@ -182,10 +182,10 @@ impl WaitPolicy for Bounded {
 
 /// Takes the slots of all seats on the standby side. The result says whether each seat left that
 /// side before the policy gave up.
-pub(crate) fn wait_for_readers<C: Drop, O: Drop, S, E, P: Replicated<C, O, S, E>, W: WaitPolicy>(
+pub(crate) fn wait_for_readers<P: Replicated, W: WaitPolicy>(
     policy: &W,
-    shared: &SharedReplicas<C, O, S, E, P>,
-    who: &mut Participant<C, O, S, E>,
+    shared: &SharedReplicas<P>,
+    who: &mut Participant<P>,
     seats: u32,
     standby: u64,
 ) -> bool

@@ -20,31 +20,26 @@ pub(crate) type Setup = tsc_left_right::Setup<Config>;
 pub(crate) type Copies = tsc_left_right::Copies<Cache, UnappliedAdd>;
 
 /// The copies with the words and slots by which seats reach them.
-pub(crate) type Replicas = tsc_left_right::Replicas<Cache, UnappliedAdd, Config, Entry, Caches>;
+pub(crate) type Replicas = tsc_left_right::Replicas<Caches>;
 
 /// The replicas as threads share them.
-pub(crate) type SharedReplicas = tsc_left_right::SharedReplicas<
-    Cache,
-    UnappliedAdd,
-    Config,
-    Entry,
-    Caches,
->;
+pub(crate) type SharedReplicas = tsc_left_right::SharedReplicas<Caches>;
 
 /// One that takes part.
-pub(crate) type Participant = tsc_left_right::Participant<Cache, UnappliedAdd, Config, Entry>;
+pub(crate) type Participant = tsc_left_right::Participant<Caches>;
 
 /// What an Add of a seat works with.
-pub(crate) type Context<'c> = tsc_left_right::Context<
-    'c,
-    Cache,
-    UnappliedAdd,
-    Config,
-    Entry,
-    Caches,
->;
+pub(crate) type Context<'c> = tsc_left_right::Context<'c, Caches>;
 
-impl Replicated<Cache, UnappliedAdd, Config, Entry> for Caches {
+impl Replicated for Caches {
+    type Value = Cache;
+
+    type Operation = UnappliedAdd;
+
+    type Settings = Config;
+
+    type Entry = Entry;
+
     ghost use Rattle.tsc_shared.specs.Caches.{caches};
 
     ghost stands = { caches.stands };
@@ -60,7 +55,9 @@ impl Replicated<Cache, UnappliedAdd, Config, Entry> for Caches {
     ghost unsettled = { caches.unsettled };
 }
 
-impl Replicate<Cache, UnappliedAdd, Config, Entry, Added> for Caches {
+impl Replicate for Caches {
+    type Answer = Added;
+
     ghost use Rattle.tsc_shared.specs.Caches.{answer_of};
 
     ghost answer = { answer_of };

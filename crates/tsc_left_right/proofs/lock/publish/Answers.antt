@@ -26,7 +26,7 @@ store-requires g c =
     n _
     c.requires.installed c.requires.ready
     (c.standby_side-head.ensures ∙ ap (λ d. standby_side d.head) c.deref.ensures)
-    (ap (λ (d : WriterState g.row.C.Denot g.row.O.Denot). record d { head = n })
+    (ap (λ (d : WriterState g.row.P-Value.Denot g.row.P-Operation.Denot). record d { head = n })
     c.deref_mut.ensures.value) c.exchange.ensures.3
     c.turn.ensures.2 in (
       c.turn.ensures.0 ∙ c.exchange.ensures.0 ∙ c.requires.of.table,
@@ -44,7 +44,7 @@ store-requires-2 g c =
     let q = is_laid g.P.Replicated me c.exchange.new.seat.me c.turn.new.self.me old n _
     c.requires.installed c.requires.ready
     (c.standby_side-head.ensures ∙ ap (λ d. standby_side d.head) c.deref.ensures)
-    (ap (λ (d : WriterState g.row.C.Denot g.row.O.Denot). record d { head = n })
+    (ap (λ (d : WriterState g.row.P-Value.Denot g.row.P-Operation.Denot). record d { head = n })
     c.deref_mut.ensures.value) c.exchange.ensures.3
     c.turn.ensures.2 in (
       c.store.ensures.0 ∙ c.turn.ensures.0 ∙ c.exchange.ensures.0 ∙ c.requires.of.table,
@@ -64,7 +64,7 @@ returns-clause-published g c =
     let q = is_laid g.P.Replicated me c.exchange.new.seat.me c.turn.new.self.me old n _
     c.requires.installed c.requires.ready
     (c.standby_side-head.ensures ∙ ap (λ d. standby_side d.head) c.deref.ensures)
-    (ap (λ (d : WriterState g.row.C.Denot g.row.O.Denot). record d { head = n })
+    (ap (λ (d : WriterState g.row.P-Value.Denot g.row.P-Operation.Denot). record d { head = n })
     c.deref_mut.ensures.value) c.exchange.ensures.3
     c.turn.ensures.2 in
     released_then c.store.new.seat.me c.store-2.new.seat.me

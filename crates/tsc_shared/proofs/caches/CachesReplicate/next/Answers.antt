@@ -8,7 +8,7 @@ use Rattle.tsc_left_right.specs.Copies.{IsNextCopy}
 use Rattle.tsc_shared.specs.Applying.{IsNext}
 use Rattle.tsc_shared.specs.Caches.{caches, answer_of}
 use Rattle.tsc_shared.proofs.AddingUp.{can_fit, next_copy}
-use Rattle.tsc_shared.proofs.caches.CachesReplicateCacheUnappliedAddConfigEntryAdded.next.Goals as goal
+use Rattle.tsc_shared.proofs.caches.CachesReplicate.next.Goals as goal
 
 pub take_next-requires : goal.take_next-requires
 take_next-requires c = record {
