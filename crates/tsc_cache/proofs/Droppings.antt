@@ -1,8 +1,8 @@
 -- How an eviction goes from page to page, from the oldest on.
-use Rattle.std.proofs.Common.{◌≡◌, ◌∙◌, refl, sym, ap, subst, true, false, ℕ, suc, ◌+◌, ◌-◌, ◌<◌, get_or, take, List, [], ◌∷◌, ◌++◌, length, map, append_assoc, append-nil, arith}
+use Rattle.std.proofs.Common.{◌≡◌, ◌∙◌, refl, sym, ap, subst, true, ℕ, suc, ◌+◌, List, [], ◌∷◌, ◌++◌, length, map, append_assoc, append-nil, arith}
 use Rattle.std.specs.Prelude.{Option, Some, None, IsSome}
 use Rattle.std.specs.Option.{option_to_list}
-use Rattle.std.proofs.lemmas.List.{map-append, length-append, length-map, length_push, same_from_push, take_more, take_all}
+use Rattle.std.proofs.lemmas.List.{length-append, length-map, length_push, same_from_push}
 use Rattle.std.specs.Ordering.{ord_max}
 use Rattle.tsc_time.specs.Time.{Time, time_cmp, later}
 use Rattle.tsc_page_nodes.specs.PageView.{PageView}
@@ -87,22 +87,6 @@ dropping-end settings floor now old new raised evicted done stays = record {
   floor_is = done.floor_is;
   count = done.count;
 }
-
--- a list with a last element is what comes before it, and that one
-last_parted : {X : Type 0} (xs : List X) (x : X) → 0 < length xs → x ≡ get_or xs (length xs - 1) x →
-    xs ≡ take (length xs - 1) xs ++ x ∷ []
-last_parted xs x some is =
-    let n : ℕ = length xs - 1 in
-    let within : n < length xs = omega arith in
-    let whole : n + 1 ≡ length xs = omega arith in
-    sym (take_all (n + 1) xs (omega arith)) ∙ take_more xs n x within ∙
-    ap (λ y. take n xs ++ y ∷ []) (sym is)
-
-last_before : {X : Type 0} (xs : List X) (x : X) → 0 < length xs →
-    x ≡ get_or xs (length xs - 1) x → length (take (length xs - 1) xs) ≡ length xs - 1
-last_before xs x some is =
-    let long = ap length (last_parted xs x some is) ∙
-    length_push (take (length xs - 1) xs) x in omega arith
 
 -- what was taken from the end
 pub popped_plain : (ps qs : List PageView) (o : Option PageView) → IsSome o →
