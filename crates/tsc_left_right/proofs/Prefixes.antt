@@ -1,8 +1,8 @@
 -- Beginnings of histories, and legal ones.
 use Rattle.std.proofs.Common.{◌≡◌, ◌⊎◌, ◌∙◌, inl, inr, refl, sym, ap, subst, ℕ, ◌+◌, ◌≤◌, [], ◌∷◌}
-use Rattle.std.proofs.Common.{◌++◌, length, arith, append_assoc, append-nil, List}
-use Rattle.std.specs.Prelude.{◌==◌}
-use Rattle.std.proofs.lemmas.List.{length-append, same_from_push}
+use Rattle.std.proofs.Common.{◌++◌, length, arith, append_assoc, append-nil, List, Bool, true, false}
+use Rattle.std.specs.Prelude.{◌==◌, nat_le}
+use Rattle.std.proofs.lemmas.List.{length-append, length_push, same_from_push}
 use Rattle.std.proofs.lemmas.List.Sums.{sum_by-append, count_by-le-length}
 use Rattle.std.proofs.lemmas.Bool.Decides.{nat_tests}
 use Rattle.tsc_left_right.specs.declared.replicated.Replicated.{Ghosts}
@@ -49,6 +49,21 @@ module _ {E : Type 0} where
       let t = same_heads g f h (b ++ y.0) y.1 in
       let rest = begins_shorter h a b (x.0, s.1) (y.0, t.1) (omega arith) in
       (rest.0, (λ i. (sym t.0 ∙ s.0) i ∷ rest.1 i))
+
+  -- of an entry either all was seen, or nothing
+  pub seen_whole : (before after seen : List E) (e : E) → BeginsWith (before ++ e ∷ after) seen
+      → BeginsWith before seen ⊎ BeginsWith seen (before ++ e ∷ [])
+  seen_whole before after seen e b = by_length (nat_le (length seen) (length before)) refl
+    where
+      longer : BeginsWith (before ++ e ∷ after) (before ++ e ∷ [])
+      longer = (after, sym (append_assoc before (e ∷ []) after))
+
+      by_length : (t : Bool) → nat_le (length seen) (length before) ≡ t
+          → BeginsWith before seen ⊎ BeginsWith seen (before ++ e ∷ [])
+      by_length true is = inl (begins_shorter (before ++ e ∷ after) seen before b (e ∷ after, refl)
+          (grind (arith, nat_tests)))
+      by_length false is = inr (begins_shorter (before ++ e ∷ after) (before ++ e ∷ []) seen longer
+          b (grind (arith, nat_tests, length_push before e)))
 
   -- what ends in one entry more begins with the same as before, or is the whole
   pub begins_push : (h g : List E) (e : E) → BeginsWith (h ++ e ∷ []) g

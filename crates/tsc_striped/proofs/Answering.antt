@@ -16,7 +16,7 @@ use Rattle.tsc_cache.specs.History.{History, BeginsWith}
 use Rattle.tsc_cache.specs.Laws.{IsClearOf}
 use Rattle.tsc_cache.proofs.Beginnings.{begins_entries}
 use Rattle.tsc_stripe_table.specs.Stripes.{Terms, state_on}
-use Rattle.tsc_stripe_table.proofs.Prefixes.{begins_shorter}
+use Rattle.tsc_left_right.proofs.Prefixes.{seen_whole}
 use Rattle.tsc_striped.specs.Touching.{first_touched, last_touched}
 use Rattle.tsc_striped.specs.Looks.{look_on, look_over}
 use Rattle.tsc_striped.specs.Seats.{SeatView, IsSeat}
@@ -53,22 +53,7 @@ is_above seat span value was is =
           (subst (λ (v : OwnedTime). IsClearOf v writer time) is clear) e m there own over;
     }
 
--- of an entry either all was seen, or nothing
-seen_whole : (before after seen : History) (e : Entry) → BeginsWith (before ++ e ∷ after) seen
-    → BeginsWith before seen ⊎ BeginsWith seen (before ++ e ∷ [])
-seen_whole before after seen e b = by_length (nat_le (length seen) (length before)) refl
-  where
-    longer : BeginsWith (before ++ e ∷ after) (before ++ e ∷ [])
-    longer = (after, sym (append_assoc before (e ∷ []) after))
-
-    by_length : (t : Bool) → nat_le (length seen) (length before) ≡ t
-        → BeginsWith before seen ⊎ BeginsWith seen (before ++ e ∷ [])
-    by_length true is = inl (begins_shorter (before ++ e ∷ after) seen before b (e ∷ after, refl)
-        (grind (arith, nat_tests)))
-    by_length false is = inr (begins_shorter (before ++ e ∷ after) (before ++ e ∷ []) seen longer b
-        (grind (arith, nat_tests, length_push before e)))
-
--- so a lookup tells no part of one
+-- Of an entry either all was seen, or nothing, so a lookup tells no part of one.
 pub tells_no_part : (seat : SeatView) (span : Interval) (value : OwnedTime)
     → IsAbove seat span value → TellsNoPart seat span value
 tells_no_part seat span value above before after e b =
