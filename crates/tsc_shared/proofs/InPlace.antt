@@ -18,7 +18,7 @@ use Rattle.tsc_shared.specs.declared.adds.MarkList.{MarkList}
 use Rattle.tsc_shared.specs.declared.adds.MarkList.TheVariants.{One, Many}
 use Rattle.tsc_shared.specs.declared.applying.InPlace.{InPlace}
 use Rattle.tsc_shared.specs.declared.applying.InPlace.TheVariants.{Made, Untouched, Spoiled}
-use Rattle.tsc_shared.specs.Applying.{HasHadSome, CatchesUp, IfMade, HasNoPart, IsUntouched}
+use Rattle.tsc_shared.specs.Applying.{HasHadSome, CatchesUp, HasNoPart, IsUntouched}
 use Rattle.tsc_shared.specs.Applying.{StillLags}
 use Rattle.tsc_shared.specs.Caches.{marks_in}
 
