@@ -28,7 +28,9 @@ pub trait Replicated {
     /// The entry of an operation of a seat that has made so many before.
     ghost entry_of: { ℕ → ℕ → Self.Operation → Self.Entry };
 
-    ghost seat_kept: { (number count : ℕ) (op : Self.Operation) → seat_of (entry_of number count op) ≡ number };
+    /// An operation's entry is of its seat.
+    ghost seat_kept: { (number count : ℕ) (op : Self.Operation)
+        → seat_of (entry_of number count op) ≡ number };
 
     /// Settings for a participant that knows of no table any more.
     ghost unsettled: { Self.Settings };
