@@ -82,7 +82,7 @@ test*) printf '%b' "$CARGO"; exit "$CARGO_ENDS" ;;
 fmt*) exit "$FORMATS" ;;
 clippy*) exit "$LINTS" ;;
 package*) printf '%b' "$PACKED"; exit 0 ;;
-*lease_holder*) cat "{ROOT}/crates/example_lease_holder/stdout"; printf '%b' "$EXAMPLE"; exit "$EXAMPLE_ENDS" ;;
+*lease_holder*) sed '1,/^In stripes:$/d' "{ROOT}/crates/example_lease_holder/stdout"; printf '%b' "$EXAMPLE"; exit "$EXAMPLE_ENDS" ;;
 *figures*) yes "$FIGURES" | head -n 40; exit "$EXAMPLE_ENDS" ;;
 *leased_store*) exit "$EXAMPLE_ENDS" ;;
 run*)
@@ -745,7 +745,7 @@ def try_programs(cases, room):
     command_of(f"{room}/no kit/rt", "#!/bin/sh\nexit 1\n")
     no_kit = {"PATH": f"{room}/no kit:{os.environ['PATH']}"}
     for kind, text in kinds.items():
-        for crate in ("tscache", "test_caches", "test_ranges", "test_shared", "test_traces") if text else ():
+        for crate in ("tscache", "test_caches", "test_ranges", "test_shared", "test_striped", "test_traces") if text else ():
             command_of(f"{room}/{kind}/{crate}", text)
         for command, part, *words in parts if kind != "fails" else parts[:-1]:
             words = [f"{ROOT}/scripts/{command}", part, "--unproved", "--built", f"{room}/{kind}", *words]
