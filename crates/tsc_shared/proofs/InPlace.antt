@@ -20,7 +20,7 @@ use Rattle.tsc_shared.specs.declared.adds.MarkList.TheVariants.{One, Many}
 use Rattle.tsc_shared.specs.Caches.{marks_in}
 use Rattle.tsc_shared.specs.declared.applying.InPlace.{InPlace}
 use Rattle.tsc_shared.specs.declared.applying.InPlace.TheVariants.{Made, Untouched, Spoiled}
-use Rattle.tsc_shared.specs.Applying.{HasHadSome, CatchesUp, HasNoPart, IsUntouched}
+use Rattle.tsc_shared.specs.Applying.{HasHadSome, CatchesUp, IfMade, HasNoPart, IsUntouched}
 use Rattle.tsc_shared.specs.Applying.{StillLags}
 
 -- all of them
