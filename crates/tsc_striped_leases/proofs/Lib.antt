@@ -1,3 +1,4 @@
 pub mod Leases
 pub mod Looking
+mod AsOne
 pub mod Parts

@@ -1,2 +1,3 @@
 pub mod Leases
+pub mod Merging
 pub mod StripedSeats

@@ -45,14 +45,16 @@ ghost use Rattle.tsc_striped_leases.specs.Leases.{TakesOverInStripes};
 
 pub mod laws;
 mod lookups;
+mod merging;
 
 pub use lookups::{Trying, Waiting};
+pub use merging::merged;
 use std::alloc::Global;
 use std::sync::Wait;
 use timestamp_cache::{ReadSummary, summary};
 use tsc_cache::Mark;
 use tsc_span::Span;
-use tsc_striped::{AddFault, Receipt, Seat, Snapshot, StripedCache};
+use tsc_striped::{AddFault, Receipt, Seat, Snapshot, SnapshotFault, StripedCache};
 use tsc_time::{NoMemory, Timestamp, Value};
 
 /// A summary for each stripe that the span touches, of what lies of the span there, each in at most
@@ -96,6 +98,39 @@ pub fn summary_in_stripes<R: Wait>(
     let snapshot = cache.snapshot(rt, seat, span)?;
     let told = summaries(alloc, cache, &snapshot, span, most)?;
     Ok(told)
+}
+
+/// As [`summary_in_stripes`], where the caller has no leave to wait: it tries `tries` times to
+/// acquire all locks that it needs. Where another seat held one of them at each try, the answer is
+/// `Busy`, and the seat is as it was.
+///
+/// ```
+/// let (cache, mut dealer) = StripedCache::open(alloc, config()?, Vec::new(alloc), 1)?;
+/// let mut seat = cache.deal(&mut dealer).ok_or("a seat")?;
+/// cache.try_add(&mut seat, &keys(alloc, "b", "")?, Value::of(at(20), id('A')), at(20), 64)?;
+/// let span = keys(alloc, "a", "z")?;
+/// let told = try_summary_in_stripes(alloc, &cache, &mut seat, &span, 8, 64)?;
+/// assert_eq!(rt; (told.len(), told[0].marks.len()), (1, 1));
+/// ```
+pub fn try_summary_in_stripes(
+    alloc: Global,
+    cache: &StripedCache,
+    seat: &mut Seat,
+    span: &Span,
+    most: usize,
+    tries: u32,
+) -> Result<Vec<ReadSummary>, SnapshotFault>
+    requires cache { seat.old.cache ≡ cache.now }
+    ensures told { IfOk result
+        (λ told. SummarizesInStripes seat.old seat.new span.now most told.items) }
+    ensures looked { HasLookedOn seat.old seat.new }
+{
+    let _number = seat.number();
+    let snapshot = cache.try_snapshot(seat, span, tries)?;
+    match summaries(alloc, cache, &snapshot, span, most) {
+        Ok(told) => Ok(told),
+        Err(_) => Err(SnapshotFault::NoMemory),
+    }
 }
 
 /// A summary of each cache of a snapshot, in their order.
