@@ -127,7 +127,12 @@ const tsc_build *tsc_built(void);
 
 /* What a call answers: TSC_OK, or why it was refused. A call that is refused adds nothing to a
  * cache, and writes nothing but to the store (and with TSC_REFUSED and TSC_SHORT what is said
- * there). */
+ * there).
+ *
+ * What is wrong with a call is told also where no memory is left: TSC_NO_MEMORY says that all that
+ * was asked is right. All marks of a batch are looked at before a key is copied. Only `tsc_apply`,
+ * `tsc_replay` and `tsc_check` may tell it of wrong bytes, which they read into memory. Where
+ * several things are wrong, one of them is told. */
 enum {
     TSC_OK = 0,
     TSC_CLOSED = 1,       /* the handle names nothing in this store, or nothing of this kind: it
@@ -146,7 +151,8 @@ enum {
                            * stripes below 8,256 */
     TSC_MIN_PAGES = 9,    /* min_pages is 0 or above 64 */
     TSC_RETENTION = 10,   /* retention is above 2^63 - 1 */
-    TSC_NO_MEMORY = 11,   /* malloc or realloc refused; told by no call that takes no memory */
+    TSC_NO_MEMORY = 11,   /* malloc or realloc refused, and nothing else is wrong with the call, nor
+                            * is a history full; told by no call that takes no memory */
     TSC_SEATS = 12,       /* there were to be no seats, or more than 64 of a shared cache */
     TSC_STILL_OUT = 13,   /* a seat of the shared cache, or of one in stripes, was not handed in */
     TSC_BUSY = 14,        /* others were in the way at each of the tries: another Add, or a lookup;
@@ -332,7 +338,8 @@ uint32_t tsc_summary(tsc_store *store, uint64_t handle, const void *from, size_t
  * TSC_SUMMARY_LENGTH or TSC_SUMMARY_CHECKSUM, and the cache is as it was. The digest is no
  * signature: who takes bytes from somebody that may lie has them signed. Else it is refused by
  * TSC_SUMMARY_FORM; by TSC_TOO_LARGE where a span of the summary costs more than page_max of this
- * cache; and by TSC_TIME, TSC_NO_MEMORY and TSC_CLOSED. Where it is refused the holder asks for
+ * cache; by TSC_TIME, which comes first; and by TSC_NO_MEMORY, where what the bytes are may not be
+ * known, and TSC_CLOSED. Where it is refused the holder asks for
  * the bytes again, or opens a cache with `low_water` at or above each time at which a read was
  * answered; until then it answers no write of the span. */
 TSC_NODISCARD

@@ -25,17 +25,18 @@ static void check(bool holds, const char *file, int line, const char *what)
 /* Memory: the request that is refused, counted from 1, and how many were made. */
 
 static uint64_t requests, refused_request;
+static bool none_left; /* each request is refused */
 void *__real_malloc(size_t size);
 void *__real_realloc(void *block, size_t size);
 
 void *__wrap_malloc(size_t size)
 {
-    return ++requests == refused_request ? NULL : __real_malloc(size);
+    return ++requests == refused_request || none_left ? NULL : __real_malloc(size);
 }
 
 void *__wrap_realloc(void *block, size_t size)
 {
-    return ++requests == refused_request ? NULL : __real_realloc(block, size);
+    return ++requests == refused_request || none_left ? NULL : __real_realloc(block, size);
 }
 
 /* Transactions, by a letter: 'A' and 'B', and '-' for none. */
@@ -916,6 +917,80 @@ static bool one_shared_run(void)
     return right;
 }
 
+/* One mark behind a good one, in a batch over the bytes of keys. */
+static uint32_t batch_with(struct cache *c, const void *keys, size_t keys_len, tsc_mark mark, uint64_t seat)
+{
+    tsc_mark marks[2] = {{0, 1, 0, 0, {20, 0, {0}}, TSC_POINT}, mark};
+    uint64_t at = 77;
+    tsc_added a;
+    if (seat)
+        return tsc_checked_seat_add_all(&c->store, seat, keys, keys_len, marks, 2, &AT_20, 1, &at, &a);
+    return tsc_checked_add_all(&c->store, c->handle, keys, keys_len, marks, 2, &AT_20, &a);
+}
+
+/* An Add of a range, whose two keys have so many bytes of some. */
+static uint32_t range_with(struct cache *c, const char *keys, size_t from_len, size_t to_len, uint32_t ends, tsc_value v, tsc_time now, uint64_t seat)
+{
+    uint64_t at = 77;
+    tsc_added a;
+    if (seat)
+        return tsc_checked_seat_add(&c->store, seat, keys, from_len, keys, to_len, ends, &v, &now, 1, &at, &a);
+    return tsc_checked_add(&c->store, c->handle, keys, from_len, keys, to_len, ends, &v, &now, &a);
+}
+
+/* What is wrong with an Add is told where no memory is left, to a cache or at a seat: only what is right lacks memory. */
+static void wrong_adds(struct cache *c, uint64_t seat)
+{
+    static char keys[5000];
+    memset(keys, 'k', sizeof keys);
+    tsc_value v = {20, 0, {0}}, late = {20, UINT32_MAX, {0}};
+    tsc_time never = {UINT64_MAX, 0};
+    none_left = true;
+    CHECK(range_with(c, keys, 1, 2, 0, late, AT_20, seat) == TSC_TIME && range_with(c, keys, 1, 2, 0, v, never, seat) == TSC_TIME);
+    CHECK(range_with(c, keys, 1, 2, 6, v, AT_20, seat) == TSC_ENDS && range_with(c, keys, 2, 1, 0, v, AT_20, seat) == TSC_INVERTED);
+    CHECK(range_with(c, keys, 4097, 5000, 0, v, AT_20, seat) == TSC_KEY_TOO_LONG && range_with(c, keys, 1, 4097, 0, v, AT_20, seat) == TSC_KEY_TOO_LONG);
+    CHECK(range_with(c, keys, 101, 1, TSC_POINT, v, AT_20, seat) == TSC_TOO_LARGE && range_with(c, keys, 34, 35, 0, v, AT_20, seat) == TSC_TOO_LARGE);
+    CHECK(batch_with(c, keys, 10, (tsc_mark){0, 1, 10, 1, v, 0}, seat) == TSC_OUTSIDE && batch_with(c, keys, 10, (tsc_mark){0, 1, 0, 1, late, 0}, seat) == TSC_TIME);
+    CHECK(batch_with(c, keys, 10, (tsc_mark){0, 1, 0, 1, v, 6}, seat) == TSC_ENDS && batch_with(c, keys, 10, (tsc_mark){0, 2, 0, 1, v, 0}, seat) == TSC_INVERTED);
+    CHECK(batch_with(c, keys, 5000, (tsc_mark){0, 1, 0, 4097, v, 0}, seat) == TSC_KEY_TOO_LONG);
+    CHECK(batch_with(c, keys, 5000, (tsc_mark){0, 101, 0, 0, v, TSC_POINT}, seat) == TSC_TOO_LARGE);
+    CHECK(range_with(c, keys, 1, 2, 0, v, AT_20, seat) == TSC_NO_MEMORY && batch_with(c, keys, 10, (tsc_mark){0, 1, 0, 2, v, 0}, seat) == TSC_NO_MEMORY);
+    none_left = false;
+}
+
+/* The same of calls for handles and of summaries, and a history that is full is told at each seat. */
+static void wrong_without_memory(void)
+{
+    struct cache c = open_cache(132, 132, 2);
+    tsc_store other = TSC_STORE_INIT;
+    tsc_time low = {5, 0}, never = {UINT64_MAX, 0};
+    tsc_value v = {20, 0, {0}};
+    tsc_added a;
+    uint64_t shared = 77, at = 77, handle = 77;
+    uint8_t bytes[256];
+    size_t len = 77, bytes_len = 0;
+    CHECK(tsc_open_shared(&c.store, 132, 132, 2, 10, &low, 2, 1, &shared) == TSC_OK);
+    CHECK(tsc_checked_summary(&c.store, c.handle, "a", 1, "c", 1, 0, 8, bytes, sizeof bytes, &bytes_len) == TSC_OK);
+    wrong_adds(&c, 0);
+    wrong_adds(&c, shared + 1);
+    CHECK(tsc_checked_seat_add(&c.store, shared + 1, "b", 1, NULL, 0, TSC_POINT, &v, &AT_20, 1, &at, &a) == TSC_OK && at == 0);
+    none_left = true;
+    for (uint64_t seat = shared + 1; seat <= shared + 2; seat++)
+        CHECK(range_with(&c, "kk", 1, 2, 0, v, AT_20, seat) == TSC_FULL && batch_with(&c, "kk", 2, (tsc_mark){0, 1, 0, 2, v, 0}, seat) == TSC_FULL);
+    CHECK(tsc_open(&other, 63, 132, 2, 10, &low, &handle) == TSC_PAGE_SIZE && tsc_open(&other, 132, 132, 2, 10, &never, &handle) == TSC_TIME);
+    CHECK(tsc_open_shared(&other, 132, 132, 0, 10, &low, 2, 1, &handle) == TSC_MIN_PAGES && tsc_open_shared(&other, 132, 132, 2, 10, &low, 65, 1, &handle) == TSC_SEATS);
+    CHECK(tsc_move(&c.store, 99, &other, &handle) == TSC_CLOSED);
+    CHECK(tsc_checked_summary(&c.store, c.handle, "c", 1, "a", 1, 0, 8, NULL, 0, &len) == TSC_INVERTED);
+    CHECK(tsc_checked_apply(&c.store, c.handle, bytes, bytes_len, &never, &a) == TSC_TIME && tsc_checked_apply(&c.store, c.handle, bytes, bytes_len, &AT_20, &a) == TSC_NO_MEMORY);
+    CHECK(tsc_checked_apply(&c.store, c.handle, bytes, bytes_len - 1, &never, &a) == TSC_SUMMARY_LENGTH);
+    CHECK(tsc_open(&other, 132, 132, 2, 10, &low, &handle) == TSC_NO_MEMORY && tsc_move(&c.store, shared + 2, &other, &handle) == TSC_NO_MEMORY);
+    CHECK(handle == 77 && len == 77 && other.at == NULL);
+    none_left = false;
+    CHECK(tsc_move(&c.store, shared + 2, &other, &handle) == TSC_OK && handle == 0);
+    tsc_free(&other);
+    tsc_free(&c.store);
+}
+
 /* A shared cache may find another way where memory is refused, and need not tell of it. */
 static void memory_of(bool (*run)(void), bool each_is_told)
 {
@@ -935,6 +1010,7 @@ static void memory(void)
 {
     memory_of(one_run, true);
     memory_of(one_shared_run, false);
+    wrong_without_memory();
 }
 
 /* Figures. */

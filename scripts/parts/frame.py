@@ -76,18 +76,28 @@ def temporary():
 def outcome(*words, seconds=SECONDS, **how):
     """Returns the status of a command and what it told, both streams in one.
 
-    A command that takes too long has no status.
+    A command that takes too long has no status. Then it is killed with all that it started, as it
+    is where this process is told to end.
     """
     how = {"stdin": subprocess.DEVNULL, "stdout": subprocess.PIPE, "stderr": subprocess.STDOUT, **how}
-    if "input" in how:
-        del how["stdin"]
+    given = how.pop("input", None)
+    if given is not None:
+        how["stdin"] = subprocess.PIPE
+    how = {"text": True, "errors": "replace", "start_new_session": True, **how}
     try:
-        ended = subprocess.run(words, timeout=seconds, **{"text": True, "errors": "replace", **how})
-    except subprocess.TimeoutExpired:
-        return None, f"{words[0]} took more than {seconds} seconds\n"
+        running = subprocess.Popen(words, **how)
     except OSError as fault:
         return MISSING, f"{fault.filename}: {fault.strerror}\n"
-    return ended.returncode, ended.stdout
+    with running:
+        try:
+            told = running.communicate(given, seconds)[0]
+        except BaseException as fault:
+            # (before the command is waited for, so that its number is no other's)
+            os.killpg(running.pid, signal.SIGKILL)
+            if not isinstance(fault, subprocess.TimeoutExpired):
+                raise
+            return None, f"{words[0]} took more than {seconds} seconds\n"
+    return running.returncode, told
 
 
 def call(*words, **how):

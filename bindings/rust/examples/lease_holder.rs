@@ -2,10 +2,10 @@
 //! each thread has a seat of its own, and a write of any of them is clear of each read that was
 //! answered before, on whichever thread.
 //!
-//! It is the repository's `crates/example_lease_holder` over this crate, call for call, and prints the
-//! same. What that one hands on with a latch as a front, of which this crate has none, is a number
-//! here: how many Adds of the cache's one history a seat has to have seen before it asks for a
-//! write. What is proved there is checked here, of each write.
+//! It is the repository's `crates/example_lease_holder` over this crate, call for call, and prints
+//! what that prints of each form of cache. What that one hands on with a latch as a front, of which
+//! this crate has none, is a number here: how many Adds of the cache's one history a seat has to have
+//! seen before it asks for a write. What is proved there is checked here, of each write.
 //!
 //! `cargo run --example lease_holder`
 use std::collections::BTreeMap;

@@ -2,7 +2,7 @@
 use Rattle.std.proofs.Common.{◌≡◌, ◌∙◌, ap, sym, refl, subst, ℕ, suc, ◌<◌, List, [], ◌∷◌, Bor, length, slice_index_or, arith}
 use Rattle.std.specs.Prelude.{Result, Ok, Err, IfOk, Option, IsSomeAnd}
 use Rattle.std.specs.List.{AllZip}
-use Rattle.timestamp_cache.specs.Words.{Time, History, BeginsWith, SeatView}
+use Rattle.timestamp_cache.specs.Words.{Time, History, BeginsWith}
 use Rattle.timestamp_cache.proofs.Rows.{zip_as}
 use Rattle.example_lease_holder.specs.declared.Plan.{Plan}
 use Rattle.example_lease_holder.specs.declared.Served.{Served}
@@ -12,6 +12,7 @@ use Rattle.example_lease_holder.specs.declared.lease.Range.{Ghosts}
 use Rattle.example_lease_holder.specs.declared.lease.RangeSeat.{RangeSeat}
 use Rattle.example_lease_holder.specs.declared.Turn.TheVariants.{Read, Write}
 use Rattle.example_lease_holder.specs.Plans.{HasReadsOf, MayWriteAt}
+use Rattle.example_lease_holder.specs.ReadSeats.{seen_by}
 use Rattle.example_lease_holder.specs.Reads.{since}
 use Rattle.example_lease_holder.specs.Turns.{IsNew, HasTaken, HasSpoken, HasTold, HasServed, IsLeftOf, WasServed}
 use Rattle.example_lease_holder.proofs.Since.{since_there}
@@ -58,23 +59,23 @@ pub still_taken : {X : Type 0} {G : Ghosts X} (turn : Turn) (old next new : Work
     new.me ≡ next.me → new.plan ≡ next.plan → new.wrote ≡ next.wrote → HasTaken turn old next →
     HasTaken turn old new
 still_taken {X} {G} turn old next new me plan wrote taken =
-    let seen : new.me.seat.seen ≡ next.me.seat.seen = ap (λ (m : RangeSeat X G). m.seat.seen) me in
+    let seen : (seen_by new.me.seat) ≡ (seen_by next.me.seat) = ap (λ (m : RangeSeat X G). seen_by m.seat) me in
     record {
       plan = plan ∙ taken.plan;
-      begins = subst (λ (h : History). BeginsWith h old.me.seat.seen) (sym seen) taken.begins;
+      begins = subst (λ (h : History). BeginsWith h (seen_by old.me.seat)) (sym seen) taken.begins;
       reads = λ is. record {
-        reads = subst (λ (h : History). HasReadsOf new.plan.now (since old.me.seat.seen h))
+        reads = subst (λ (h : History). HasReadsOf new.plan.now (since (seen_by old.me.seat) h))
             (sym seen)
-            (subst (λ (p : Bor Plan). HasReadsOf p.now (since old.me.seat.seen next.me.seat.seen))
+            (subst (λ (p : Bor Plan). HasReadsOf p.now (since (seen_by old.me.seat) (seen_by next.me.seat)))
             (sym plan) (taken.reads is).reads);
         wrote = wrote ∙ (taken.reads is).wrote;
       };
       writes = λ is. subst (λ (w : Option Time). IsSomeAnd w
-          (λ at. MayWriteAt new.plan.now new.me.seat.seen at)) (sym wrote)
+          (λ at. MayWriteAt new.plan.now (seen_by new.me.seat) at)) (sym wrote)
           (subst (λ (h : History). IsSomeAnd next.wrote (λ at. MayWriteAt new.plan.now h at))
           (sym seen)
           (subst (λ (p : Bor Plan). IsSomeAnd next.wrote
-          (λ at. MayWriteAt p.now next.me.seat.seen at)) (sym plan) (taken.writes is)));
+          (λ at. MayWriteAt p.now (seen_by next.me.seat) at)) (sym plan) (taken.writes is)));
     }
 
 -- and so of all that have told what they had to tell
@@ -100,9 +101,9 @@ have_told {X} {E} {G} turn workers after ended taken spoken =
 -- what a worker's plan says of what its seat has seen since it was that of another one, each read
 -- of it is there
 pub reads_there : {X : Type 0} {G : Ghosts X} (old new : Worker X G) → HasTaken Read old new →
-    HasReadsOf new.plan.now new.me.seat.seen
+    HasReadsOf new.plan.now (seen_by new.me.seat)
 reads_there old new taken k d below =
-    since_there _ new.me.seat.seen old.me.seat.seen _ taken.begins
+    since_there _ (seen_by new.me.seat) (seen_by old.me.seat) _ taken.begins
     ((taken.reads refl).reads k d below)
 
 -- A worker of a plan that has read, written and read again served it.
@@ -118,21 +119,21 @@ served {X} {G} plan start again left new turns leaves =
     let of_then : then.plan.now ≡ plan = ap (λ (p : Bor Plan). p.now) writes.plan ∙ of_first in
     let of_again : again.plan.now ≡ plan = ap (λ (p : Bor Plan). p.now) rereads.plan ∙ of_then in
     let wrote : left.wrote ≡ then.wrote = leaves.wrote ∙ (rereads.reads refl).wrote in
-    let seen : left.seat.seen ≡ again.me.seat.seen = ap (λ (s : SeatView). s.seen) leaves.seat in
+    let seen : (seen_by left.seat) ≡ (seen_by again.me.seat) = ap seen_by leaves.seat in
     record {
       own = ap (λ (p : Bor Plan). p.now) leaves.plan ∙ of_again;
-      first = first.me.seat.seen;
-      then = then.me.seat.seen;
-      reads = subst (λ (p : Plan). HasReadsOf p first.me.seat.seen) of_first
+      first = (seen_by first.me.seat);
+      then = (seen_by then.me.seat);
+      reads = subst (λ (p : Plan). HasReadsOf p (seen_by first.me.seat)) of_first
           (reads_there start first reads);
       onward = writes.begins;
-      writes = subst (λ (w : Option Time). IsSomeAnd w (λ at. MayWriteAt plan then.me.seat.seen at))
+      writes = subst (λ (w : Option Time). IsSomeAnd w (λ at. MayWriteAt plan (seen_by then.me.seat) at))
           (sym wrote)
-          (subst (λ (p : Plan). IsSomeAnd then.wrote (λ at. MayWriteAt p then.me.seat.seen at))
+          (subst (λ (p : Plan). IsSomeAnd then.wrote (λ at. MayWriteAt p (seen_by then.me.seat) at))
           of_then (writes.writes refl));
-      begins = subst (λ (h : History). BeginsWith h then.me.seat.seen) (sym seen) rereads.begins;
-      again = subst (λ (h : History). HasReadsOf plan (since then.me.seat.seen h)) (sym seen)
-          (subst (λ (p : Plan). HasReadsOf p (since then.me.seat.seen again.me.seat.seen)) of_again
+      begins = subst (λ (h : History). BeginsWith h (seen_by then.me.seat)) (sym seen) rereads.begins;
+      again = subst (λ (h : History). HasReadsOf plan (since (seen_by then.me.seat) h)) (sym seen)
+          (subst (λ (p : Plan). HasReadsOf p (since (seen_by then.me.seat) (seen_by again.me.seat))) of_again
           (rereads.reads refl).reads);
     }
 

@@ -1,11 +1,12 @@
 -- A cache that stands for any other.
 use Rattle.std.specs.Prelude.{[]}
-use Rattle.timestamp_cache.specs.Words.{SharedView}
+use Rattle.example_lease_holder.specs.declared.reads.ReadCache.{ReadCache}
+use Rattle.example_lease_holder.specs.declared.reads.ReadCache.TheVariants.{Copies}
 
 -- The one that a range has of which nobody says more. Where a range is opened, it is the cache that
 -- was opened.
-abbrev pub any_cache : SharedView
-any_cache = record {
+abbrev pub any_cache : ReadCache
+any_cache = Copies (record {
   table = record {
     words = 0;
     slots = 0;
@@ -24,4 +25,4 @@ any_cache = record {
   };
   seats = 1;
   limit = 0;
-}
+})

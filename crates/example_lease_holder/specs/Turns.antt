@@ -8,6 +8,7 @@ use Rattle.example_lease_holder.specs.declared.Turn.TheVariants.{Read, Write}
 use Rattle.example_lease_holder.specs.declared.Worker.{Worker}
 use Rattle.example_lease_holder.specs.declared.lease.Range.{Ghosts}
 use Rattle.example_lease_holder.specs.Plans.{HasReadsOf, MayWriteAt}
+use Rattle.example_lease_holder.specs.ReadSeats.{seen_by}
 use Rattle.example_lease_holder.specs.Reads.{since}
 
 -- A worker is new: it is of a plan, has written nothing yet, and has nothing to tell.
@@ -18,17 +19,17 @@ pub record IsNew {X : Type 0} {G : Ghosts X} (plan : Plan) (worker : Worker X G)
 
 -- A worker has read: its seat has seen each read of its plan since, and when it wrote is as it was.
 pub record ReadsAgain {X : Type 0} {G : Ghosts X} (old new : Worker X G) : Type 0 where
-  pub reads : HasReadsOf new.plan.now (since old.me.seat.seen new.me.seat.seen)
+  pub reads : HasReadsOf new.plan.now (since (seen_by old.me.seat) (seen_by new.me.seat))
   pub wrote : new.wrote ≡ old.wrote
 
 -- A worker has taken a turn: its plan is as before, and its seat has seen all that it had seen. The
 -- worker has read, or has written at a time at which it may by what its seat has seen then.
 pub record HasTaken {X : Type 0} {G : Ghosts X} (turn : Turn) (old new : Worker X G) : Type 0 where
   pub plan : new.plan ≡ old.plan
-  pub begins : BeginsWith new.me.seat.seen old.me.seat.seen
+  pub begins : BeginsWith (seen_by new.me.seat) (seen_by old.me.seat)
   pub reads : turn ≡ Read → ReadsAgain old new
   pub writes : turn ≡ Write → IsSomeAnd new.wrote
-      (λ at. MayWriteAt new.plan.now new.me.seat.seen at)
+      (λ at. MayWriteAt new.plan.now (seen_by new.me.seat) at)
 
 -- A worker that came through its turn has told what it had to tell, and is else as it was.
 pub record HasSpoken {X E : Type 0} {G : Ghosts X} (ended : Result (Worker X G) E)
@@ -69,5 +70,5 @@ pub record WasServed (plan : Plan) (left : Served) : Type 0 where
   pub reads : HasReadsOf plan first
   pub onward : BeginsWith then first
   pub writes : IsSomeAnd left.wrote (λ at. MayWriteAt plan then at)
-  pub begins : BeginsWith left.seat.seen then
-  pub again : HasReadsOf plan (since then left.seat.seen)
+  pub begins : BeginsWith (seen_by left.seat) then
+  pub again : HasReadsOf plan (since then (seen_by left.seat))

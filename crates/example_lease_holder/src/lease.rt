@@ -6,29 +6,28 @@ ghost use Rattle.std.specs.Prelude.{◌≡◌, ◌↔◌, ◌++◌, ◌∷◌, [
 ghost use Rattle.std.specs.List.{find};
 ghost use Rattle.std.specs.Str.{bytes_eq};
 ghost use Rattle.std.specs.Sync.Mutex.{mutex_guard_value};
-ghost use Rattle.timestamp_cache.specs.Words.{zero_time, is_before, point, overlaps, look, state_of, BeginsWith};
+ghost use Rattle.timestamp_cache.specs.Words.{zero_time, is_before, point, overlaps, BeginsWith};
 ghost use Rattle.timestamp_cache.specs.Clear.{IsClearOf, IsClearOfReads, AsksEarliestAt};
-ghost use Rattle.timestamp_cache.specs.SeatKinds.{shared_seat};
 ghost use Rattle.timestamp_cache.specs.Earliest.{TellsEarliest};
 ghost use Rattle.example_lease_holder.specs.Reads.{HasRead, IsClearFor, read_of, since};
+ghost use Rattle.example_lease_holder.specs.ReadSeats.{seen_by, cache_of, shown_by, shown_of};
+ghost use Rattle.example_lease_holder.specs.ReadSeats.{answer_of, read_seat};
 ghost use Rattle.example_lease_holder.specs.Versions.{value_at, written};
 
+use crate::reads::{Asked, ReadCache, ReadFront, ReadSeat};
 use anyhow::{Context, Result, ensure};
 use std::alloc::Global;
 use std::marker::{Brand, PhantomData};
 use std::slice;
 use std::sync::{Mutex, MutexGuard, Wait};
-use timestamp_cache::{
-    AddFault, Cut, Front, Key, NoMemory, Seat, SharedCache, Span, Timestamp, Uuid, Value,
-    earliest_write_at,
-};
+use timestamp_cache::{Cut, Key, NoMemory, Span, Timestamp, Uuid, Value, earliest_write_at};
 
 /// Which range it is. By it a lease, its seats and its latches show in their types that they belong
 /// together.
 pub trait Range {
-    ghost use Rattle.timestamp_cache.specs.Words.{SharedView};
+    ghost use Rattle.example_lease_holder.specs.declared.reads.ReadCache.{ReadCache};
 
-    ghost cache: { SharedView };
+    ghost cache: { ReadCache };
 }
 
 impl Range for Brand {
@@ -40,9 +39,9 @@ impl Range for Brand {
 /// A seat at the range's cache.
 #[derive(Drop)]
 pub struct RangeSeat<G: Range> {
-    pub seat: Seat,
+    pub seat: ReadSeat,
     pub of: PhantomData<G>,
-    ghost is: { seat.cache ≡ G.cache },
+    ghost is: { cache_of seat ≡ G.cache },
 }
 
 /// What a key is from a time on.
@@ -79,7 +78,7 @@ pub struct Held<G: Range> {
     /// an Add gives one.
     handed: RangeSeat<G>,
     ghost whole: { overlaps span span ≡ true },
-    ghost added: { All (HasRead span handed.seat.seen) answered.items },
+    ghost added: { All (HasRead span (seen_by handed.seat)) answered.items },
 }
 
 /// A key and its latch.
@@ -92,7 +91,7 @@ pub struct Latch<G: Range> {
 /// A range that is served under a lease.
 #[derive(Drop)]
 pub struct Lease<G: Range> {
-    pub cache: SharedCache,
+    pub cache: ReadCache,
     pub latches: Vec<Latch<G>>,
     ghost is: { cache ≡ G.cache },
 }
@@ -176,9 +175,9 @@ impl<G: Range> Lease<G> {
         at: Timestamp,
         by: Uuid,
     ) -> Result<u64>
-        ensures added { OnOk result
-            (HasRead (point key.now) (since me.old.seat.seen me.new.seat.seen) (read_of at by)) }
-        ensures seat { BeginsWith me.new.seat.seen me.old.seat.seen }
+        ensures added { OnOk result (HasRead (point key.now)
+            (since (seen_by me.old.seat) (seen_by me.new.seat)) (read_of at by)) }
+        ensures seat { BeginsWith (seen_by me.new.seat) (seen_by me.old.seat) }
     {
         let mut held = self.hold(rt, key)?;
         let told = self.read(rt, me, &mut held, at, by)?;
@@ -195,36 +194,34 @@ impl<G: Range> Lease<G> {
         held: &mut Held<G>,
         at: Timestamp,
         by: Uuid,
-    ) -> Result<Option<u64>, AddFault>
-        ensures added { OnOk result
-            (HasRead held.old.span (since me.old.seat.seen me.new.seat.seen) (read_of at by)) }
+    ) -> Result<Option<u64>>
+        ensures added { OnOk result (HasRead held.old.span
+            (since (seen_by me.old.seat) (seen_by me.new.seat)) (read_of at by)) }
         ensures answered { OnOk result
             (held.new.answered.items ≡ held.old.answered.items ++ read_of at by ∷ []) }
         ensures refused { OnErr result (held.new.answered.items ≡ held.old.answered.items) }
         ensures value { IfOk result (λ value. value ≡ value_at held.old.versions.items at) }
-        ensures seat { BeginsWith me.new.seat.seen me.old.seat.seen }
+        ensures seat { BeginsWith (seen_by me.new.seat) (seen_by me.old.seat) }
         ensures key { (held.new.span ≡ held.old.span) × (held.new.versions ≡ held.old.versions) }
     {
         let value = held.value_at(at);
         let read = Value::of(at, by);
-        let receipt = self.cache.add(rt, &mut me.seat, &held.span, read, at)?;
-        self.leave(held, receipt.front);
+        let front = self.cache.add(rt, &mut me.seat, &held.span, read, at)?;
+        self.leave(held, front);
         match held.answered.push(read) {
             Ok(()) => Ok(value),
-            Err(_refused) => Err(AddFault::NoMemory),
+            Err(_refused) => Err(NoMemory.into()),
         }
     }
 
     /// The latch hands on what is in this front.
-    fn leave(&self, held: &mut Held<G>, front: Front)
-        requires { front.cache ≡ G.cache }
-        ensures learned { BeginsWith held.new.handed.seat.seen front.seen }
+    fn leave(&self, held: &mut Held<G>, front: ReadFront)
+        requires { shown_of front ≡ G.cache }
+        ensures learned { BeginsWith (seen_by held.new.handed.seat) (shown_by front) }
         ensures same { (held.new.span ≡ held.old.span) × (held.new.versions ≡ held.old.versions) ×
             (held.new.answered.items ≡ held.old.answered.items) }
     {
-        let Ok(_long) = self.cache.learn(&mut held.handed.seat, front) else {
-            unreachable!()
-        };
+        self.cache.learn(&mut held.handed.seat, front);
     }
 
     /// Writes a key, as `write` does, and holds its latch meanwhile: not before the wanted time,
@@ -238,13 +235,13 @@ impl<G: Range> Lease<G> {
     ) -> Result<Written>
         ensures from_on { IfOk result (λ written. is_before written.at wanted.at ≡ false) }
         ensures clear { IfOk result
-            (λ written. IsClearOfReads me.new.seat.seen (point key.now) wanted.by written.at) }
-        ensures seat { BeginsWith me.new.seat.seen me.old.seat.seen }
+            (λ written. IsClearOfReads (seen_by me.new.seat) (point key.now) wanted.by written.at) }
+        ensures seat { BeginsWith (seen_by me.new.seat) (seen_by me.old.seat) }
     {
         let mut held = self.hold(rt, key)?;
         let told = self.write(rt, me, &mut held, wanted)?;
         let at = told.context("no time is late enough")?;
-        let reason = self.reason(&mut held);
+        let reason = self.reason(rt, &mut held);
         Ok(Written { at, reason })
     }
 
@@ -260,24 +257,24 @@ impl<G: Range> Lease<G> {
         wanted: Wanted,
     ) -> Result<Option<Timestamp>, NoMemory>
         ensures clear { IfOk result
-            (λ told. IfSome told (λ at. IsClearFor held.old.answered.items me.new.seat.seen
+            (λ told. IfSome told (λ at. IsClearFor held.old.answered.items (seen_by me.new.seat)
             held.old.span wanted.by at)) }
         ensures pushed { IfOk result
             (λ told. TellsEarliest
-            (λ t. IsClearOf (look (state_of G.cache.config me.new.seat.seen) held.old.span)
+            (λ t. IsClearOf (answer_of G.cache (seen_by me.new.seat) held.old.span)
             wanted.by t) wanted.at told) }
         ensures written { IfOk result
             (λ told. held.new.versions.items ≡
             held.old.versions.items ++ written told wanted.value) }
         ensures refused { OnErr result (held.new.versions.items ≡ held.old.versions.items) }
-        ensures seat { BeginsWith me.new.seat.seen me.old.seat.seen }
+        ensures seat { BeginsWith (seen_by me.new.seat) (seen_by me.old.seat) }
         ensures key { (held.new.span ≡ held.old.span) ×
             (held.new.answered.items ≡ held.old.answered.items) }
     {
         self.take_over(rt, me, held);
-        let told = self.earliest(me, held, wanted.at, wanted.by);
+        let (from, by, value) = (wanted.at, wanted.by, wanted.value);
+        let told = self.earliest(rt, me, held, from, by);
         if let Some(at) = told {
-            let value = wanted.value;
             held.versions.push(Version { at, value })?;
         }
         Ok(told)
@@ -285,18 +282,23 @@ impl<G: Range> Lease<G> {
 
     /// The earliest time from the wanted one on at which a write of the key is clear of what the
     /// seat is answered.
-    fn earliest(
+    fn earliest<R: Wait>(
         &self,
+        rt: &R,
         me: &mut RangeSeat<G>,
         held: &Held<G>,
         wanted: Timestamp,
         by: Uuid,
     ) -> Option<Timestamp>
-        ensures { AsksEarliestAt shared_seat me.old.seat me.new.seat held.now.span by wanted
+        ensures { AsksEarliestAt read_seat me.old.seat me.new.seat held.now.span by wanted
             result }
     {
+        let asked = Asked {
+            cache: &self.cache,
+            rt,
+        };
         let spans = slice::from_ref(&held.span);
-        let Ok(told) = earliest_write_at(&self.cache, &mut me.seat, spans, wanted, by) else {
+        let Ok(told) = earliest_write_at(&asked, &mut me.seat, spans, wanted, by) else {
             unreachable!()
         };
         told
@@ -304,28 +306,22 @@ impl<G: Range> Lease<G> {
 
     /// The seat takes in all that the latch hands on.
     fn take_over<R: Wait>(&self, rt: &R, me: &mut RangeSeat<G>, held: &mut Held<G>)
-        ensures seen { BeginsWith me.new.seat.seen held.old.handed.seat.seen }
-        ensures kept { BeginsWith me.new.seat.seen me.old.seat.seen }
+        ensures seen { BeginsWith (seen_by me.new.seat) (seen_by held.old.handed.seat) }
+        ensures kept { BeginsWith (seen_by me.new.seat) (seen_by me.old.seat) }
         ensures same { (held.new.span ≡ held.old.span) × (held.new.versions ≡ held.old.versions) ×
             (held.new.answered.items ≡ held.old.answered.items) }
     {
-        let Ok(_met) = self.cache.meet(rt, &mut me.seat, &mut held.handed.seat) else {
-            unreachable!()
-        };
+        self.cache.meet(rt, &mut me.seat, &mut held.handed.seat);
     }
 
     /// What the cache answers of a key to the seat that is handed on with its latch. Where a write
     /// was pushed, it is what it was pushed by: a read, or the floor. The writer's own seat is not
     /// asked again, so what that one has seen is what the write is clear of.
-    pub fn reason(&self, held: &mut Held<G>) -> Value
-        ensures value { result ≡ look (state_of G.cache.config held.new.handed.seat.seen)
-            held.old.span }
+    pub fn reason<R: Wait>(&self, rt: &R, held: &mut Held<G>) -> Value
+        ensures value { result ≡ answer_of G.cache (seen_by held.new.handed.seat) held.old.span }
         ensures key { (held.new.span ≡ held.old.span) × (held.new.versions ≡ held.old.versions) ×
             (held.new.answered.items ≡ held.old.answered.items) }
     {
-        let Ok(answer) = self.cache.get_max(&mut held.handed.seat, &held.span) else {
-            unreachable!()
-        };
-        answer.value
+        self.cache.answer(rt, &mut held.handed.seat, &held.span)
     }
 }

@@ -1,26 +1,30 @@
 //! How a store uses the cache: four threads serve a range under a lease. Each runs a transaction
 //! that reads some keys, writes one, and reads these keys again. No write of another transaction
-//! has come to a time at which it would have changed an answer.
+//! has come to a time at which it would have changed an answer. It is served twice: over a cache
+//! with two copies, and over one in stripes.
 #![tactic(auto)]
 
 ghost use Rattle.std.specs.Prelude.{◌≡◌, ℕ, ◌+◌, ◌^◌, ◌<◌, length, All, [], Some, IfOk, OnOk, OnErr, string_bytes, option_map, map};
 ghost use Rattle.std.specs.List.{AllZip};
 ghost use Rattle.timestamp_cache.specs.Words.{point, BeginsWith};
 ghost use Rattle.example_lease_holder.specs.Reads.{HasRead, read_of, since};
+ghost use Rattle.example_lease_holder.specs.ReadSeats.{seen_by, cache_of};
 ghost use Rattle.example_lease_holder.specs.Plans.{time_at, id_of, HasReadsOf, MayWriteAt};
 ghost use Rattle.example_lease_holder.specs.Texts.{time_text, is_owner, reader, reason_text, read_text, wanted_text, pushed_text, write_text};
 ghost use Rattle.example_lease_holder.specs.Turns.{IsNew, HasTaken, HasSpoken, HasTold, HasServed, IsLeftOf, WasServed};
 
 mod lease;
+mod reads;
 
 use crate::lease::{Held, Latch, Lease, Range, RangeSeat, Wanted, Written};
+use crate::reads::{ReadCache, ReadSeat};
 use anyhow::{Context, Result};
 use std::alloc::{AllocError, Global};
 use std::marker::{Brand, PhantomData};
 use std::sync::{Mutex, Wait};
 use std::thread::Threads;
 use std::{fmt, thread};
-use timestamp_cache::{Config, NoMemory, Seat, SharedCache, Timestamp, Uuid, Value};
+use timestamp_cache::{Config, Key, NoMemory, Timestamp, Uuid, Value};
 
 /// A key with a time, or with a value.
 type Row = (&'static str, u64);
@@ -73,7 +77,7 @@ struct Worker<G: Range> {
 /// What is left of a thread: its seat, its transaction, and when that wrote.
 #[derive(Drop)]
 struct Served {
-    seat: Seat,
+    seat: ReadSeat,
     plan: &'static Plan,
     wrote: Option<Timestamp>,
 }
@@ -212,8 +216,8 @@ fn lay_down<G: Range, R: Wait>(
     me: &mut RangeSeat<G>,
     plan: &Plan,
 ) -> Result<Written>
-    ensures clear { IfOk result (λ written. MayWriteAt plan.now me.new.seat.seen written.at) }
-    ensures seat { BeginsWith me.new.seat.seen me.old.seat.seen }
+    ensures clear { IfOk result (λ written. MayWriteAt plan.now (seen_by me.new.seat) written.at) }
+    ensures seat { BeginsWith (seen_by me.new.seat) (seen_by me.old.seat) }
 {
     let (key, wall, value) = plan.write;
     let wanted = Wanted {
@@ -229,11 +233,12 @@ impl<G: Range> Worker<G> {
     /// its seat has seen since.
     fn read<R: Wait>(&mut self, rt: &R, alloc: Global, lease: &Lease<G>) -> Result<()>
         ensures added { OnOk result
-            (HasReadsOf self.old.plan.now (since self.old.me.seat.seen self.new.me.seat.seen)) }
+            (HasReadsOf self.old.plan.now
+            (since (seen_by self.old.me.seat) (seen_by self.new.me.seat))) }
         ensures told { OnOk result
             (length self.new.told.items ≡ length self.old.told.items + length
             self.old.plan.now.reads.now) }
-        ensures seat { BeginsWith self.new.me.seat.seen self.old.me.seat.seen }
+        ensures seat { BeginsWith (seen_by self.new.me.seat) (seen_by self.old.me.seat) }
         ensures plan { self.new.plan ≡ self.old.plan }
         ensures wrote { self.new.wrote ≡ self.old.wrote }
     {
@@ -255,11 +260,12 @@ impl<G: Range> Worker<G> {
         row: &Row,
     ) -> Result<()>
         ensures added { OnOk result
-            (HasRead (point row.now.0.now) (since self.old.me.seat.seen self.new.me.seat.seen)
+            (HasRead (point row.now.0.now)
+            (since (seen_by self.old.me.seat) (seen_by self.new.me.seat))
             (read_of (time_at row.now.1) (id_of name))) }
         ensures told { OnOk result (length self.new.told.items ≡ length self.old.told.items + 1) }
         ensures refused { OnErr result (self.new.told.items ≡ self.old.told.items) }
-        ensures seat { BeginsWith self.new.me.seat.seen self.old.me.seat.seen }
+        ensures seat { BeginsWith (seen_by self.new.me.seat) (seen_by self.old.me.seat) }
         ensures plan { self.new.plan ≡ self.old.plan }
         ensures wrote { self.new.wrote ≡ self.old.wrote }
     {
@@ -274,9 +280,9 @@ impl<G: Range> Worker<G> {
     /// answered under the latch (`Lease::write`).
     fn write<R: Wait>(&mut self, rt: &R, alloc: Global, lease: &Lease<G>) -> Result<Timestamp>
         ensures clear { IfOk result
-            (λ time. MayWriteAt self.old.plan.now self.new.me.seat.seen time) }
+            (λ time. MayWriteAt self.old.plan.now (seen_by self.new.me.seat) time) }
         ensures told { OnOk result (length self.new.told.items ≡ length self.old.told.items + 1) }
-        ensures seat { BeginsWith self.new.me.seat.seen self.old.me.seat.seen }
+        ensures seat { BeginsWith (seen_by self.new.me.seat) (seen_by self.old.me.seat) }
         ensures plan { self.new.plan ≡ self.old.plan }
         ensures wrote { IfOk result (λ time. self.new.wrote ≡ Some time) }
     {
@@ -371,8 +377,8 @@ fn all_do<G: Range + Send + Sync, R: Threads + Wait + Sync + Print>(
 }
 
 /// The seats in their order, by a type that shows whose they are.
-fn seats_of<G: Range>(alloc: Global, seats: Vec<Seat>) -> Result<Vec<RangeSeat<G>>, NoMemory>
-    requires { All (λ seat. seat.cache ≡ G.cache) seats.items }
+fn seats_of<G: Range>(alloc: Global, seats: Vec<ReadSeat>) -> Result<Vec<RangeSeat<G>>, NoMemory>
+    requires { All (λ seat. cache_of seat ≡ G.cache) seats.items }
     ensures { IfOk result (λ own. map (λ one. one.seat) own.items ≡ seats.items) }
 {
     let mut own = Vec::new(alloc);
@@ -482,12 +488,12 @@ fn left_of<G: Range>(alloc: Global, workers: Vec<Worker<G>>) -> Result<Vec<Serve
 fn serve<G: Range + Send + Sync, R: Threads + Wait + Sync + Print>(
     rt: &R,
     alloc: Global,
-    cache: SharedCache,
-    seats: Vec<Seat>,
+    cache: ReadCache,
+    seats: Vec<ReadSeat>,
     plans: &'static [Plan],
 ) -> Result<Vec<Served>>
     requires cache { cache ≡ G.cache }
-    requires seats { All (λ seat. seat.cache ≡ G.cache) seats.items }
+    requires seats { All (λ seat. cache_of seat ≡ G.cache) seats.items }
     ensures { IfOk result (λ left. AllZip WasServed plans.now left.items) }
 {
     let mut seats = seats_of::<G>(alloc, seats)?;
@@ -519,22 +525,49 @@ fn config() -> Result<Config>
     Ok(Config::new(1 << 17, 1 << 25, 2, 10_000_000_000, at(10))?)
 }
 
+/// Which form of cache a range has.
+#[derive(Clone, Copy)]
+enum Form {
+    Copies,
+    Stripes,
+}
+
+/// A cache of a form, with so many seats. In stripes each key of the range has one of its own.
+fn open(alloc: Global, form: Form, seats: u32) -> Result<(ReadCache, Vec<ReadSeat>)>
+    ensures { IfOk result (λ opened. All (λ seat. cache_of seat ≡ opened.0) opened.1.items) }
+{
+    match form {
+        Form::Copies => ReadCache::open_copies(alloc, config()?, seats),
+        Form::Stripes => {
+            let mut bounds = Vec::new(alloc);
+            for (key, _) in &KEYS[1..] {
+                bounds.push(Key::new(alloc, key.as_bytes())?)?;
+            }
+            ReadCache::open_stripes(alloc, config()?, bounds, seats)
+        }
+    }
+}
+
 /// Opens a cache for the range, with a seat for each key and for each plan, and has each plan
 /// served.
 fn run<R: Threads + Wait + Sync + Print>(
     rt: &R,
     alloc: Global,
+    form: Form,
     plans: &'static [Plan],
 ) -> Result<Vec<Served>>
     ensures { IfOk result (λ left. AllZip WasServed plans.now left.items) }
 {
-    let seats = u32::try_from(plans.len().saturating_add(KEYS.len()))?;
-    let (cache, seats) = SharedCache::open(alloc, config()?, seats, u64::MAX)?;
+    let count = u32::try_from(plans.len().saturating_add(KEYS.len()))?;
+    let (cache, seats) = open(alloc, form, count)?;
     serve::<Brand, R>(rt, alloc, cache, seats, plans)
 }
 
 /// A `main` can have no clause: `run` says what comes of the plans.
 fn main(rt: HostRuntime) -> Result<()> {
-    let _served = run(&rt, rt.alloc(), &PLANS)?;
+    println!(rt; "Over two copies:")?;
+    let _copies = run(&rt, rt.alloc(), Form::Copies, &PLANS)?;
+    println!(rt; "In stripes:")?;
+    let _stripes = run(&rt, rt.alloc(), Form::Stripes, &PLANS)?;
     Ok(())
 }

@@ -572,10 +572,8 @@ fn add(cache: &mut Cache, span: &Span, value: Value, now: Timestamp) -> Result<(
     }) now) }
     ensures unchanged { OnErr result (cache.new ≡ cache.old) }
 {
-    match cache.add(span, value, now) {
-        Ok(_) => Ok(()),
-        Err(_) => Err(NoMemory),
-    }
+    cache.add_one_fitting(span, value, now)?;
+    Ok(())
 }
 
 /// Adds reads that fit, all of them or none.
@@ -584,10 +582,8 @@ fn add_all(cache: &mut Cache, marks: &[Mark], now: Timestamp) -> Result<(), NoMe
     ensures stands { OnOk result (StandsAfterAll cache.old cache.new marks.now now) }
     ensures unchanged { OnErr result (cache.new ≡ cache.old) }
 {
-    match cache.add_all(marks, now) {
-        Ok(_) => Ok(()),
-        Err(_) => Err(NoMemory),
-    }
+    cache.add_all_fitting(marks, now)?;
+    Ok(())
 }
 
 /// Makes room for some more of a list.

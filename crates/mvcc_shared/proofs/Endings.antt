@@ -9,6 +9,7 @@ use lib.ListN.{get_elem?}
 use Rattle.std.proofs.lemmas.Bool.{lt-ltb}
 use Rattle.std.proofs.lemmas.List.Sums.{sum_by-cons}
 use Rattle.atomic_table.specs.Table.{Final, Seen}
+use Rattle.tsc_left_right.proofs.Plain.{some_part}
 use Rattle.mvcc_shared.specs.declared.served.Served.{Served}
 use Rattle.mvcc_shared.specs.declared.table.ClientState.{ClientState}
 use Rattle.mvcc_shared.specs.declared.table.Knowledge.{Knowledge}
@@ -17,20 +18,6 @@ use Rattle.mvcc_shared.specs.Rule.{Laid, RangeRule, IsAfter, one_if, states_in, 
 use Rattle.mvcc_shared.specs.Participating.{IsEnd}
 use Rattle.mvcc_shared.proofs.Totals.{part, two_parts}
 use Rattle.mvcc_shared.proofs.Moves.{Board, same_or_not}
-
--- If a sum is not 0, some part is not.
-some_part : {X : Type 0} (f : X → ℕ) (xs : List X) → sum_by f xs ≢ 0 → (i : ℕ) × (x : X)
-    × (get_elem? xs i ≡ maybe.some x) × (f x ≢ 0)
-some_part f [] some = absurd (some refl)
-some_part f (x ∷ xs) some = elim (same_or_not (f x) 0) [
-  | inl is ↦ (let rest = some_part f xs (λ none. some (omega (
-    arith,
-    sum_by-cons f x xs,
-    is,
-    none,
-  ))) in (suc rest.0, rest.1, rest.2, rest.3))
-  | inr is ↦ (0, x, refl, is)
-]
 
 -- no states count for nothing
 nothing : (f : ClientState → ℕ) (ps : List ClientState) → length ps ≡ 0 → sum_by f ps ≡ 0

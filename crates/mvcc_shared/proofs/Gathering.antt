@@ -10,6 +10,7 @@ use Rattle.std.proofs.lemmas.List.{length-append, length-map}
 use Rattle.std.proofs.lemmas.List.Sums.{sum_by-cons, sum_by-append}
 use Rattle.atomic_table.proofs.Lists.{at_index, at_map}
 use Rattle.mvcc_range.specs.Steps.{RangeView}
+use Rattle.tsc_left_right.proofs.Plain.{at_left, at_right}
 use Rattle.mvcc_shared.specs.declared.served.Served.{Served}
 use Rattle.mvcc_shared.specs.declared.answers.Closed.{Closed}
 use Rattle.mvcc_shared.specs.declared.table.ClientState.{ClientState}
@@ -76,22 +77,6 @@ count_in number (c ∷ clients) =
           (state_of_client c) (map state_of_client clients),
       count_in number clients,
     )
-
--- what stands in two lists
-at_left : {X : Type 0} (xs ys : List X) (i : ℕ) (x : X) → get_elem? xs i ≡ maybe.some x
-    → get_elem? (xs ++ ys) i ≡ maybe.some x
-at_left [] ys i x e = absurd (maybe.some-ne-none x (sym e))
-at_left (y ∷ xs) ys zero x e = e
-at_left (y ∷ xs) ys (suc i) x e = at_left xs ys i x e
-
-at_right : {X : Type 0} (xs ys : List X) (i : ℕ)
-    → get_elem? (xs ++ ys) (length xs + i) ≡ get_elem? ys i
-at_right [] ys i =
-    let same : 0 + i ≡ i = omega arith in
-    ap (get_elem? ys) same
-at_right (x ∷ xs) ys i =
-    let same : suc (length xs) + i ≡ suc (length xs + i) = omega arith in
-    ap (get_elem? (x ∷ (xs ++ ys))) same ∙ at_right xs ys i
 
 at_fresh : (from n j : ℕ) → j < n
     → get_elem? (fresh_states from n) j ≡ maybe.some (at_rest (from + j) [])

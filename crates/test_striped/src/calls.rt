@@ -1,5 +1,6 @@
 //! Each public call with ample memory, in rows of it: this finds one that is refused memory
-//! without need. And why a cache is not opened, with the text of each fault.
+//! without need, and a gate that is not told of an accepted Add just once, or is told of a refused
+//! one. And why a cache is not opened, with the text of each fault.
 use crate::seats::{Seats, config, keys};
 use std::alloc::Global;
 use std::process::Abort;

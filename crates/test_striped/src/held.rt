@@ -1,16 +1,18 @@
 //! An Add that is held up with the lock of its stripe. Calls in other stripes go on meanwhile, and
-//! those that touch this one find it busy.
+//! those that touch this one find it busy. Once it has returned, another seat sees it, which met
+//! nobody.
 //!
 //! No contract speaks of progress: this finds a call that waits for the lock of a stripe which it
-//! does not touch, and a gate that is called once others can see the Add.
+//! does not touch, a gate that is called once others can see the Add, or more than once, and a
+//! lookup that begins after an Add has returned and misses it.
 ghost use Rattle.std.specs.Prelude.{◌≡◌, All, IfOk};
 
 use crate::seats::{config, keys};
 use std::alloc::Global;
 use std::slice;
 use std::sync::Wait;
-use std::sync::atomic::AtomicBool;
 use std::sync::atomic::Ordering::SeqCst;
+use std::sync::atomic::{AtomicBool, AtomicU32};
 use std::test::Fail;
 use std::thread::{self, Threads};
 use test_support::at;
@@ -24,11 +26,40 @@ use tsc_time::Value;
 /// How often a thread looks whether another has come so far.
 const TURNS: u32 = 10_000_000;
 
-/// A gate that holds an Add up until another seat has made its calls.
+/// A gate that holds an Add up until another seat has made its calls. It counts the Adds that it is
+/// told of.
 #[derive(Drop)]
 pub struct Hold {
+    told: AtomicU32,
     is_held: AtomicBool,
     is_over: AtomicBool,
+    has_returned: AtomicBool,
+}
+
+impl Hold {
+    pub fn new() -> Hold {
+        Hold {
+            told: AtomicU32::new(0),
+            is_held: AtomicBool::new(false),
+            is_over: AtomicBool::new(false),
+            has_returned: AtomicBool::new(false),
+        }
+    }
+
+    /// Waits until an Add is held up, and tells whether one is.
+    pub fn is_reached(&self) -> bool {
+        is_set(&self.is_held)
+    }
+
+    /// Lets the Add go on.
+    pub fn let_go(&self) {
+        self.is_over.store(true, SeqCst);
+    }
+
+    /// How many Adds it was told of.
+    pub fn told(&self) -> u32 {
+        self.told.load(SeqCst)
+    }
 }
 
 /// Waits until a flag is set, and tells whether it was.
@@ -50,7 +81,9 @@ impl Gate for Hold {
     fn done(&self, _thread: u32, _call: u32) {}
 
     fn publish(&self, _seat: u32) {
+        self.told.fetch_add(1, SeqCst);
         self.is_held.store(true, SeqCst);
+        thread::yield_now();
         is_set(&self.is_over);
     }
 }
@@ -91,6 +124,7 @@ fn call_beside<R: Wait>(
     other: &Span,
 ) -> bool
     requires { seat.old.cache ≡ striped.now }
+    ensures { seat.new.cache ≡ striped.now }
 {
     let (value, now) = (Value::unowned(at(30, 0)), at(20, 0));
     let is_added = striped.add(rt, seat, other, value, now).is_ok();
@@ -102,8 +136,8 @@ fn call_beside<R: Wait>(
     is_added && is_seen && is_busy && is_asked && is_hidden
 }
 
-/// The first seat adds, and is held up. The second one makes its calls meanwhile. Whether all came
-/// as it should.
+/// The first seat adds, and is held up. The second one makes its calls meanwhile, and sees the Add
+/// once it has returned. Whether all came as it should.
 fn take_part<R: Wait>(
     rt: &R,
     striped: &StripedCache,
@@ -119,11 +153,12 @@ fn take_part<R: Wait>(
     };
     if seat.number() == 0 {
         let added = striped.add_gated(rt, &mut seat, own, value, now, hold);
+        hold.has_returned.store(true, SeqCst);
         return added.is_ok() && striped.get_max(rt, &mut seat, own) == value;
     }
-    let is_right = is_set(&hold.is_held) && call_beside(rt, striped, &mut seat, own, other);
-    hold.is_over.store(true, SeqCst);
-    is_right
+    let is_right = hold.is_reached() && call_beside(rt, striped, &mut seat, own, other);
+    hold.let_go();
+    is_right && is_set(&hold.has_returned) && striped.get_max(rt, &mut seat, own) == value
 }
 
 /// A cache with three stripes, and two seats.
@@ -151,10 +186,7 @@ fn play<R: Threads + Wait + Sync>(
 ) -> Result<bool, Fail>
     requires { All (λ seat. seat.cache ≡ striped.now) seats.items }
 {
-    let hold = Hold {
-        is_held: AtomicBool::new(false),
-        is_over: AtomicBool::new(false),
-    };
+    let hold = Hold::new();
     let told = thread::map_vec(
         rt,
         seats,
@@ -162,7 +194,7 @@ fn play<R: Threads + Wait + Sync>(
             requires { seat.cache ≡ striped.now }
         { take_part(rt, striped, seat, &hold, spans) },
     )?;
-    Ok(told.len() == 2 && told.iter().all(|is_right| *is_right))
+    Ok(hold.told() == 1 && told.len() == 2 && told.iter().all(|is_right| *is_right))
 }
 
 #[test]

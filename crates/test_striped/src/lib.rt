@@ -11,3 +11,5 @@ mod calls;
 mod held;
 #[cfg(test)]
 mod seats;
+#[cfg(test)]
+mod stopped;

@@ -4,16 +4,49 @@ ghost use Rattle.std.specs.Prelude.{◌≡◌};
 use std::alloc::Global;
 use std::mem;
 use std::sync::Wait;
+use std::sync::atomic::AtomicU32;
+use std::sync::atomic::Ordering::SeqCst;
 use test_support::at;
 use test_support::rows::{Refusal, SpanBytes, Told, key, of_no_memory};
 use timestamp_cache::ReadSummary;
 use tsc_cache::{Added, Config, Figures, Mark};
 use tsc_span::{Key, Span, SpanRef};
 use tsc_striped::{
-    AddFault, Busy, Dealer, NoGate, Receipt, Seat, SnapshotFault, StripedCache, TryAddFault,
+    AddFault, Busy, Dealer, Gate, Receipt, Seat, SnapshotFault, StripedCache, TryAddFault,
 };
 use tsc_striped_leases::{apply_in_stripes, summary_in_stripes};
 use tsc_time::{Timestamp, Value};
+
+/// A gate that counts the Adds that it is told of.
+#[derive(Drop)]
+struct Counted {
+    told: AtomicU32,
+}
+
+impl Gate for Counted {
+    ghost HasTold = { λ _ _. Unit {0} };
+
+    fn start(&self, _thread: u32, _call: u32) {}
+
+    fn done(&self, _thread: u32, _call: u32) {}
+
+    fn publish(&self, _seat: u32) {
+        self.told.fetch_add(1, SeqCst);
+    }
+}
+
+impl Counted {
+    fn new() -> Counted {
+        Counted {
+            told: AtomicU32::new(0),
+        }
+    }
+
+    /// Whether it was told of an accepted Add once, and of a refused one never.
+    fn is_told(&self, added: &Result<Receipt, AddFault>) -> bool {
+        self.told.load(SeqCst) == u32::from(added.is_ok())
+    }
+}
 
 /// A cache in stripes, its dealer, and its two seats, of which the first one makes the next call.
 #[derive(Drop)]
@@ -140,19 +173,23 @@ impl<'a, R: Wait> Seats<'a, R> {
     /// Adds a mark with a gate.
     pub fn add_gated(&mut self, mark: &Mark) -> Told<Added> {
         let (striped, seat, now) = (&self.striped, &mut self.seat, at(20, 0));
-        let receipt = striped
-            .add_gated(self.rt, seat, &mark.span, mark.value, now, &NoGate)
-            .map_err(of_add)?;
-        Ok(self.turn(receipt))
+        let gate = Counted::new();
+        let added = striped.add_gated(self.rt, seat, &mark.span, mark.value, now, &gate);
+        if !gate.is_told(&added) {
+            return Err(Refusal::NoRow);
+        }
+        Ok(self.turn(added.map_err(of_add)?))
     }
 
     /// Adds all of them with one gate.
     pub fn add_all_gated(&mut self, marks: &[Mark]) -> Told<Added> {
         let (striped, seat, now) = (&self.striped, &mut self.seat, at(20, 0));
-        let receipt = striped
-            .add_all_gated(self.rt, seat, marks, now, &NoGate)
-            .map_err(of_add)?;
-        Ok(self.turn(receipt))
+        let gate = Counted::new();
+        let added = striped.add_all_gated(self.rt, seat, marks, now, &gate);
+        if !gate.is_told(&added) {
+            return Err(Refusal::NoRow);
+        }
+        Ok(self.turn(added.map_err(of_add)?))
     }
 
     /// The floor and the figures of a stripe.

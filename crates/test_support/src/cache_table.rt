@@ -246,10 +246,8 @@ impl Table for CacheTable {
                 let made = self.cache.next_all(marks, now);
                 self.go_on(made)
             }
-            By::Each => self
-                .cache
-                .add_each_until_refused(marks, now)
-                .map_err(of_cache),
+            By::Each if !self.cache.fits_all(marks) => Err(Refusal::TooLarge),
+            By::Each => self.cache.add_fitting(marks, now).map_err(of_no_memory),
             _ => self.cache.add_all(marks, now).map_err(of_cache),
         }
     }

@@ -3,7 +3,8 @@ use Rattle.std.proofs.Common.{◌≡◌, refl, true≢false, [], ◌∷◌, code
 use Rattle.tsc_time.specs.OwnedTime.{unowned}
 use Rattle.tsc_time.specs.Joint.{joint_above}
 use Rattle.tsc_span.specs.Span.{before, after, last, nothing, between, point}
-use Rattle.tsc_cache.specs.State.{CacheState, look, next_size, step_all}
+use Rattle.tsc_cache.specs.Rotation.{next_size}
+use Rattle.tsc_cache.specs.State.{CacheState, look, step_all}
 use Rattle.tsc_cache.proofs.ExampleSettings.{at, of_first, of_second, usual, twenty, without_end, without_ends, mark, add, state_after}
 use Rattle.timestamp_cache.specs.HandOver.{Summary, summary_answer, IsWithin, marks_told}
 use Rattle.timestamp_cache.specs.Stretches.{stretch_end, told_more}

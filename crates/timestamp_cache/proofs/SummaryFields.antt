@@ -10,6 +10,7 @@ use Rattle.std.proofs.lemmas.List.{get_or_past}
 use Rattle.std.proofs.lemmas.List.Elements.{All-from_get_or, All-get_or}
 use Rattle.std.proofs.lemmas.Slice.Eq.{bytes_eq-Decides}
 use Rattle.uuid.specs.Parts.{is_nil_bytes, zero_bytes}
+use Rattle.tsc_time.proofs.TimeOrder.{parts_below}
 use Rattle.tsc_time.specs.Time.{Time, is_in_range}
 use Rattle.tsc_time.specs.OwnedTime.{Owner, OwnedTime, owner_of, IsMadeOwner, IsMadeValue}
 use Rattle.tsc_span.specs.Span.{longest_key, KeyBytes, Cut, before, after, last, is_below}
@@ -174,10 +175,6 @@ span_part = record { again = span_again; taken = span_taken }
 
 -- ---- times and values
 
--- a time in range has its parts below their limits
-in_range : (t : Time) → is_in_range t ≡ true → (t.wall < 2 ^ 64) × (t.logical < 2 ^ 32)
-in_range t h = grind arith
-
 time_made : (wall logical : ℕ) (t : Time) → time_of wall logical ≡ Ok t → (t.wall ≡ wall) ×
     (t.logical ≡ logical) × (is_in_range t ≡ true)
 time_made wall logical t e =
@@ -192,7 +189,7 @@ time_part =
     joined (to_be_bytes w64) (number_at w64) (λ n. n < 2 ^ 64) (to_be_bytes w32) (number_at w32)
     (λ n. n < 2 ^ 32) time_of (λ t. t.wall) (λ t. t.logical) (λ t. is_in_range t ≡ true)
     wide_part narrow_part
-    (λ t h. let parts = in_range t h in (
+    (λ t h. let parts = parts_below t h in (
       parts.0,
       parts.1,
       ap

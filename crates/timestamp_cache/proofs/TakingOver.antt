@@ -72,7 +72,7 @@ abbrev floor_mark : Summary → Mark
 floor_mark told = record { span = told.span; value = unowned told.floor }
 
 -- what bounds all that a summary adds is no lower than what it tells
-told_below : (told : Summary) (inner : Interval) (u : OwnedTime) → IsWithin inner told.span →
+pub told_below : (told : Summary) (inner : Interval) (u : OwnedTime) → IsWithin inner told.span →
     IsBound inner (marks_told told) u → IsAtMost (summary_answer told inner) u
 told_below told inner u w bound =
     joint_below inner told.marks told.floor u

@@ -94,6 +94,19 @@
 //! assert_eq!(rt; (cache.figures().nodes, next.figures().nodes), (2, 3));
 //! ```
 //!
+//! Whoever knows that reads fit a page, as `fits_all` tells, is refused memory at most:
+//!
+//! ```
+//! let mut cache = Cache::new(alloc, config()?)?;
+//! let read = Mark { span: keys(alloc, "a", "c")?, value: Value::of(at(20), id('A')) };
+//! let reads = slice::from_ref(&read);
+//! if cache.fits_all(reads) {
+//!     let (next, added) = cache.next_fitting(reads, at(20))?;
+//!     assert_eq!(rt; (added.kept, cache.add_fitting(reads, at(20))?.kept), (true, true));
+//!     assert_eq!(rt; cache.figures(), next.figures());
+//! }
+//! ```
+//!
 //! Each thread has a seat of a shared cache. A thread that goes on with the work of another one
 //! first learns the front of that work:
 //!

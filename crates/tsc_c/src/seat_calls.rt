@@ -117,6 +117,7 @@ fn open_striped(
     ensures kept { OnErr result (handle.new ≡ handle.old) }
 {
     let config = config(args)?;
+    check_bounds(bounds, seats)?;
     let mut held = store_in(alloc, store)?;
     let opened = held.open_striped(alloc, config, bounds, seats);
     store.lay(held);
@@ -347,6 +348,9 @@ fn move_from(
         (slots_of other.new.owned ≡ slots_of other.old.owned) ×
         (other_handle.new ≡ other_handle.old)) }
 {
+    if !held.names(handle) {
+        return Err(Refusal::Closed);
+    }
     let mut to = store_in(alloc, other)?;
     let did = held.move_to(handle, &mut to, other_handle);
     other.lay(to);

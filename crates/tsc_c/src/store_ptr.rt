@@ -1,5 +1,5 @@
 ghost use Rattle.std.specs.Borrow.{sem};
-ghost use Rattle.std.specs.Prelude.{◌≡◌, IfOk, IfErr, OnErr};
+ghost use Rattle.std.specs.Prelude.{◌≡◌, [], IfOk, IfErr, OnErr};
 ghost use Rattle.std.specs.Option.{MatchOption};
 ghost use Rattle.std.specs.declared.option.Option.{Option as Maybe};
 ghost use Rattle.std.specs.declared.option.Option.TheVariants.{None, Some};
@@ -95,6 +95,7 @@ unsafe impl Send for StorePtr {}
 pub(crate) fn store_in(alloc: Global, ptr: &mut StorePtr) -> Result<Box<Store, Global>, Refusal>
     ensures taken { IfOk result (λ store. store.value ≡ slots_of ptr.old.owned) }
     ensures unchanged { OnErr result (slots_of ptr.new.owned ≡ slots_of ptr.old.owned) }
+    ensures none { OnErr result (slots_of ptr.old.owned ≡ []) }
     ensures refused { IfErr result (λ why. why ≡ NoMemory) }
 {
     match ptr.take(alloc) {

@@ -1,12 +1,16 @@
 -- What an Add makes of all that can be seen of a cache, and what it then is of the states.
 use Rattle.std.proofs.Common.{◌≡◌, true, false}
-use Rattle.std.specs.Prelude.{Result, Ok, Err, IfOk, OnOk}
+use Rattle.std.specs.Prelude.{Result, Ok, Err, IfOk, OnOk, List}
 use Rattle.tsc_time.specs.Time.{Time}
 use Rattle.tsc_page_nodes.specs.Page.{Mark}
+use Rattle.tsc_cache.specs.Rotation.{RotatesWith}
 use Rattle.tsc_cache.specs.declared.added.Added.{Added}
 use Rattle.tsc_cache.specs.State.{kept_after_rotation, is_kept}
-use Rattle.tsc_cache.specs.CacheView.{CacheView, StandsAfter, TellsAdded, Adds, RotatesWith, front_has_room_for}
+use Rattle.tsc_cache.specs.CacheView.{CacheView, StandsAfter, StandsAfterAll, TellsAdded, TellsAddedAll, Adds, front_has_room_for}
+use Rattle.tsc_cache.specs.Batch.{AddsAll}
+use Rattle.tsc_cache.specs.Laws.{AddsAreSteps}
 use Rattle.tsc_cache.proofs.StatesSeen.{adds_stands, rotates_adds}
+use Rattle.tsc_cache.proofs.Batches.{adds_all_stands}
 
 -- an Add that rotates the pages
 pub rotated_seen : {E : Type 0} (r : Result Added E) (old new : CacheView) (m : Mark) (now : Time) →
@@ -20,15 +24,36 @@ rotated_seen (Err e) old new m now kept room same turned = tt
 
 -- Whatever state the cache stood for, it stands for the next one, and the answer is that of the
 -- step.
-module _ {E : Type 0} (old new : CacheView) (m : Mark) (now : Time) where
-  pub seen_stands : (r : Result Added E) → IfOk r (λ a. Adds old new m now a) →
-      OnOk r (StandsAfter old new m now)
-  seen_stands (Ok a) adds = λ settings s stands.
-      (adds_stands old new m now a adds settings s stands).0
-  seen_stands (Err e) adds = tt
+pub adds_are_steps : AddsAreSteps
+adds_are_steps = record {
+  stands = λ old new m now added adds settings s stands.
+      (adds_stands old new m now added adds settings s stands).0;
+  answers = λ old new m now added adds settings s stands.
+      (adds_stands old new m now added adds settings s stands).1;
+  all_stand = λ old new ms now added adds settings s stands.
+      (adds_all_stands old new ms now added adds settings s stands).0;
+  all_answer = λ old new ms now added adds settings s stands.
+      (adds_all_stands old new ms now added adds settings s stands).1;
+}
 
-  pub seen_added : (r : Result Added E) → IfOk r (λ a. Adds old new m now a) →
+-- So it is with the result of a call.
+module _ {E : Type 0} (old new : CacheView) (now : Time) where
+  pub seen_stands : (m : Mark) (r : Result Added E) → IfOk r (λ a. Adds old new m now a) →
+      OnOk r (StandsAfter old new m now)
+  seen_stands m (Ok a) adds = adds_are_steps.stands old new m now a adds
+  seen_stands m (Err e) adds = tt
+
+  pub seen_added : (m : Mark) (r : Result Added E) → IfOk r (λ a. Adds old new m now a) →
       IfOk r (TellsAdded old m now)
-  seen_added (Ok a) adds = λ settings s stands.
-      (adds_stands old new m now a adds settings s stands).1
-  seen_added (Err e) adds = tt
+  seen_added m (Ok a) adds = adds_are_steps.answers old new m now a adds
+  seen_added m (Err e) adds = tt
+
+  pub all_stand : (ms : List Mark) (r : Result Added E) → IfOk r (λ a. AddsAll old new ms now a) →
+      OnOk r (StandsAfterAll old new ms now)
+  all_stand ms (Ok a) adds = adds_are_steps.all_stand old new ms now a adds
+  all_stand ms (Err e) adds = tt
+
+  pub all_added : (ms : List Mark) (r : Result Added E) → IfOk r (λ a. AddsAll old new ms now a) →
+      IfOk r (TellsAddedAll old ms now)
+  all_added ms (Ok a) adds = adds_are_steps.all_answer old new ms now a adds
+  all_added ms (Err e) adds = tt

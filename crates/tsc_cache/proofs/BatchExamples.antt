@@ -3,8 +3,9 @@ use Rattle.std.specs.Prelude.{◌≡◌, List, [], ◌∷◌, ◌++◌, length, 
 use Rattle.tsc_time.specs.OwnedTime.{unowned}
 use Rattle.tsc_span.specs.Span.{point}
 use Rattle.tsc_page_nodes.specs.Page.{Mark}
+use Rattle.tsc_cache.specs.Rotation.{next_size}
 use Rattle.tsc_cache.specs.Settings.{Settings}
-use Rattle.tsc_cache.specs.State.{Stepped, opening, step_all, look, next_size}
+use Rattle.tsc_cache.specs.State.{Stepped, opening, step_all, look}
 use Rattle.tsc_cache.specs.Batch.{all_fit, is_any_kept}
 use Rattle.tsc_cache.proofs.ExampleSettings.{at, of_first, of_second, usual, tight, twenty, without_end, without_ends, mark, marks_at, small_page, added}
 

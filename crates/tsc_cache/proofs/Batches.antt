@@ -1,6 +1,6 @@
 -- Several marks, one after another: what they leave and answer together, and how many pages they
 -- drop.
-use Rattle.std.proofs.Common.{◌≡◌, ◌∙◌, inl, inr, refl, sym, ap, subst, ℕ, ◌+◌, ◌≤◌, ◌<◌, ◌||◌, Bool, List, [], ◌∷◌, ◌++◌, length, All, take, drop, get_or, true, false, arith, suc}
+use Rattle.std.proofs.Common.{◌≡◌, ◌∙◌, inl, inr, refl, sym, ap, subst, ℕ, ◌+◌, ◌≤◌, ◌<◌, ◌||◌, Bool, List, [], ◌∷◌, ◌++◌, length, All, take, drop, get_or, true, false, arith, zero, suc}
 use Rattle.std.proofs.lemmas.Bool.{cases_Bool, and_parts}
 use Rattle.std.proofs.lemmas.List.{length-append, length-take-le, take_more, drop_more, take_all}
 use Rattle.std.proofs.lemmas.List.Elements.{All-push}
@@ -234,6 +234,39 @@ one_more old middle new ms now a b i m way within at one = record {
       (subst (λ (ns : List Mark). all_fit old.settings ns ≡ true)
       (drop_more ms i m within ∙ ap (λ (n : Mark). n ∷ drop (i + 1) ms) at) way.fit)).1;
 }
+
+-- Where no mark is kept and so nothing changed yet, the next one is not kept.
+pub none_kept : (old middle : CacheView) (ms : List Mark) (i : ℕ) (m : Mark)
+    → (is_any_kept old.floor ms ≡ false → middle ≡ old) → i < length ms → get_or ms i m ≡ m →
+    is_any_kept old.floor ms ≡ false → is_kept middle.floor m ≡ false
+none_kept old middle ms i m so_far within at none =
+    ap (λ (v : CacheView). is_kept v.floor m) (so_far none) ∙
+    (or_none (is_kept old.floor m) (is_any_kept old.floor (drop (i + 1) ms))
+    (subst (λ ns. is_any_kept old.floor ns ≡ false)
+    (drop_more ms i m within ∙ ap (λ (n : Mark). n ∷ drop (i + 1) ms) at)
+    (none_behind ms i none))).0
+  where
+    or_none : (p q : Bool) → (p || q) ≡ false → (p ≡ false) × (q ≡ false)
+    or_none true q e = absurd (let both : true ≡ false = e in cc)
+    or_none false q e = (refl, e)
+
+    none_behind : (ns : List Mark) (j : ℕ) → is_any_kept old.floor ns ≡ false →
+        is_any_kept old.floor (drop j ns) ≡ false
+    none_behind [] j e = drop_none j
+      where
+        drop_none : (k : ℕ) → is_any_kept old.floor (drop k []) ≡ false
+        drop_none zero = refl
+        drop_none (suc k) = refl
+    none_behind (n ∷ ns) zero e = e
+    none_behind (n ∷ ns) (suc j) e =
+        none_behind ns j (or_none (is_kept old.floor n) (is_any_kept old.floor ns) e).1
+
+-- so nothing changes then either
+pub still_none : (old middle new : CacheView) (ms : List Mark) (now : Time) (b : Added) (i : ℕ)
+    (m : Mark) → (is_any_kept old.floor ms ≡ false → middle ≡ old) → i < length ms →
+    get_or ms i m ≡ m → Adds middle new m now b → is_any_kept old.floor ms ≡ false → new ≡ old
+still_none old middle new ms now b i m so_far within at one none =
+    (one.not_kept (none_kept old middle ms i m so_far within at none)).0 ∙ so_far none
 
 -- until none is left
 pub all_added : (old new : CacheView) (ms : List Mark) (now : Time) (added : Added) (i : ℕ) →

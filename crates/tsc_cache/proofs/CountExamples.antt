@@ -1,8 +1,8 @@
 -- What is counted of a cache: its end keys, each of them once for each page, and what these cost.
 use Rattle.std.specs.Prelude.{◌≡◌, ℕ, ◌-◌, ◌+◌, ◌^◌, [], ◌∷◌, ◌++◌, codes, refl}
 use Rattle.tsc_time.specs.Time.{Time}
+use Rattle.tsc_cache.specs.Rotation.{next_size}
 use Rattle.tsc_cache.specs.declared.figures.Figures.{Figures}
-use Rattle.tsc_cache.specs.State.{next_size}
 use Rattle.tsc_cache.specs.Counts.{up_to_end, figures_of}
 use Rattle.tsc_cache.proofs.ExampleSettings.{at, of_first, usual, twenty, without_end, add, add_points, state_after}
 

@@ -1,16 +1,15 @@
 -- What an eviction leaves, by the pages that stay and those that are dropped.
-use Rattle.std.proofs.Common.{◌≡◌, ◌≢◌, inl, inr, ◌∙◌, refl, sym, ap, subst, ℕ, suc, ◌≤◌, List, [], ◌∷◌, ◌++◌, length, map, true, false, nat_le, ◌&&◌, arith}
+use Rattle.std.proofs.Common.{◌≡◌, inl, inr, ◌∙◌, refl, sym, ap, subst, ℕ, suc, ◌+◌, List, [], ◌∷◌, ◌++◌, length, map, true, false, arith}
 use Rattle.std.specs.Prelude.{reverse, All}
-use Rattle.std.proofs.lemmas.List.{map-append, reverse-append, reverse-reverse, length-append, length-map, length-reverse, same_from_push}
-use Rattle.std.proofs.lemmas.List.Elements.{All-nil, All-cons, All-head, All-tail, All-push}
+use Rattle.std.proofs.lemmas.List.{map-append, reverse-append, reverse-reverse, length-append, length-map, length-reverse, length_push, same_from_push}
 use Rattle.std.proofs.lemmas.Grind.{reverse_onto}
-use Rattle.std.proofs.lemmas.Bool.{cases_Bool, and_parts, and_cases, le-leb, leb-true, leb-false}
+use Rattle.std.proofs.lemmas.Bool.{cases_Bool, and_parts}
+use Rattle.std.proofs.lemmas.List.Elements.{All-nil, All-cons}
 use Rattle.tsc_time.specs.Time.{Time, later}
 use Rattle.tsc_page_nodes.specs.Page.{PageMarks, top}
 use Rattle.tsc_page_nodes.proofs.Standing.{later-swap}
 use Rattle.tsc_cache.specs.Settings.{Settings}
-use Rattle.tsc_cache.specs.State.{Eviction, is_past_retention, is_expired, evict}
-use Rattle.tsc_cache.specs.Eviction.{highest, Evicts}
+use Rattle.tsc_cache.specs.Rotation.{Eviction, is_past_retention, drops_oldest, evict, highest, WereDropped, OldestStays, Evicts}
 use Rattle.tsc_cache.specs.Laws.{PartsPages}
 
 -- a floor lifted to the top of one page after another
@@ -33,210 +32,196 @@ lifted-highest floor (p ∷ ps) =
     ∙ ap (λ f. later f (top p)) (lifted-highest floor ps)
     ∙ later-swap (highest floor (map top ps)) (top p)
 
--- Pages from oldest to newest, parted in those that go and those that stay.
-pub record Goes (settings : Settings) (now : Time) (going staying : List PageMarks) : Type 0 where
-  pub expired : All (λ p. is_expired settings.retention now p ≡ true) going
-  pub enough : going ≢ [] → settings.min_pages ≤ suc (length staying)
-  pub stops : (oldest : PageMarks) (newer : List PageMarks) → staying ≡ oldest ∷ newer →
-      settings.min_pages ≤ length staying → is_expired settings.retention now oldest ≡ false
+-- The one thing that others need of the policy: a page that goes is past its retention.
+pub goes_past : (settings : Settings) (newer : ℕ) (t now : Time) →
+    drops_oldest settings newer t now ≡ true →
+    is_past_retention settings.retention now t ≡ true
+goes_past settings newer t now goes = (and_parts _ _ goes).1
 
--- an eviction drops those that go
-pub evict-goes : (settings : Settings) (now : Time) (going staying : List PageMarks) (floor : Time)
-    → Goes settings now going staying
-    → evict settings now floor (going ++ staying) ≡
-    record { floor = lifted floor going; pages = staying; evicted = length going }
-evict-goes settings now [] [] floor g = refl
-evict-goes settings now [] (oldest ∷ newer) floor g =
-    elim (cases_Bool (nat_le settings.min_pages (suc (length newer)))) [
-      | inl h ↦ rw (h, g.stops oldest newer refl (leb-true _ _ h)) refl
-      | inr h ↦ rw h refl
-    ]
-evict-goes settings now (p ∷ ps) staying floor g =
-    let least : settings.min_pages ≤ suc (length staying) = g.enough (λ e. cc) in
-    let more : settings.min_pages ≤ suc (length (ps ++ staying)) =
-    omega (arith, length-append ps staying) in
-    let rest = evict-goes settings now ps staying (later floor (top p)) (record {
-      expired = All-tail (λ q. is_expired settings.retention now q ≡ true) p ps g.expired;
-      enough = λ _. least;
-      stops = g.stops;
-    }) in
-    rw (le-leb _ _ more, All-head (λ q. is_expired settings.retention now q ≡ true) p ps g.expired)
-    (ap (λ (e : Eviction). record {
-      floor = e.floor;
-      pages = e.pages;
-      evicted = suc e.evicted;
-    }) rest)
+module _ (settings : Settings) (now : Time) where
+  -- those that were dropped are past their retention
+  pub dropped_past : (newer : ℕ) (ts : List Time) → WereDropped settings now newer ts →
+      All (λ t. is_past_retention settings.retention now t ≡ true) ts
+  dropped_past newer [] gone = All-nil (λ t. is_past_retention settings.retention now t ≡ true)
+  dropped_past newer (t ∷ ts) gone =
+      All-cons (λ u. is_past_retention settings.retention now u ≡ true) t ts
+      (goes_past settings newer t now gone.0) (dropped_past (suc newer) ts gone.1)
 
--- those whose tops are past their retention are expired, from oldest to newest
-all_going : (settings : Settings) (now : Time) (dropped : List PageMarks) →
-    All (λ t. is_past_retention settings.retention now t ≡ true) (map top dropped)
-    → All (λ p. is_expired settings.retention now p ≡ true) (reverse dropped)
-all_going settings now [] h = All-nil (λ p. is_expired settings.retention now p ≡ true)
-all_going settings now (p ∷ ps) h =
-    rw (reverse_onto ps p []) (All-push (λ q. is_expired settings.retention now q ≡ true)
-    (reverse ps) p
-    (all_going settings now ps (All-tail (λ t. is_past_retention settings.retention now t ≡ true)
-    (top p) (map top ps) h))
-    (All-head (λ t. is_past_retention settings.retention now t ≡ true) (top p) (map top ps) h))
+  -- pages from oldest to newest that go one after another, before so many that stay
+  abbrev Going : ℕ → List PageMarks → Type 0
+  Going left [] = Unit {0}
+  Going left (p ∷ ps) =
+      (drops_oldest settings (length ps + left) (top p) now ≡ true) × Going left ps
 
--- and back
-all_dropped : (settings : Settings) (now : Time) (going : List PageMarks) →
-    All (λ p. is_expired settings.retention now p ≡ true) going
-    → All (λ t. is_past_retention settings.retention now t ≡ true) (map top (reverse going))
-all_dropped settings now [] h = All-nil (λ t. is_past_retention settings.retention now t ≡ true)
-all_dropped settings now (p ∷ ps) h =
-    rw (reverse_onto ps p [], map-append top (reverse ps) (p ∷ []))
-    (All-push (λ t. is_past_retention settings.retention now t ≡ true) (map top (reverse ps))
-    (top p)
-    (all_dropped settings now ps (All-tail (λ q. is_expired settings.retention now q ≡ true)
-    p ps h))
-    (All-head (λ q. is_expired settings.retention now q ≡ true) p ps h))
+  -- the oldest of pages from oldest to newest stays
+  abbrev Stays : List PageMarks → Type 0
+  Stays [] = Unit {0}
+  Stays (p ∷ ps) = drops_oldest settings (length ps) (top p) now ≡ false
 
--- the tops of what is turned, up to the last
-tops_turned : (p : PageMarks) (ps : List PageMarks) →
-    map top (reverse (p ∷ ps)) ≡ map top (reverse ps) ++ top p ∷ []
-tops_turned p ps = ap (map top) (reverse_onto ps p []) ∙ map-append top (reverse ps) (p ∷ [])
+  -- an eviction drops those that go
+  evict-goes : (going staying : List PageMarks) (floor : Time) → Going (length staying) going →
+      Stays staying → evict settings now floor (going ++ staying) ≡
+      record { floor = lifted floor going; pages = staying; evicted = length going }
+  evict-goes [] [] floor go stays = refl
+  evict-goes [] (p ∷ ps) floor go stays = rw stays refl
+  evict-goes (p ∷ ps) staying floor go stays =
+      let goes : drops_oldest settings (length (ps ++ staying)) (top p) now ≡ true =
+      subst (λ n. drops_oldest settings n (top p) now ≡ true) (sym (length-append ps staying))
+      go.0 in
+      rw goes (ap (λ (e : Eviction). record {
+        floor = e.floor;
+        pages = e.pages;
+        evicted = suc e.evicted;
+      }) (evict-goes ps staying (later floor (top p)) go.1 stays))
 
--- those that go are those that are dropped, and the others stay
-goes_from_evicts : (settings : Settings) (now : Time) (stay dropped : List PageMarks) →
-    Evicts settings now (map top stay) (map top dropped) →
-    Goes settings now (reverse dropped) (reverse stay)
-goes_from_evicts settings now stay dropped h = record {
-  expired = all_going settings now dropped h.expired;
-  enough = λ some. simp (length-reverse) (simp (length-map) at (h.enough (none dropped some)));
-  stops = λ oldest newer e least. h.stops (map top (reverse newer)) (top oldest)
-      (ap (map top) (sym (reverse-reverse stay) ∙ ap reverse e) ∙ tops_turned oldest newer)
-      (simp length-map (simp length-reverse at least));
-}
-  where
-    none : (ps : List PageMarks) → reverse ps ≢ [] → map top ps ≢ []
-    none [] some e = some refl
-    none (p ∷ ps) some e = cc
+  -- one more that goes, as the last
+  going-push : (ps : List PageMarks) (p : PageMarks) (left : ℕ) → Going (suc left) ps →
+      drops_oldest settings left (top p) now ≡ true → Going left (ps ++ p ∷ [])
+  going-push [] p left go goes = (
+    subst (λ n. drops_oldest settings n (top p) now ≡ true) (omega arith) goes,
+    tt,
+  )
+  going-push (q ∷ ps) p left go goes = (
+    subst (λ n. drops_oldest settings n (top q) now ≡ true)
+        (let long = length_push ps p in omega arith) go.0,
+    going-push ps p left go.1 goes,
+  )
 
--- An eviction of pages that are parted so drops the second part, and lifts the floor to the latest
--- of its tops.
-pub evict-is : (settings : Settings) (now floor : Time) (stay dropped : List PageMarks) →
-    Evicts settings now (map top stay) (map top dropped)
-    → evict settings now floor (reverse (stay ++ dropped)) ≡
-    record {
-      floor = highest floor (map top dropped);
-      pages = reverse stay;
-      evicted = length dropped;
-    }
-evict-is settings now floor stay dropped h =
-    let made : Time → ℕ → Eviction =
-    λ lift count. record { floor = lift; pages = reverse stay; evicted = count } in
-    ap (evict settings now floor) (reverse-append stay dropped)
-    ∙ evict-goes settings now (reverse dropped) (reverse stay) floor
-    (goes_from_evicts settings now stay dropped h)
-    ∙ ap (λ lift. made lift (length (reverse dropped))) (lifted-highest floor dropped)
-    ∙ ap (made (highest floor (map top dropped))) (length-reverse dropped)
+  -- those that were dropped go, from oldest to newest
+  going_from : (dropped : List PageMarks) (left : ℕ) →
+      WereDropped settings now left (map top dropped) → Going left (reverse dropped)
+  going_from [] left gone = tt
+  going_from (p ∷ ps) left gone = rw (reverse_onto ps p [])
+      (going-push (reverse ps) p left (going_from ps (suc left) gone.1) gone.0)
 
--- pages from oldest to newest parted in those that go and those that stay
-record Parted (settings : Settings) (now : Time) (pages : List PageMarks) : Type 0 where
-  going : List PageMarks
-  staying : List PageMarks
-  parts : pages ≡ going ++ staying
-  goes : Goes settings now going staying
+  -- one more that was dropped, as the oldest
+  dropped-push : (ts : List Time) (t : Time) (left : ℕ) → WereDropped settings now left ts →
+      drops_oldest settings (length ts + left) t now ≡ true →
+      WereDropped settings now left (ts ++ t ∷ [])
+  dropped-push [] t left gone goes = (
+    subst (λ n. drops_oldest settings n t now ≡ true) (omega arith) goes,
+    tt,
+  )
+  dropped-push (u ∷ ts) t left gone goes = (
+    gone.0,
+    dropped-push ts t (suc left) gone.1
+        (subst (λ n. drops_oldest settings n t now ≡ true) (omega arith) goes),
+  )
 
-parted : (settings : Settings) (now : Time) (pages : List PageMarks) → Parted settings now pages
-parted settings now [] = record {
-  going = [];
-  staying = [];
-  parts = refl;
-  goes = record {
-    expired = All-nil (λ p. is_expired settings.retention now p ≡ true);
-    enough = λ some. absurd (some refl);
-    stops = λ oldest newer e least. cc;
-  };
-}
-parted settings now (p ∷ ps) = elim
-    (cases_Bool (nat_le settings.min_pages (suc (length ps)) &&
-    is_expired settings.retention now p)) [
-      | inl h ↦ let rest = parted settings now ps in record {
-        going = p ∷ rest.going;
-        staying = rest.staying;
-        parts = ap (λ qs. p ∷ qs) rest.parts;
-        goes = record {
-          expired = All-cons (λ q. is_expired settings.retention now q ≡ true) p rest.going
-              (and_parts _ _ h).1 rest.goes.expired;
-          enough = λ some. first ps rest.going rest.staying rest.parts rest.goes.enough
-              (leb-true _ _ (and_parts _ _ h).0);
-          stops = rest.goes.stops;
-        };
+  -- the tops of what is turned, up to the last
+  tops_turned : (p : PageMarks) (ps : List PageMarks) →
+      map top (reverse (p ∷ ps)) ≡ map top (reverse ps) ++ top p ∷ []
+  tops_turned p ps = ap (map top) (reverse_onto ps p []) ∙ map-append top (reverse ps) (p ∷ [])
+
+  tops_long : (ps : List PageMarks) → length (map top (reverse ps)) ≡ length ps
+  tops_long ps = length-map (reverse ps) top ∙ length-reverse ps
+
+  -- those that go were dropped, from newest to oldest
+  dropped_from : (going : List PageMarks) (left : ℕ) → Going left going →
+      WereDropped settings now left (map top (reverse going))
+  dropped_from [] left go = tt
+  dropped_from (p ∷ ps) left go = rw (tops_turned p ps)
+      (dropped-push (map top (reverse ps)) (top p) left (dropped_from ps left go.1)
+      (subst (λ n. drops_oldest settings (n + left) (top p) now ≡ true) (sym (tops_long ps)) go.0))
+
+  -- the oldest one stays, from oldest to newest
+  stays_from : (stay : List PageMarks) → OldestStays settings now (map top stay) →
+      Stays (reverse stay)
+  stays_from stay stops = by (reverse stay) refl
+    where
+      by : (ps : List PageMarks) → reverse stay ≡ ps → Stays ps
+      by [] e = tt
+      by (p ∷ ps) e =
+          let tops : map top stay ≡ map top (reverse ps) ++ top p ∷ [] =
+          ap (map top) (sym (reverse-reverse stay) ∙ ap reverse e) ∙ tops_turned p ps in
+          subst (λ n. drops_oldest settings n (top p) now ≡ false) (tops_long ps)
+          (stops (map top (reverse ps)) (top p) tops)
+
+  -- and from newest to oldest
+  stops_from : (staying : List PageMarks) → Stays staying →
+      OldestStays settings now (map top (reverse staying))
+  stops_from [] stays [] oldest e = cc
+  stops_from [] stays (t ∷ ts) oldest e = cc
+  stops_from (p ∷ ps) stays newer oldest e =
+      let same = same_from_push (map top (reverse ps)) newer (top p) oldest
+      (sym (tops_turned p ps) ∙ e) in
+      rw (← same.1) (subst (λ n. drops_oldest settings n (top p) now ≡ false)
+      (sym (tops_long ps) ∙ ap length same.0) stays)
+
+  -- An eviction of pages that are parted so drops the second part, and lifts the floor to the
+  -- latest of its tops.
+  pub evict-is : (floor : Time) (stay dropped : List PageMarks) →
+      Evicts settings now (map top stay) (map top dropped)
+      → evict settings now floor (reverse (stay ++ dropped)) ≡
+      record {
+        floor = highest floor (map top dropped);
+        pages = reverse stay;
+        evicted = length dropped;
       }
-      | inr h ↦ record {
-        going = [];
-        staying = p ∷ ps;
-        parts = refl;
-        goes = record {
-          expired = All-nil (λ q. is_expired settings.retention now q ≡ true);
-          enough = λ some. absurd (some refl);
-          stops = λ oldest newer e least.
-              elim (and_cases (nat_le settings.min_pages (suc (length ps)))
-              (is_expired settings.retention now p) h) [
-                | inl few ↦ absurd (omega (arith, leb-false _ _ few))
-                | inr young ↦ let same : p ≡ oldest =
-                    cc in subst (λ (q : PageMarks). is_expired settings.retention now q ≡ false) same young
-              ];
-        };
+  evict-is floor stay dropped h =
+      let made : Time → ℕ → Eviction =
+      λ lift count. record { floor = lift; pages = reverse stay; evicted = count } in
+      let gone : WereDropped settings now (length (reverse stay)) (map top dropped) =
+      subst (λ n. WereDropped settings now n (map top dropped))
+      (length-map stay top ∙ sym (length-reverse stay)) h.gone in
+      ap (evict settings now floor) (reverse-append stay dropped)
+      ∙ evict-goes (reverse dropped) (reverse stay) floor
+      (going_from dropped (length (reverse stay)) gone) (stays_from stay h.stops)
+      ∙ ap (λ lift. made lift (length (reverse dropped))) (lifted-highest floor dropped)
+      ∙ ap (made (highest floor (map top dropped))) (length-reverse dropped)
+
+  -- pages from oldest to newest parted in those that go and those that stay
+  record Parted (pages : List PageMarks) : Type 0 where
+    going : List PageMarks
+    staying : List PageMarks
+    parts : pages ≡ going ++ staying
+    goes : Going (length staying) going
+    stays : Stays staying
+
+  parted : (pages : List PageMarks) → Parted pages
+  parted [] = record { going = []; staying = []; parts = refl; goes = tt; stays = tt }
+  parted (p ∷ ps) = elim (cases_Bool (drops_oldest settings (length ps) (top p) now)) [
+    | inl h ↦ let rest = parted ps in record {
+      going = p ∷ rest.going;
+      staying = rest.staying;
+      parts = ap (λ qs. p ∷ qs) rest.parts;
+      goes = (
+        subst (λ n. drops_oldest settings n (top p) now ≡ true)
+            (ap length rest.parts ∙ length-append rest.going rest.staying) h,
+        rest.goes,
+      );
+      stays = rest.stays;
+    }
+    | inr h ↦ record { going = []; staying = p ∷ ps; parts = refl; goes = tt; stays = h }
+  ]
+
+  -- An eviction parts the pages in those that stay and those that it drops.
+  pub evicts_the : (floor : Time) (pages : List PageMarks) → PartsPages settings now floor pages
+  evicts_the floor pages =
+      let p = parted (reverse pages) in
+      let stay : List PageMarks = reverse p.staying in
+      let dropped : List PageMarks = reverse p.going in
+      let parts : pages ≡ stay ++ dropped = sym (reverse-reverse pages) ∙ ap reverse p.parts ∙
+      reverse-append p.going p.staying in
+      let evicts : Evicts settings now (map top stay) (map top dropped) = record {
+        gone = dropped_from p.going (length (map top stay))
+            (subst (λ n. Going n p.going) (sym (tops_long p.staying)) p.goes);
+        stops = stops_from p.staying p.stays;
+      } in
+      let is : evict settings now floor (reverse pages) ≡
+      record {
+        floor = highest floor (map top dropped);
+        pages = reverse stay;
+        evicted = length dropped;
       }
-    ]
-  where
-    first : (ps going staying : List PageMarks) → ps ≡ going ++ staying →
-        (going ≢ [] → settings.min_pages ≤ suc (length staying)) →
-        settings.min_pages ≤ suc (length ps) → settings.min_pages ≤ suc (length staying)
-    first ps [] staying e enough least = rw (← e) least
-    first ps (q ∷ qs) staying e enough least = enough (λ n. cc)
-
--- those that go from pages turned are the older ones, and so dropped
-evicts_from_goes : (settings : Settings) (now : Time) (going staying : List PageMarks) →
-    Goes settings now going staying →
-    Evicts settings now (map top (reverse staying)) (map top (reverse going))
-evicts_from_goes settings now going staying g = record {
-  expired = all_dropped settings now going g.expired;
-  enough = λ some. simp (length-map, length-reverse)
-      (g.enough (λ e. some (ap (λ ps. map top (reverse ps)) e)));
-  stops = λ newer oldest e least. stops staying g.stops newer oldest e
-      (simp (length-map, length-reverse) at least);
-}
-  where
-    stops : (ps : List PageMarks)
-        → ((oldest : PageMarks) (newer : List PageMarks) → ps ≡ oldest ∷ newer →
-        settings.min_pages ≤ length ps → is_expired settings.retention now oldest ≡ false)
-        → (newer : List Time) (oldest : Time) → map top (reverse ps) ≡ newer ++ oldest ∷ [] →
-        settings.min_pages ≤ length ps → is_past_retention settings.retention now oldest ≡ false
-    stops [] h [] oldest e least = cc
-    stops [] h (t ∷ ts) oldest e least = cc
-    stops (p ∷ ps) h newer oldest e least =
-        rw (← (same_from_push (map top (reverse ps)) newer (top p) oldest
-        (sym (tops_turned p ps) ∙ e)).1) (h p ps refl least)
-
--- An eviction parts the pages in those that stay and those that it drops.
-pub evicts_the : (settings : Settings) (now floor : Time) (pages : List PageMarks) →
-    PartsPages settings now floor pages
-evicts_the settings now floor pages =
-    let p = parted settings now (reverse pages) in
-    let stay : List PageMarks = reverse p.staying in
-    let dropped : List PageMarks = reverse p.going in
-    let parts : pages ≡ stay ++ dropped = sym (reverse-reverse pages) ∙ ap reverse p.parts ∙
-    reverse-append p.going p.staying in
-    let evicts : Evicts settings now (map top stay) (map top dropped) =
-    evicts_from_goes settings now p.going p.staying p.goes in
-    let is : evict settings now floor (reverse pages) ≡
-    record {
-      floor = highest floor (map top dropped);
-      pages = reverse stay;
-      evicted = length dropped;
-    }
-    = ap (λ ps. evict settings now floor (reverse ps)) parts ∙
-    evict-is settings now floor stay dropped evicts in
-    record {
-      stay = stay;
-      dropped = dropped;
-      parts = parts;
-      evicts = evicts;
-      kept = ap (λ (e : Eviction). reverse e.pages) is ∙ reverse-reverse stay;
-      evicted = ap (λ (e : Eviction). e.evicted) is;
-      raised = ap (λ (e : Eviction). e.floor) is;
-    }
+      = ap (λ ps. evict settings now floor (reverse ps)) parts ∙
+      evict-is floor stay dropped evicts in
+      record {
+        stay = stay;
+        dropped = dropped;
+        parts = parts;
+        evicts = evicts;
+        kept = ap (λ (e : Eviction). reverse e.pages) is ∙ reverse-reverse stay;
+        evicted = ap (λ (e : Eviction). e.evicted) is;
+        raised = ap (λ (e : Eviction). e.floor) is;
+      }

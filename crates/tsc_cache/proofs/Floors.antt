@@ -9,8 +9,7 @@ use Rattle.tsc_time.proofs.TimeOrder.{later-tells, is_before-itself, is_before-o
 use Rattle.tsc_time.proofs.Members.{IsIn, IsIn-from_Contains, Contains-from_IsIn}
 use Rattle.tsc_time.proofs.JointLemmas.{latest-each}
 use Rattle.tsc_page_nodes.specs.Page.{Mark, PageMarks, top}
-use Rattle.tsc_cache.specs.State.{is_past_retention}
-use Rattle.tsc_cache.specs.Eviction.{highest}
+use Rattle.tsc_cache.specs.Rotation.{highest, is_past_retention}
 use Rattle.tsc_cache.proofs.MarkLists.{all_marks}
 
 -- the later of two is before neither

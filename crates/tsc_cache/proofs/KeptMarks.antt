@@ -11,9 +11,9 @@ use Rattle.tsc_time.proofs.TimeOrder.{no_earlier-transitive}
 use Rattle.tsc_time.proofs.RatchetOrder.{IsAtMost-antisymmetric, IsAtMost-transitive}
 use Rattle.tsc_span.specs.Span.{Interval, nothing, between, overlaps, is_empty_span}
 use Rattle.tsc_page_nodes.specs.Page.{Mark, PageMarks, top, values_on}
+use Rattle.tsc_cache.specs.Rotation.{highest, rotate}
 use Rattle.tsc_cache.specs.Settings.{Settings}
-use Rattle.tsc_cache.specs.State.{CacheState, opening, is_kept, marked, rotate, step, step_all, look}
-use Rattle.tsc_cache.specs.Eviction.{highest}
+use Rattle.tsc_cache.specs.State.{CacheState, opening, is_kept, marked, step, step_all, look}
 use Rattle.tsc_cache.proofs.Evictions.{evicts_the}
 use Rattle.tsc_cache.proofs.FloorJoints.{above_floor, above_each, least_above, at_most_unowned}
 use Rattle.tsc_cache.proofs.MarkLists.{all_marks, look-is, values_on-has, values_on-from}

@@ -3,7 +3,8 @@ use Rattle.std.specs.Prelude.{◌≡◌, ℕ, ◌-◌, ◌^◌, List, [], ◌∷
 use Rattle.tsc_time.specs.Time.{zero_time}
 use Rattle.tsc_time.specs.OwnedTime.{unowned}
 use Rattle.tsc_span.specs.Span.{point}
-use Rattle.tsc_cache.specs.State.{CacheState, look, next_size, rotate}
+use Rattle.tsc_cache.specs.Rotation.{next_size, rotate}
+use Rattle.tsc_cache.specs.State.{CacheState, look}
 use Rattle.tsc_cache.proofs.ExampleSettings.{at, of_first, usual, tight, twenty, without_end, marks_at, page, small_page, Addition, add_points, state_after, answers, added}
 
 -- ---- a fifth key on a page of four

@@ -2,8 +2,8 @@
 -- span wants that.
 use Rattle.std.specs.Prelude.{◌≡◌, ℕ, [], ◌∷◌, true, false, codes, refl, replicate}
 use Rattle.tsc_span.specs.Span.{KeyBytes, point, span_cost, between, before, after}
+use Rattle.tsc_cache.specs.Rotation.{next_size}
 use Rattle.tsc_cache.specs.Settings.{Settings, fits}
-use Rattle.tsc_cache.specs.State.{next_size}
 use Rattle.tsc_cache.proofs.ExampleSettings.{at, of_first, twenty, Addition, add, add_points, state_after, answers, added}
 
 -- pages of 66 bytes at first, and of 264 at the most

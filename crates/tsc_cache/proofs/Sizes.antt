@@ -2,7 +2,7 @@
 use Rattle.std.proofs.Common.{◌≡◌, inl, inr, ◌∙◌, refl, sym, ap, subst, ℕ, zero, suc, ◌+◌, ◌-◌, ◌*◌, ◌^◌, ◌<◌, ◌≤◌, min, cond, nat_le, true, false, arith}
 use Rattle.std.proofs.Math.Nat.{eq-or-lt_of_le, pow-succ', mul_assoc}
 use Rattle.std.proofs.lemmas.Bool.{cases_Bool, leb-true, leb-false}
-use Rattle.tsc_cache.specs.State.{doubled, first_doubled, next_size}
+use Rattle.tsc_cache.specs.Rotation.{doubled, first_doubled, next_size}
 use Rattle.tsc_cache.specs.Laws.{IsFirstDoubled, SizesDouble}
 
 -- what comes to the most is the most

@@ -19,12 +19,12 @@ use Rattle.tsc_page_nodes.specs.Page.{Mark, PageMarks, empty_page, with_mark, to
 use Rattle.tsc_page_nodes.specs.PageView.{PageView, Represents, NoAnswerAboveTop, answer, is_in}
 use Rattle.tsc_page_nodes.proofs.Standing.{same_room, top_with}
 use Rattle.tsc_page_nodes.proofs.Lookups.{values_on-more}
+use Rattle.tsc_cache.specs.Rotation.{Eviction, Evicts, RotatesWith, evict, front_marked, front_size, front_top, front_view_size, front_view_top, highest, new_front, next_size, rotate, saturating_inc}
 use Rattle.tsc_cache.specs.declared.added.Added.{Added}
 use Rattle.tsc_cache.specs.Settings.{Settings}
-use Rattle.tsc_cache.specs.State.{CacheState, is_kept, kept_without_rotation, kept_after_rotation, saturating_inc, front_has_room, marked, on_front, front_top, front_size, next_size, new_front, evict, rotate, step, look, Eviction}
-use Rattle.tsc_cache.specs.Eviction.{highest, Evicts}
+use Rattle.tsc_cache.specs.State.{CacheState, is_kept, kept_without_rotation, kept_after_rotation, front_has_room, marked, on_front, step, look}
 use Rattle.tsc_cache.specs.Lookup.{latest_on, LooksIntoPages}
-use Rattle.tsc_cache.specs.CacheView.{CacheView, EachRepresents, RepresentsState, IsMarked, MarksFront, RotatesWith, Adds, cache_answer, front_has_room_for, front_view_top, front_view_size, front_marked, latest_answer, LooksIntoViews}
+use Rattle.tsc_cache.specs.CacheView.{CacheView, EachRepresents, RepresentsState, IsMarked, MarksFront, Adds, cache_answer, front_has_room_for, latest_answer, LooksIntoViews}
 use Rattle.tsc_cache.specs.Stacks.{HaveTopsUpTo, AreStacked, pages_answer, Drops}
 use Rattle.tsc_cache.proofs.Lookings.{none_before_zero}
 use Rattle.tsc_cache.proofs.FloorJoints.{above_floor, above_each, least_above, at_most_unowned}

@@ -1,17 +1,17 @@
 -- What an Add makes of a state, by cases, and where it leaves the floor.
-use Rattle.std.proofs.Common.{◌≡◌, ◌⊎◌, ◌∙◌, inl, inr, refl, ap, ℕ, ◌+◌, ◌||◌, Bool, List, [], ◌∷◌, map, reverse, true, false, arith}
+use Rattle.std.proofs.Common.{◌≡◌, ◌⊎◌, ◌∙◌, inl, inr, refl, ap, ℕ, ◌+◌, ◌||◌, Bool, List, [], ◌∷◌, length, map, reverse, true, false, arith}
 use Rattle.std.proofs.lemmas.Bool.{cases_Bool}
 use Rattle.std.proofs.lemmas.List.Elements.{All-contains}
 use Rattle.tsc_time.specs.Time.{Time, is_before}
 use Rattle.tsc_time.proofs.TimeOrder.{is_before-itself, no_earlier-transitive}
 use Rattle.tsc_span.specs.Span.{Interval}
 use Rattle.tsc_page_nodes.specs.Page.{Mark, PageMarks, top}
+use Rattle.tsc_cache.specs.Rotation.{evict, highest, is_past_retention, new_front, rotate, saturating_inc}
 use Rattle.tsc_cache.specs.declared.added.Added.{Added}
 use Rattle.tsc_cache.specs.Settings.{Settings}
-use Rattle.tsc_cache.specs.State.{CacheState, is_past_retention, is_kept, front_has_room, new_front, marked, saturating_inc, evict, rotate, added_with, not_kept, step, step_all}
-use Rattle.tsc_cache.specs.Eviction.{highest}
+use Rattle.tsc_cache.specs.State.{CacheState, is_kept, front_has_room, marked, added_with, not_kept, step, step_all}
 use Rattle.tsc_cache.specs.Laws.{PartsPages, OneMarkIsAStep}
-use Rattle.tsc_cache.proofs.Evictions.{evicts_the}
+use Rattle.tsc_cache.proofs.Evictions.{evicts_the, dropped_past}
 use Rattle.tsc_cache.proofs.Floors.{highest-floor, highest-reached}
 
 -- The state after an Add: as it was where the Add is not kept; with one more mark on the front page
@@ -83,7 +83,9 @@ step-lifts settings s m now = elim (floor_tells settings s m now) [
   | inr h ↦ elim (highest-reached s.floor (map top h.0.dropped)) [
     | inl e ↦ inl (h.1 ∙ e)
     | inr c ↦ inr (rw h.1 (All-contains (λ t. is_past_retention settings.retention now t ≡ true)
-        (map top h.0.dropped) (highest s.floor (map top h.0.dropped)) h.0.evicts.expired c))
+        (map top h.0.dropped) (highest s.floor (map top h.0.dropped))
+        (dropped_past settings now (length (map top h.0.stay)) (map top h.0.dropped)
+        h.0.evicts.gone) c))
   ]
 ]
 

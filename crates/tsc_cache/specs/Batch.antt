@@ -4,8 +4,6 @@ use Rattle.std.specs.Prelude.{◌≡◌, ◌<◌, ℕ, List, [], ◌∷◌, leng
 use Rattle.tsc_time.specs.Time.{Time}
 use Rattle.tsc_page_nodes.specs.Page.{Mark}
 use Rattle.tsc_cache.specs.declared.added.Added.{Added}
-use Rattle.tsc_cache.specs.declared.fault.CacheFault.{CacheFault}
-use Rattle.tsc_cache.specs.declared.fault.CacheFault.TheVariants.{TooLarge, NoMemory}
 use Rattle.tsc_cache.specs.Settings.{Settings, fits}
 use Rattle.tsc_cache.specs.State.{is_kept, not_kept, added_with}
 use Rattle.tsc_cache.specs.CacheView.{CacheView, Adds}
@@ -34,9 +32,3 @@ AddsAll old new (m ∷ ms) now added =
 abbrev pub AddsSome : CacheView → CacheView → List Mark → Time → Type 0
 AddsSome old new ms now = (count : ℕ) × (added : Added) × (count < length ms) ×
     AddsAll old new (take count ms) now added
-
--- What Adds of several marks in place leave where they are refused: the cache as it was, where some
--- mark is too large, and else some of them.
-abbrev pub LeavesSome : CacheView → CacheView → List Mark → Time → CacheFault → Type 0
-LeavesSome old new ms now TooLarge = new ≡ old
-LeavesSome old new ms now NoMemory = AddsSome old new ms now

@@ -1,24 +1,17 @@
 -- What can be seen of a cache, which state it stands for, and what an Add makes of it.
-use Rattle.std.specs.Prelude.{◌≡◌, ℕ, List, [], ◌∷◌, ◌++◌, map, length, Bool, true, false, ◌&&◌, not, Option, Some, None}
+use Rattle.std.specs.Prelude.{◌≡◌, ℕ, List, [], ◌∷◌, map, Bool, true, false, ◌&&◌, not, Option, Some, None}
 use Rattle.tsc_time.specs.Time.{Time, zero_time, later}
 use Rattle.tsc_time.specs.OwnedTime.{OwnedTime}
 use Rattle.tsc_time.specs.Joint.{joint_above}
-use Rattle.tsc_span.specs.Span.{Interval, span_cost}
-use Rattle.tsc_page_nodes.specs.Page.{Mark, PageMarks, empty_page, with_mark}
+use Rattle.tsc_span.specs.Span.{Interval}
+use Rattle.tsc_page_nodes.specs.Page.{Mark, PageMarks}
 use Rattle.tsc_page_nodes.specs.PageView.{PageView, Represents, HasKeysWith, AnswersWith, answer, has_room_for}
 use Rattle.tsc_cache.specs.declared.added.Added.{Added}
 use Rattle.tsc_cache.specs.Settings.{Settings}
-use Rattle.tsc_cache.specs.State.{CacheState, step, step_all, is_kept, not_kept, kept_without_rotation, kept_after_rotation, saturating_inc, next_size}
-use Rattle.tsc_cache.specs.Eviction.{highest, Evicts}
+use Rattle.tsc_cache.specs.State.{CacheState, step, step_all, is_kept, not_kept, kept_without_rotation, kept_after_rotation}
+use Rattle.tsc_cache.specs.Rotation.{RotatesWith}
 use Rattle.tsc_cache.specs.Lookup.{LooksInto}
-
--- How a cache is set up, its floor, what can be seen of its pages from newest to oldest, and how
--- often they rotated.
-pub record CacheView : Type 0 where
-  pub settings : Settings
-  pub floor : Time
-  pub pages : List PageView
-  pub rotations : ℕ
+pub use Rattle.tsc_cache.specs.Caches.{CacheView}
 
 -- each page stands for the one at its place
 abbrev pub EachRepresents : List PageView → List PageMarks → Type 0
@@ -67,16 +60,6 @@ abbrev pub front_has_room_for : List PageView → Interval → Bool
 front_has_room_for [] span = false
 front_has_room_for (front ∷ older) span = has_room_for front span
 
--- the top of the front page, or time zero without pages
-abbrev pub front_view_top : List PageView → Time
-front_view_top [] = zero_time
-front_view_top (front ∷ older) = front.top
-
--- the size of the front page, or none without pages
-abbrev pub front_view_size : List PageView → ℕ
-front_view_size [] = 0
-front_view_size (front ∷ older) = front.size
-
 -- what can be seen of a page after one more mark
 pub record IsMarked (old new : PageView) (m : Mark) : Type 0 where
   pub size : new.size ≡ old.size
@@ -89,27 +72,6 @@ abbrev pub MarksFront : List PageView → List PageView → Mark → Type 0
 MarksFront [] new m = ⊥
 MarksFront (front ∷ older) [] m = ⊥
 MarksFront (front ∷ older) (marked ∷ others) m = IsMarked front marked m × (others ≡ older)
-
--- the page that comes to the front for a mark: one of the next size behind the front page before
--- it, which takes its top as its base, with that mark on it
-abbrev pub front_marked : Settings → List PageView → Mark → PageMarks
-front_marked settings pages m = with_mark
-    (empty_page (next_size settings.page_max (front_view_size pages) (span_cost m.span))
-    (front_view_top pages)) m
-
--- A rotation that brings a page with one mark to the front: the pages that there were are parted
--- into those that stay and those that are dropped.
-pub record RotatesWith (old new : CacheView) (m : Mark) (now : Time) (evicted : ℕ) : Type 0 where
-  pub front : PageView
-  pub stay : List PageView
-  pub dropped : List PageView
-  pub parts : old.pages ≡ stay ++ dropped
-  pub evicts : Evicts old.settings now (map (λ p. p.top) stay) (map (λ p. p.top) dropped)
-  pub count : evicted ≡ length dropped
-  pub pages : new.pages ≡ front ∷ stay
-  pub marked : Represents front (front_marked old.settings old.pages m)
-  pub floor : new.floor ≡ highest old.floor (map (λ p. p.top) dropped)
-  pub rotations : new.rotations ≡ saturating_inc old.rotations
 
 -- What an Add makes of all that can be seen of a cache, and what it answers.
 pub record Adds (old new : CacheView) (m : Mark) (now : Time) (added : Added) : Type 0 where

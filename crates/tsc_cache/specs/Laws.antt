@@ -8,9 +8,9 @@ use Rattle.tsc_page_nodes.specs.Limits.{least_size, most_size}
 use Rattle.tsc_page_nodes.specs.Page.{Mark, PageMarks, top}
 use Rattle.tsc_cache.specs.Settings.{Settings}
 use Rattle.tsc_cache.specs.declared.added.Added.{Added}
-use Rattle.tsc_cache.specs.State.{CacheState, look, evict, doubled, next_size, added_with, step, step_all}
-use Rattle.tsc_cache.specs.Eviction.{highest, Evicts}
-use Rattle.tsc_cache.specs.CacheView.{CacheView, Adds}
+use Rattle.tsc_cache.specs.State.{CacheState, look, added_with, step, step_all}
+use Rattle.tsc_cache.specs.Rotation.{doubled, next_size, evict, highest, Evicts}
+use Rattle.tsc_cache.specs.CacheView.{CacheView, StandsAfter, StandsAfterAll, TellsAdded, TellsAddedAll, Adds}
 use Rattle.tsc_cache.specs.Batch.{AddsAll}
 use Rattle.tsc_cache.specs.History.{Entry, History, state_of, marks_on, BeginsWith, IsLegal}
 
@@ -89,6 +89,18 @@ EvictsExpired = (settings : Settings) (now floor : Time) (pages : List PageMarks
 abbrev pub OneMarkIsAStep : Type 0
 OneMarkIsAStep = (settings : Settings) (s : CacheState) (m : Mark) (now : Time) →
     step_all settings s (m ∷ []) now ≡ step settings s m now
+
+-- What an Add makes of all that can be seen of a cache is a step of each state that the cache stood
+-- for: it stands for the next one, and the answer is that of the step. So it is with several marks.
+pub record AddsAreSteps : Type 0 where
+  pub stands : (old new : CacheView) (m : Mark) (now : Time) (added : Added) →
+      Adds old new m now added → StandsAfter old new m now
+  pub answers : (old new : CacheView) (m : Mark) (now : Time) (added : Added) →
+      Adds old new m now added → TellsAdded old m now added
+  pub all_stand : (old new : CacheView) (ms : List Mark) (now : Time) (added : Added) →
+      AddsAll old new ms now added → StandsAfterAll old new ms now
+  pub all_answer : (old new : CacheView) (ms : List Mark) (now : Time) (added : Added) →
+      AddsAll old new ms now added → TellsAddedAll old ms now added
 
 -- Adding a list of one mark makes of all that can be seen of a cache what an Add of that mark
 -- makes.

@@ -1,12 +1,14 @@
 pub mod Limits
 pub mod Settings
+pub mod Caches
+pub mod Rotation
 pub mod State
-pub mod Eviction
 pub mod History
 pub mod Lookup
 pub mod CacheView
 pub mod Batch
 pub mod AddSpans
+pub mod AnswersAdd
 pub mod Stacks
 pub mod CacheParts
 pub mod Laws

@@ -1,14 +1,13 @@
 -- What is true of the pages of a cache, as they can be seen, and what is done to them. Public
 -- contracts cite none of it.
-use Rattle.std.specs.Prelude.{◌≡◌, ℕ, ◌≤◌, List, [], ◌∷◌, ◌++◌, map, length, true, false, Option, Some, None}
+use Rattle.std.specs.Prelude.{◌≡◌, ℕ, List, [], ◌∷◌, ◌++◌, map, length, true, false, Option, Some, None}
 use Rattle.tsc_time.specs.Time.{Time, zero_time, is_before}
 use Rattle.tsc_time.specs.OwnedTime.{OwnedTime}
 use Rattle.tsc_time.specs.Joint.{joint_above}
 use Rattle.tsc_span.specs.Span.{Interval}
 use Rattle.tsc_page_nodes.specs.PageView.{PageView, NoAnswerAboveTop, answer}
 use Rattle.tsc_cache.specs.Settings.{Settings}
-use Rattle.tsc_cache.specs.State.{is_past_retention}
-use Rattle.tsc_cache.specs.Eviction.{highest, OldestStays, Evicts}
+use Rattle.tsc_cache.specs.Rotation.{drops_oldest, highest, OldestStays, Evicts}
 
 -- what some pages answer to a span together, above time zero
 abbrev pub pages_answer : List PageView → Interval → OwnedTime
@@ -24,13 +23,12 @@ abbrev pub AreStacked : List PageView → Type 0
 AreStacked [] = Unit {0}
 AreStacked (p ∷ ps) = NoAnswerAboveTop p × HaveTopsUpTo p.top ps × AreStacked ps
 
--- the top of the oldest page, where there are enough pages and that one is expired
-abbrev pub IsExpiredTop : Settings → Time → List PageView → Option Time → Type 0
-IsExpiredTop settings now pages None = OldestStays settings now (map (λ p. p.top) pages)
-IsExpiredTop settings now pages (Some t) =
+-- the top of the oldest page, where that page goes
+abbrev pub IsDroppedTop : Settings → Time → List PageView → Option Time → Type 0
+IsDroppedTop settings now pages None = OldestStays settings now (map (λ p. p.top) pages)
+IsDroppedTop settings now pages (Some t) =
     (newer : List PageView) × (oldest : PageView) × (pages ≡ newer ++ oldest ∷ []) ×
-    (oldest.top ≡ t)
-    × (settings.min_pages ≤ length pages) × (is_past_retention settings.retention now t ≡ true)
+    (oldest.top ≡ t) × (drops_oldest settings (length newer) t now ≡ true)
 
 -- an eviction leaves some of the pages, gives the floor, and says how many it dropped
 pub record Drops (settings : Settings) (floor now : Time) (old new : List PageView) (raised : Time)

@@ -1,4 +1,4 @@
-ghost use Rattle.std.specs.Prelude.{◌≡◌, ◌↔◌, ◌<◌, ◌+◌, ◌^◌, option_map, length, true, false, IsOk, IfOk, IfErr, IfSome, IsErrOf, OnOk, OnErr, None};
+ghost use Rattle.std.specs.Prelude.{◌≡◌, ◌↔◌, option_map, true, false, IsOk, IfOk, IsErrOf, OnErr};
 ghost use Rattle.tsc_time.specs.Time.{Time};
 ghost use Rattle.tsc_span.specs.Span.{is_empty_span, point};
 ghost use Rattle.tsc_span.specs.LookupSpan.{span_for_lookup};
@@ -8,13 +8,12 @@ ghost use Rattle.tsc_cache.specs.Settings.{Settings, fits};
 ghost use Rattle.tsc_cache.specs.State.{CacheState, step, look, is_kept, kept_after_rotation};
 ghost use Rattle.tsc_cache.specs.Lookup.{LooksIntoPages};
 ghost use Rattle.tsc_cache.specs.Keys.{keys_on, keys_seen};
-ghost use Rattle.tsc_cache.specs.CacheView.{RepresentsState, StandsAfter, StandsAfterAll, TellsAdded, TellsAddedAll, Adds, AddsWithoutRotation, RotatesWith, would_rotate, cache_answer, LooksIntoViews};
+ghost use Rattle.tsc_cache.specs.CacheView.{RepresentsState, Adds, AddsWithoutRotation, would_rotate, cache_answer, LooksIntoViews};
 ghost use Rattle.tsc_cache.specs.Counts.{figures_of, figures_seen};
-ghost use Rattle.tsc_cache.specs.AddSpans.{named, refusal_of, is_kept_named, RefusesFor, StandsAfterNamed, TellsAddedNamed, AddsNamed};
-ghost use Rattle.tsc_cache.specs.Batch.{all_fit, is_any_kept, AddsAll, AddsSome, LeavesSome};
+ghost use Rattle.tsc_cache.specs.AddSpans.{named};
+ghost use Rattle.tsc_cache.specs.Batch.{all_fit, is_any_kept, AddsAll, AddsSome};
+ghost use Rattle.tsc_cache.specs.AnswersAdd.{AnswersAdd, AnswersAddNamed};
 
-use crate::add_fitting::AddFitting;
-use crate::config::saturating_inc;
 use crate::mark::is_any_kept;
 use crate::named_span::{cost_of, named_span};
 use crate::page_stack::{PageStack, Pages};
@@ -30,10 +29,10 @@ use tsc_time::{NoMemory, Timestamp, Value, ratchet};
 /// A page that another cache holds too, as after [`Cache::next`], is never changed.
 #[derive(Debug, Drop)]
 pub struct Cache {
-    config: Config,
-    floor: Timestamp,
-    pages: Pages,
-    rotations: u64,
+    pub(crate) config: Config,
+    pub(crate) floor: Timestamp,
+    pub(crate) pages: Pages,
+    pub(crate) rotations: u64,
 }
 
 impl Model for Cache {
@@ -70,25 +69,41 @@ impl TimestampCache for Cache {
         })
     }
 
-    /// An Add that is kept goes to the front page, in place where no other cache holds that page,
-    /// and to a copy of it else. Where the page has no room the pages rotate first, and a new one
-    /// is made.
+    /// It tests whether the span fits, and adds it as by
+    /// [`add_one_fitting`](TimestampCache::add_one_fitting).
     fn add(&mut self, span: &Span, value: Value, now: Timestamp) -> Result<Added, CacheFault> {
         if !self.config.fits(span) {
             return Err(CacheFault::TooLarge);
         }
-        Ok(self.add_fitting(span, value, now)?)
+        Ok(self.add_one_fitting(span, value, now)?)
+    }
+
+    /// An Add that is kept goes to the front page, in place where no other cache holds that page,
+    /// and to a copy of it else. Where the page has no room the pages rotate first, and a new one
+    /// is made.
+    fn add_one_fitting(
+        &mut self,
+        span: &Span,
+        value: Value,
+        now: Timestamp,
+    ) -> Result<Added, NoMemory> {
+        if !self.keeps(span, value) {
+            return Ok(Added::nothing());
+        }
+        let span = span.for_add();
+        if self.pages.mark_span(&span, value)? {
+            return Ok(Added::without_rotation());
+        }
+        self.rotate(&span, value, now)
     }
 
     /// A batch of which a mark is kept is made as by [`next_all`](Cache::next_all), and then takes
     /// the cache's place.
     fn add_all(&mut self, marks: &[Mark], now: Timestamp) -> Result<Added, CacheFault> {
-        if self.config.fits_all(marks) && !is_any_kept(self.floor, marks) {
-            return Ok(Added::nothing());
+        if !self.config.fits_all(marks) {
+            return Err(CacheFault::TooLarge);
         }
-        let (next, added) = self.next_all(marks, now)?;
-        *self = next;
-        Ok(added)
+        Ok(self.add_all_fitting(marks, now)?)
     }
 
     /// A lookup goes through the pages from the newest on, as
@@ -111,36 +126,33 @@ impl TimestampCache for Cache {
     }
 }
 
-impl AddFitting for Cache {
-    ghost seen = { λ c. c };
-
-    fn add_fitting(
-        &mut self,
-        span: &Span,
-        value: Value,
-        now: Timestamp,
-    ) -> Result<Added, NoMemory> {
-        if !self.keeps(span, value) {
-            return Ok(Added::nothing());
-        }
-        let span = span.for_add();
-        if self.pages.mark_span(&span, value)? {
-            return Ok(Added::without_rotation());
-        }
-        self.rotate(&span, value, now)
-    }
-
-    fn keeps(&self, span: &Span, value: Value) -> bool {
-        !span.is_empty() && self.floor < value.time()
-    }
-}
-
 impl Cache {
+    /// How the cache was set up.
+    pub fn config(&self) -> Config
+        ensures { result ≡ self.now.settings }
+    {
+        self.config
+    }
+
     /// Whether a span fits the largest page: whether an Add of it isn't [`CacheFault::TooLarge`].
     pub fn fits(&self, span: &Span) -> bool
         ensures { result ≡ fits self.now.settings span.now }
     {
         self.config.fits(span)
+    }
+
+    /// Whether the span of each of some marks fits the largest page. It costs a step for each.
+    pub fn fits_all(&self, marks: &[Mark]) -> bool
+        ensures { result ≡ all_fit self.now.settings marks.now }
+    {
+        self.config.fits_all(marks)
+    }
+
+    /// Whether an Add is kept.
+    fn keeps(&self, span: &Span, value: Value) -> bool
+        ensures { result ≡ is_kept self.now.floor (record { span = span.now; value = value }) }
+    {
+        !span.is_empty() && self.floor < value.time()
     }
 
     /// As [`add`](TimestampCache::add), of a single key whose bytes lie elsewhere.
@@ -154,19 +166,8 @@ impl Cache {
         value: Value,
         now: Timestamp,
     ) -> Result<Added, CacheFault>
-        ensures stands { OnOk result
-            (StandsAfter self.old self.new (record { span = point key.now; value = value }) now) }
-        ensures added { IfOk result
-            (TellsAdded self.old (record { span = point key.now; value = value }) now) }
-        ensures seen { IfOk result
-            (λ added. Adds self.old self.new (record { span = point key.now; value = value }) now
-            added) }
-        ensures too_large { IsErrOf result CacheFault.TooLarge ↔
-            (fits self.old.settings (point key.now) ≡ false) }
-        ensures unchanged { OnErr result (self.new ≡ self.old) }
-        ensures memory { fits self.old.settings (point key.now) ≡ true →
-            is_kept self.old.floor (record { span = point key.now; value = value }) ≡ false →
-            IsOk result }
+        ensures { AnswersAdd self.old self.new (record { span = point key.now; value = value }) now
+            result }
     {
         if !self.config.fits_key(key) {
             return Err(CacheFault::TooLarge);
@@ -182,10 +183,6 @@ impl Cache {
         now: Timestamp,
     ) -> Result<Added, NoMemory>
         requires fits { fits self.old.settings (point key.now) ≡ true }
-        ensures stands { OnOk result
-            (StandsAfter self.old self.new (record { span = point key.now; value = value }) now) }
-        ensures added { IfOk result
-            (TellsAdded self.old (record { span = point key.now; value = value }) now) }
         ensures seen { IfOk result
             (λ added. Adds self.old self.new (record { span = point key.now; value = value }) now
             added) }
@@ -200,7 +197,7 @@ impl Cache {
             return Ok(Added::without_rotation());
         }
         let span = Span::point(key.to_key(self.pages.alloc())?);
-        self.add_fitting(&span, value, now)
+        self.add_one_fitting(&span, value, now)
     }
 
     /// Whether an Add at a key is kept.
@@ -226,23 +223,8 @@ impl Cache {
         value: Value,
         now: Timestamp,
     ) -> Result<Added, AddBetweenFault>
-        ensures stands { OnOk result
-            (StandsAfterNamed self.old self.new
-            (named start.now (option_map (λ k. k.now) end.entry) ends) value now) }
-        ensures added { IfOk result
-            (TellsAddedNamed self.old (named start.now (option_map (λ k. k.now) end.entry) ends)
-            value now) }
-        ensures seen { IfOk result
-            (AddsNamed self.old self.new (named start.now (option_map (λ k. k.now) end.entry) ends)
-            value now) }
-        ensures refused { RefusesFor
-            (refusal_of self.old.settings
-            (named start.now (option_map (λ k. k.now) end.entry) ends)) result }
-        ensures unchanged { OnErr result (self.new ≡ self.old) }
-        ensures memory { is_kept_named self.old.floor
-            (named start.now (option_map (λ k. k.now) end.entry) ends) value ≡ false
-            → refusal_of self.old.settings
-            (named start.now (option_map (λ k. k.now) end.entry) ends) ≡ None → IsOk result }
+        ensures { AnswersAddNamed self.old self.new
+            (named start.now (option_map (λ k. k.now) end.entry) ends) value now result }
     {
         let span = named_span(start, end, ends)?;
         Ok(self.add_span(&span, value, now)?)
@@ -255,19 +237,8 @@ impl Cache {
         value: Value,
         now: Timestamp,
     ) -> Result<Added, CacheFault>
-        ensures stands { OnOk result
-            (StandsAfter self.old self.new (record { span = span.now; value = value }) now) }
-        ensures added { IfOk result
-            (TellsAdded self.old (record { span = span.now; value = value }) now) }
-        ensures seen { IfOk result
-            (λ added. Adds self.old self.new (record { span = span.now; value = value }) now
-            added) }
-        ensures too_large { IsErrOf result CacheFault.TooLarge ↔
-            (fits self.old.settings span.now ≡ false) }
-        ensures unchanged { OnErr result (self.new ≡ self.old) }
-        ensures memory { fits self.old.settings span.now ≡ true →
-            is_kept self.old.floor (record { span = span.now; value = value }) ≡ false →
-            IsOk result }
+        ensures { AnswersAdd self.old self.new (record { span = span.now; value = value }) now
+            result }
     {
         if let Some(key) = span.key() {
             return self.add_key(key, value, now);
@@ -301,33 +272,6 @@ impl Cache {
         self.rotate(span, value, now)
     }
 
-    /// Brings a page with one mark to the front, and drops what is expired. All memory is asked for
-    /// before the first change.
-    fn rotate(
-        &mut self,
-        span: &AddSpan<'_>,
-        value: Value,
-        now: Timestamp,
-    ) -> Result<Added, NoMemory>
-        requires not_empty { is_empty_span span.now ≡ false }
-        requires fits { fits self.old.settings span.now ≡ true }
-        ensures rotated { IfOk result
-            (λ added. RotatesWith self.old self.new (record { span = span.now; value = value }) now
-            added.evicted × (added ≡ kept_after_rotation added.evicted)) }
-        ensures settings { self.new.settings ≡ self.old.settings }
-        ensures unchanged { OnErr result (self.new ≡ self.old) }
-    {
-        let former = self.pages.front();
-        let size = self.config.next_size(former.size(), cost_of(span));
-        let mut front = Page::new(self.pages.alloc(), size, former.top())?;
-        front.add_span(span, value)?;
-        self.pages.push_front(front)?;
-        let (floor, evicted) = self.pages.evict(&self.config, self.floor, now);
-        self.floor = floor;
-        self.rotations = saturating_inc(self.rotations);
-        Ok(Added::after_rotation(evicted))
-    }
-
     /// Adds a span with its value where that needs no rotation of the pages, at whatever moment.
     /// The answer is `None` just where [`would_rotate`](Cache::would_rotate) says so of them, as it
     /// does of a span that is too large, and the cache stays as it is then. It stays so too where
@@ -343,12 +287,6 @@ impl Cache {
     ) -> Result<Option<Added>, NoMemory>
         ensures seen { IfOk result
             (AddsWithoutRotation self.old self.new (record { span = span.now; value = value })) }
-        ensures stands { IfOk result
-            (λ made. IfSome made (λ added. (now : Time) →
-            StandsAfter self.old self.new (record { span = span.now; value = value }) now)) }
-        ensures added { IfOk result
-            (λ made. IfSome made (λ added. (now : Time) →
-            TellsAdded self.old (record { span = span.now; value = value }) now added)) }
         ensures unchanged { OnErr result (self.new ≡ self.old) }
         ensures memory { is_kept self.old.floor (record { span = span.now; value = value }) ≡
             false → IsOk result }
@@ -374,10 +312,6 @@ impl Cache {
         value: Value,
         now: Timestamp,
     ) -> Result<(Cache, Added), CacheFault>
-        ensures stands { IfOk result
-            (λ next. StandsAfter self.now next.0 (record { span = span.now; value = value }) now) }
-        ensures added { IfOk result
-            (λ next. TellsAdded self.now (record { span = span.now; value = value }) now next.1) }
         ensures seen { IfOk result
             (λ next. Adds self.now next.0 (record { span = span.now; value = value }) now next.1) }
         ensures too_large { IsErrOf result CacheFault.TooLarge ↔
@@ -386,38 +320,61 @@ impl Cache {
         if !self.config.fits(span) {
             return Err(CacheFault::TooLarge);
         }
+        Ok(self.next_one_fitting(span, value, now)?)
+    }
+
+    /// As [`next`](Cache::next), of a span that fits a page: only memory may be refused.
+    pub fn next_one_fitting(
+        &self,
+        span: &Span,
+        value: Value,
+        now: Timestamp,
+    ) -> Result<(Cache, Added), NoMemory>
+        requires fits { fits self.now.settings span.now ≡ true }
+        ensures { IfOk result
+            (λ next. Adds self.now next.0 (record { span = span.now; value = value }) now next.1) }
+    {
         let mut next = self.share()?;
-        let added = next.add_fitting(span, value, now)?;
+        let added = next.add_one_fitting(span, value, now)?;
         Ok((next, added))
     }
 
-    /// Adds each of these marks at the moment `now`, one after another, in place. Where memory is
-    /// refused, those before the one that was refused stay: so it is for a cache that is thrown
-    /// away then, and [`add_all`](Cache::add_all) for any other.
+    /// Adds marks that fit a page at the moment `now`, one after another, in place. Where memory is
+    /// refused, those before the one that was refused stay. So it is for a single mark, and for a
+    /// cache that is thrown away then; [`add_all_fitting`](Cache::add_all_fitting) is for any
+    /// other.
     ///
-    /// Where none is kept nothing changes, and no memory is taken. Else it costs an
-    /// [`add`](Cache::add) for each mark.
-    pub fn add_each_until_refused(
-        &mut self,
-        marks: &[Mark],
-        now: Timestamp,
-    ) -> Result<Added, CacheFault>
-        ensures stands { OnOk result (StandsAfterAll self.old self.new marks.now now) }
-        ensures added { IfOk result (TellsAddedAll self.old marks.now now) }
+    /// A mark that is not kept changes nothing, and takes no memory. Each other one costs an
+    /// [`add`](TimestampCache::add).
+    pub fn add_fitting(&mut self, marks: &[Mark], now: Timestamp) -> Result<Added, NoMemory>
+        requires fits { all_fit self.old.settings marks.now ≡ true }
         ensures seen { IfOk result (λ added. AddsAll self.old self.new marks.now now added) }
-        ensures too_large { IsErrOf result CacheFault.TooLarge ↔
-            (all_fit self.old.settings marks.now ≡ false) }
-        ensures left { IfErr result (λ fault. LeavesSome self.old self.new marks.now now fault) }
-        ensures memory { all_fit self.old.settings marks.now ≡ true →
-            is_any_kept self.old.floor marks.now ≡ false → IsOk result }
+        ensures left { OnErr result (AddsSome self.old self.new marks.now now) }
+        ensures memory { is_any_kept self.old.floor marks.now ≡ false → IsOk result }
     {
-        if !self.config.fits_all(marks) {
-            return Err(CacheFault::TooLarge);
+        // A field is read so that the proof has the invariant.
+        let _pages = &self.pages;
+        let mut added = Added::nothing();
+        for mark in marks {
+            added = added.with(self.add_one_fitting(&mark.span, mark.value, now)?);
         }
+        Ok(added)
+    }
+
+    /// As [`add_all`](TimestampCache::add_all), of marks that fit a page: only memory may be
+    /// refused, and then the cache is as before.
+    pub fn add_all_fitting(&mut self, marks: &[Mark], now: Timestamp) -> Result<Added, NoMemory>
+        requires fits { all_fit self.old.settings marks.now ≡ true }
+        ensures seen { IfOk result (λ added. AddsAll self.old self.new marks.now now added) }
+        ensures unchanged { OnErr result (self.new ≡ self.old) }
+        ensures memory { is_any_kept self.old.floor marks.now ≡ false → IsOk result }
+    {
         if !is_any_kept(self.floor, marks) {
             return Ok(Added::nothing());
         }
-        Ok(self.add_each_fitting(marks, now)?)
+        let (next, added) = self.next_fitting(marks, now)?;
+        *self = next;
+        Ok(added)
     }
 
     /// The cache after all of these marks, one after another at the moment `now`, beside this one,
@@ -429,8 +386,6 @@ impl Cache {
     /// once for all marks. A mark for which a leaf is cut, or whose span reaches over several
     /// leaves that are shared, copies the list at the top once more.
     pub fn next_all(&self, marks: &[Mark], now: Timestamp) -> Result<(Cache, Added), CacheFault>
-        ensures stands { IfOk result (λ next. StandsAfterAll self.now next.0 marks.now now) }
-        ensures added { IfOk result (λ next. TellsAddedAll self.now marks.now now next.1) }
         ensures seen { IfOk result (λ next. AddsAll self.now next.0 marks.now now next.1) }
         ensures too_large { IsErrOf result CacheFault.TooLarge ↔
             (all_fit self.now.settings marks.now ≡ false) }
@@ -438,8 +393,16 @@ impl Cache {
         if !self.config.fits_all(marks) {
             return Err(CacheFault::TooLarge);
         }
+        Ok(self.next_fitting(marks, now)?)
+    }
+
+    /// As [`next_all`](Cache::next_all), of marks that fit a page: only memory may be refused.
+    pub fn next_fitting(&self, marks: &[Mark], now: Timestamp) -> Result<(Cache, Added), NoMemory>
+        requires fits { all_fit self.now.settings marks.now ≡ true }
+        ensures { IfOk result (λ next. AddsAll self.now next.0 marks.now now next.1) }
+    {
         let mut next = self.share()?;
-        let added = next.add_each_fitting(marks, now)?;
+        let added = next.add_fitting(marks, now)?;
         Ok((next, added))
     }
 
@@ -542,20 +505,6 @@ impl Cache {
     {
         let (best, looked) = self.pages.lookup(span);
         (ratchet(best, Value::unowned(self.floor)).0, looked)
-    }
-
-    /// Adds marks that fit. Where memory is refused, those before stay.
-    fn add_each_fitting(&mut self, marks: &[Mark], now: Timestamp) -> Result<Added, NoMemory>
-        requires fits { all_fit self.old.settings marks.now ≡ true }
-        requires few { length self.old.pages + length marks.now < 2 ^ 64 }
-        ensures all { IfOk result (λ added. AddsAll self.old self.new marks.now now added) }
-        ensures some { OnErr result (AddsSome self.old self.new marks.now now) }
-    {
-        let mut added = Added::nothing();
-        for mark in marks {
-            added = added.with(self.add_fitting(&mark.span, mark.value, now)?);
-        }
-        Ok(added)
     }
 
     /// A copy of the cache, which shares the pages.

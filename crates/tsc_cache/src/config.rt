@@ -2,14 +2,14 @@ ghost use Rattle.std.specs.Prelude.{◌≡◌, ◌≤◌, ◌<◌, ◌*◌, ◌^
 ghost use Rattle.tsc_span.specs.Span.{point};
 ghost use Rattle.tsc_page_nodes.specs.Limits.{least_size, most_size};
 ghost use Rattle.tsc_cache.specs.Settings.{Settings, settings_of, fits, IsWithinLimits};
-ghost use Rattle.tsc_cache.specs.State.{is_past_retention, next_size, saturating_inc};
 ghost use Rattle.tsc_cache.specs.Batch.{all_fit};
 
 use crate::Mark;
+use crate::named_span::cost_of;
 use std::marker::Model;
 use thiserror::Error;
 use tsc_page::{LEAST_SIZE, MOST_SIZE};
-use tsc_span::{KeyRef, Span};
+use tsc_span::{AddSpan, KeyRef, Span};
 use tsc_time::Timestamp;
 
 /// The least that `min_pages` may be.
@@ -20,9 +20,6 @@ pub const MOST_MIN_PAGES: u32 = 64;
 
 /// For how many nanoseconds reads may be retained at the most.
 pub const LONGEST_RETENTION: u64 = 9_223_372_036_854_775_807;
-
-/// How often a size is doubled at the most: from the least size on that leads beyond the greatest.
-const DOUBLINGS: u32 = 32;
 
 /// Why a configuration was refused.
 #[derive(Clone, Copy, Debug, PartialEq, Eq, Error)]
@@ -142,6 +139,13 @@ impl Config {
         span.cost() <= self.page_max
     }
 
+    /// As [`fits`](Config::fits), of a span over keys that lie elsewhere.
+    pub fn fits_ref(&self, span: &AddSpan<'_>) -> bool
+        ensures { result ≡ fits self.now span.now }
+    {
+        cost_of(span) <= self.page_max
+    }
+
     /// Whether the span of a single key fits.
     pub(crate) fn fits_key(&self, key: &KeyRef<'_>) -> bool
         ensures { result ≡ fits self.now (point key.now) }
@@ -163,34 +167,6 @@ impl Config {
         true
     }
 
-    /// The size of a page for a span of this cost, behind a page of this size: the first doubling
-    /// that is at least the cost. The doublings are twice that size, four times that size and on,
-    /// each no more than `page_max`.
-    pub(crate) fn next_size(&self, size: u32, cost: u32) -> u32
-        ensures value { result ≡ next_size self.now.page_max size cost }
-        ensures enough { cost ≤ self.now.page_max → cost ≤ result }
-        ensures least { least_size ≤ size → least_size ≤ result }
-        ensures most { result ≤ most_size }
-    {
-        let mut next = size;
-        for times in 0..DOUBLINGS {
-            next = self.doubled(next);
-            if cost <= next {
-                return next;
-            }
-        }
-        self.page_max
-    }
-
-    /// Twice a size, and no more than `page_max`.
-    fn doubled(&self, size: u32) -> u32
-        ensures value { result ≡ min self.now.page_max (2 * size) }
-        ensures least { least_size ≤ size → least_size ≤ result }
-        ensures most { result ≤ most_size }
-    {
-        size.saturating_mul(2).min(self.page_max)
-    }
-
     /// How many pages there are at the least when one is dropped.
     pub fn min_pages(&self) -> u32
         ensures { result ≡ self.now.min_pages }
@@ -205,27 +181,10 @@ impl Config {
         self.retention
     }
 
-    /// Whether reads up to this time are past their retention at the moment `now`.
-    pub(crate) fn is_past_retention(&self, top: Timestamp, now: Timestamp) -> bool
-        ensures { result ≡ is_past_retention self.now.retention now top }
-    {
-        match now.minus(self.retention) {
-            Some(limit) => top < limit,
-            None => false,
-        }
-    }
-
     /// Where the floor stands at first.
     pub fn low_water(&self) -> Timestamp
         ensures { result ≡ self.now.low_water }
     {
         self.low_water
     }
-}
-
-/// A count with one more, which stays at 2^64 - 1 once it is there.
-pub(crate) fn saturating_inc(count: u64) -> u64
-    ensures { result ≡ saturating_inc count }
-{
-    count.saturating_add(1)
 }

@@ -4,7 +4,7 @@
 //! No program needs to call these functions: their contracts are the laws. Whoever keeps a history,
 //! as a ghost, calls [`can_be_added`] or [`can_all_be_added`] to know of an Add that it may stand
 //! there.
-ghost use Rattle.tsc_cache.specs.Laws.{KeptUp, Rising, Beginnings, FloorBehind, Real, NoWriteBelowARead, EvictsExpired, OneMarkIsAStep, OneMarkIsAnAdd, ListsJoin, SizesDouble};
+ghost use Rattle.tsc_cache.specs.Laws.{KeptUp, Rising, Beginnings, FloorBehind, Real, NoWriteBelowARead, EvictsExpired, AddsAreSteps, OneMarkIsAStep, OneMarkIsAnAdd, ListsJoin, SizesDouble};
 ghost use Rattle.tsc_cache.specs.Limits.{least_min_pages, most_min_pages, longest_retention};
 ghost use Rattle.tsc_cache.specs.Settings.{fits};
 ghost use Rattle.tsc_cache.specs.Batch.{all_fit};
@@ -67,6 +67,12 @@ pub fn no_write_below_a_read()
 /// itself and of the dropped tops.
 pub fn evicts_the_expired()
     ensures { EvictsExpired }
+{}
+
+/// Whatever state a cache stood for, after an Add it stands for the next one, and the Add answers
+/// what that step does. So contracts of Adds speak of what can be seen alone.
+pub fn adds_are_steps()
+    ensures { AddsAreSteps }
 {}
 
 /// An Add of a list of one mark is the Add of that mark.

@@ -17,7 +17,6 @@
 //! of what was added: slow, and easy to believe.
 #![tactic(auto)]
 
-mod add_fitting;
 mod added;
 mod cache;
 mod config;
@@ -31,6 +30,7 @@ mod page_stack;
 mod pages;
 mod plain;
 mod plain_pages;
+mod rotation;
 mod timestamp_cache;
 
 pub use added::Added;

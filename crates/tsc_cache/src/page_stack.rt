@@ -1,13 +1,11 @@
 ghost use Rattle.std.specs.Prelude.{◌≡◌, ◌<◌, ◌∷◌, ◌^◌, List, length, OnOk, OnErr};
 ghost use Rattle.tsc_page_nodes.specs.PageView.{PageView};
-ghost use Rattle.tsc_cache.specs.Stacks.{IsExpiredTop, Drops};
 
-use crate::Config;
 use std::alloc::Global;
 use std::sync::Arc;
 use tsc_cache_pages::OlderPages;
 use tsc_page::{IntervalPage, Page};
-use tsc_time::{NoMemory, Timestamp};
+use tsc_time::NoMemory;
 
 /// The pages of a cache, from the newest to the oldest: there is always one.
 pub(crate) trait PageStack<P: IntervalPage> {
@@ -32,17 +30,6 @@ pub(crate) trait PageStack<P: IntervalPage> {
         ensures front { OnOk result (newest self.new ≡ P.view front) }
         ensures unchanged { OnErr result
             (newest self.new ∷ others self.new ≡ newest self.old ∷ others self.old) };
-
-    /// The top of the oldest page behind the front, where that page is to be dropped.
-    fn expired_top(&self, config: &Config, now: Timestamp) -> Option<Timestamp>
-        ensures { IsExpiredTop config.now now (others self.now) result };
-
-    /// Drops expired pages behind the front, from the oldest on, while there are enough of them.
-    /// Gives the latest of `floor` and of their tops, and how many were dropped.
-    fn evict(&mut self, config: &Config, floor: Timestamp, now: Timestamp) -> (Timestamp, u64)
-        ensures front { newest self.new ≡ newest self.old }
-        ensures dropped { Drops config.now floor now (others self.old) (others self.new) result.0
-            result.1 };
 }
 
 /// The pages of a cache. A page that other caches hold too is never changed.

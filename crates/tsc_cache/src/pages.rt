@@ -43,26 +43,6 @@ impl PageStack<Page> for Pages {
         self.front = front;
         Ok(())
     }
-
-    fn expired_top(&self, config: &Config, now: Timestamp) -> Option<Timestamp> {
-        let top = self.older.back()?.top();
-        if self.older.len() >= config.min_pages() as usize && config.is_past_retention(top, now) {
-            Some(top)
-        } else {
-            None
-        }
-    }
-
-    fn evict(&mut self, config: &Config, floor: Timestamp, now: Timestamp) -> (Timestamp, u64) {
-        let before = self.older.len();
-        let mut floor = floor;
-        while let Some(top) = self.expired_top(config, now) {
-            self.older.pop_back();
-            floor = floor.max(top);
-        }
-        self.older.trim();
-        (floor, (before - self.older.len()) as u64)
-    }
 }
 
 impl Pages {

@@ -1,12 +1,9 @@
 ghost use Rattle.std.specs.Prelude.{◌≡◌, ◌<◌, ◌+◌, ◌^◌, length, true, false, IfOk, OnErr};
 ghost use Rattle.tsc_span.specs.Span.{is_empty_span};
 ghost use Rattle.tsc_cache.specs.Settings.{fits};
-ghost use Rattle.tsc_cache.specs.State.{kept_after_rotation};
-ghost use Rattle.tsc_cache.specs.CacheView.{RotatesWith};
+ghost use Rattle.tsc_cache.specs.State.{is_kept, kept_after_rotation};
 ghost use Rattle.tsc_cache.specs.Batch.{all_fit, is_any_kept, AddsAll};
 
-use crate::add_fitting::AddFitting;
-use crate::config::saturating_inc;
 use crate::mark::is_any_kept;
 use crate::page_stack::PageStack;
 use crate::plain_pages::PlainPages;
@@ -24,10 +21,10 @@ use tsc_time::{NoMemory, Timestamp, Value, ratchet};
 /// that stands on its pages, and an Add compares all end keys of the front page with one another.
 #[derive(Debug, Drop)]
 pub struct PlainCache {
-    config: Config,
-    floor: Timestamp,
-    pages: PlainPages,
-    rotations: u64,
+    pub(crate) config: Config,
+    pub(crate) floor: Timestamp,
+    pub(crate) pages: PlainPages,
+    pub(crate) rotations: u64,
 }
 
 impl Model for PlainCache {
@@ -66,7 +63,23 @@ impl TimestampCache for PlainCache {
         if !self.config.fits(span) {
             return Err(CacheFault::TooLarge);
         }
-        Ok(self.add_fitting(span, value, now)?)
+        Ok(self.add_one_fitting(span, value, now)?)
+    }
+
+    fn add_one_fitting(
+        &mut self,
+        span: &Span,
+        value: Value,
+        now: Timestamp,
+    ) -> Result<Added, NoMemory> {
+        if !self.keeps(span, value) {
+            return Ok(Added::nothing());
+        }
+        if self.pages.front().room(span) {
+            self.pages.mark_front(span, value)?;
+            return Ok(Added::without_rotation());
+        }
+        self.rotate(span, value, now)
     }
 
     /// A batch of which a mark is kept costs a copy of the whole cache.
@@ -102,51 +115,12 @@ impl TimestampCache for PlainCache {
     }
 }
 
-impl AddFitting for PlainCache {
-    ghost seen = { λ c. c };
-
-    fn add_fitting(
-        &mut self,
-        span: &Span,
-        value: Value,
-        now: Timestamp,
-    ) -> Result<Added, NoMemory> {
-        if !self.keeps(span, value) {
-            return Ok(Added::nothing());
-        }
-        if self.pages.front().room(span) {
-            self.pages.mark_front(span, value)?;
-            return Ok(Added::without_rotation());
-        }
-        self.rotate(span, value, now)
-    }
-
-    fn keeps(&self, span: &Span, value: Value) -> bool {
-        !span.is_empty() && self.floor < value.time()
-    }
-}
-
 impl PlainCache {
-    /// Brings a page with one mark to the front, and drops what is expired. All memory is asked for
-    /// before the first change.
-    fn rotate(&mut self, span: &Span, value: Value, now: Timestamp) -> Result<Added, NoMemory>
-        requires not_empty { is_empty_span span.now ≡ false }
-        requires fits { fits self.old.settings span.now ≡ true }
-        ensures rotated { IfOk result
-            (λ added. RotatesWith self.old self.new (record { span = span.now; value = value }) now
-            added.evicted × (added ≡ kept_after_rotation added.evicted)) }
-        ensures settings { self.new.settings ≡ self.old.settings }
-        ensures unchanged { OnErr result (self.new ≡ self.old) }
+    /// Whether an Add is kept.
+    fn keeps(&self, span: &Span, value: Value) -> bool
+        ensures { result ≡ is_kept self.now.floor (record { span = span.now; value = value }) }
     {
-        let former = self.pages.front();
-        let size = self.config.next_size(former.size(), span.cost());
-        let mut front = PlainPage::new(self.pages.alloc(), size, former.top())?;
-        front.add(span, value)?;
-        self.pages.push_front(front)?;
-        let (floor, evicted) = self.pages.evict(&self.config, self.floor, now);
-        self.floor = floor;
-        self.rotations = saturating_inc(self.rotations);
-        Ok(Added::after_rotation(evicted))
+        !span.is_empty() && self.floor < value.time()
     }
 
     /// Adds marks that fit. Where memory is refused, those before stay.
@@ -157,7 +131,7 @@ impl PlainCache {
     {
         let mut added = Added::nothing();
         for mark in marks {
-            added = added.with(self.add_fitting(&mark.span, mark.value, now)?);
+            added = added.with(self.add_one_fitting(&mark.span, mark.value, now)?);
         }
         Ok(added)
     }

@@ -5,7 +5,6 @@ ghost use Rattle.tsc_cache.specs.CacheView.{MarksFront};
 ghost use Rattle.tsc_cache.specs.Stacks.{pages_answer};
 ghost use Rattle.tsc_cache.specs.CacheParts.{plain_front_of, plain_older_of, plain_pages_of};
 
-use crate::Config;
 use crate::page_stack::PageStack;
 use std::alloc::Global;
 use std::mem;
@@ -16,9 +15,9 @@ use tsc_time::{NoMemory, Timestamp, Value, ratchet};
 /// The pages of a plain cache.
 #[derive(Debug, Drop)]
 pub(crate) struct PlainPages {
-    front: PlainPage,
+    pub(crate) front: PlainPage,
     /// From the newest to the oldest.
-    older: Vec<PlainPage>,
+    pub(crate) older: Vec<PlainPage>,
 }
 
 impl PageStack<PlainPage> for PlainPages {
@@ -43,26 +42,6 @@ impl PageStack<PlainPage> for PlainPages {
         let former = mem::replace(&mut self.front, front);
         self.older.insert(0, former).ok();
         Ok(())
-    }
-
-    fn expired_top(&self, config: &Config, now: Timestamp) -> Option<Timestamp> {
-        let top = self.older.last()?.top();
-        if self.older.len() >= config.min_pages() as usize && config.is_past_retention(top, now) {
-            Some(top)
-        } else {
-            None
-        }
-    }
-
-    fn evict(&mut self, config: &Config, floor: Timestamp, now: Timestamp) -> (Timestamp, u64) {
-        let mut floor = floor;
-        let mut evicted = 0;
-        while let Some(top) = self.expired_top(config, now) {
-            self.older.pop();
-            floor = floor.max(top);
-            evicted += 1;
-        }
-        (floor, evicted)
     }
 }
 

@@ -1,8 +1,8 @@
-ghost use Rattle.std.specs.Prelude.{◌≡◌, ◌↔◌, Bool, length, true, false, IsOk, IfOk, IsErrOf, OnOk, OnErr};
+ghost use Rattle.std.specs.Prelude.{◌≡◌, Bool, length, true, false, IsOk, IfOk, OnErr};
 ghost use Rattle.tsc_cache.specs.Settings.{Settings, IsWithinLimits, fits};
 ghost use Rattle.tsc_cache.specs.State.{CacheState, opening, look, is_kept};
-ghost use Rattle.tsc_cache.specs.CacheView.{CacheView, RepresentsState, StandsAfter, StandsAfterAll, TellsAdded, TellsAddedAll, Adds, cache_answer};
-ghost use Rattle.tsc_cache.specs.Batch.{all_fit, is_any_kept, AddsAll};
+ghost use Rattle.tsc_cache.specs.CacheView.{CacheView, RepresentsState, Adds, cache_answer};
+ghost use Rattle.tsc_cache.specs.AnswersAdd.{AnswersAdd, AnswersAddAll};
 
 use crate::{Added, CacheFault, Config, Mark};
 use std::alloc::Global;
@@ -35,35 +35,29 @@ pub trait TimestampCache: Drop {
     /// The call restates `intervalSkl.AddRange` of CockroachDB's
     /// `pkg/kv/kvserver/tscache/interval_skl.go`.
     fn add(&mut self, span: &Span, value: Value, now: Timestamp) -> Result<Added, CacheFault>
-        ensures stands { OnOk result
-            (StandsAfter (view self.old) (view self.new)
-            (record { span = span.now; value = value }) now) }
-        ensures added { IfOk result
-            (TellsAdded (view self.old) (record { span = span.now; value = value }) now) }
+        ensures { AnswersAdd (view self.old) (view self.new)
+            (record { span = span.now; value = value }) now result };
+
+    /// As [`add`](TimestampCache::add), of a span that fits a page: only memory may be refused.
+    fn add_one_fitting(
+        &mut self,
+        span: &Span,
+        value: Value,
+        now: Timestamp,
+    ) -> Result<Added, NoMemory>
+        requires fits { fits (view self.old).settings span.now ≡ true }
         ensures seen { IfOk result
             (λ added. Adds (view self.old) (view self.new)
             (record { span = span.now; value = value }) now added) }
-        ensures too_large { IsErrOf result CacheFault.TooLarge ↔
-            (fits (view self.old).settings span.now ≡ false) }
         ensures unchanged { OnErr result (view self.new ≡ view self.old) }
-        ensures memory { fits (view self.old).settings span.now ≡ true →
-            is_kept (view self.old).floor (record { span = span.now; value = value }) ≡ false →
-            IsOk result };
+        ensures memory { is_kept (view self.old).floor (record { span = span.now; value = value }) ≡
+            false → IsOk result };
 
     /// Adds all of these marks at the moment `now`, one after another, or none: where one is too
     /// large or memory is refused, the cache is as before. Where none is kept nothing changes, and
     /// no memory is taken.
     fn add_all(&mut self, marks: &[Mark], now: Timestamp) -> Result<Added, CacheFault>
-        ensures stands { OnOk result
-            (StandsAfterAll (view self.old) (view self.new) marks.now now) }
-        ensures added { IfOk result (TellsAddedAll (view self.old) marks.now now) }
-        ensures seen { IfOk result
-            (λ added. AddsAll (view self.old) (view self.new) marks.now now added) }
-        ensures too_large { IsErrOf result CacheFault.TooLarge ↔
-            (all_fit (view self.old).settings marks.now ≡ false) }
-        ensures unchanged { OnErr result (view self.new ≡ view self.old) }
-        ensures memory { all_fit (view self.old).settings marks.now ≡ true →
-            is_any_kept (view self.old).floor marks.now ≡ false → IsOk result };
+        ensures { AnswersAddAll (view self.old) (view self.new) marks.now now result };
 
     /// What the floor, and each Add that overlaps the span, come to together: the latest of their
     /// times, with its owner where all of that time are of one owner.

@@ -17,11 +17,6 @@ clones_same view f (x ∷ xs) [] zip = absurd zip
 clones_same view f (x ∷ xs) (y ∷ ys) zip = ap (λ v. f v ∷ map (λ x. f (view x)) ys) zip.0 ∙
     ap (λ vs. f (view x) ∷ vs) (clones_same view f xs ys zip.1)
 
--- what holds anyway holds where a call is refused
-pub kept : {T E : Type 0} (r : Result T E) (P : Type 0) → P → OnErr r P
-kept (Ok x) P p = tt
-kept (Err e) P p = p
-
 -- what holds where a call was refused, where it did not succeed
 pub unless_ok : {T E : Type 0} (r : Result T E) (P : Type 0) → ((x : T) → r ≡ Ok x → ⊥) →
     OnErr r P → P

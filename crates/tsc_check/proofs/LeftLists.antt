@@ -8,18 +8,11 @@ use Rattle.tsc_trace_format.specs.Limits.{most_calls}
 use Rattle.tsc_trace_format.specs.Lists.{fits_trace}
 use Rattle.tsc_trace_format.proofs.Totals.{total_calls}
 use Rattle.tsc_trace_format.specs.declared.trace.Call.{Call}
+use Rattle.tsc_trace.proofs.ListSteps.{left_from}
 use Rattle.tsc_trace.specs.declared.log.Line.{Line}
 use Rattle.tsc_check.specs.Verdict.{calls_of_list, calls_of_lists}
 use Rattle.tsc_check.specs.CheckParts.{first_other}
 use Rattle.tsc_check.proofs.FirstOther.{as_many, first_below}
-
--- what is left from a place on begins with what stands there
-pub left_from : {X : Type 0} (xs : List X) (i : ℕ) (x : X) → slice_get xs i ≡ Some x →
-    drop i xs ≡ x ∷ drop (i + 1) xs
-left_from xs i x at =
-    drop-cons xs i x (slice_get_within xs i x at) ∙
-    ap (λ y. y ∷ drop (suc i) xs) (get_or_from_slice_get xs i x x at)
-    ∙ ap (λ n. x ∷ drop n xs) (sym (add-one i))
 
 -- with the next list
 pub next_list : (lists : List (List Call)) (thread from : ℕ) (calls : List Call) (lines : List Line)

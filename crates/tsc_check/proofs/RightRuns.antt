@@ -29,8 +29,8 @@ use Rattle.tsc_check.proofs.Each.{Each, Ordered}
 use Rattle.tsc_check.proofs.Places.{tested, one_if, count_at, HaveOtherPlaces, IsPlacedBelow, one_at_each}
 use Rattle.tsc_check.proofs.TrueRuns.{IsTrueOf, AllTrue, GoesBefore, front_said, adds_of_true_lists}
 use Rattle.tsc_check.proofs.FirstOther.{none_from_least, first_is_least, as_many}
-use Rattle.tsc_check.proofs.Slots.{fine_line}
-use Rattle.tsc_check.proofs.Sweeping.{has_call, no_two, only_add, next_adds, at_line, one_put}
+use Rattle.tsc_check.proofs.Slots.{at_line, fine_line}
+use Rattle.tsc_check.proofs.Sweeping.{has_call, no_two, only_add, next_adds, kind_of_add, one_put}
 
 is_number : (a b : ℕ) → (a == b) ≡ true → a ≡ b
 is_number a b e = grind (arith, nat_tests)
@@ -102,10 +102,6 @@ ordered_from R (x ∷ xs) f = (
 add_there : (lines : List Line) (i p : ℕ) (line : Line) → slice_get lines i ≡ Some line →
     is_add_at p line.said ≡ true → adds_there lines p i ≡ true
 add_there lines i p line at add = at_line lines i line (λ l. is_add_at p l.said) at ∙ add
-
-kind_of_add : (s : CallAnswer) (p : ℕ) → is_add_at p s ≡ true → (is_add s ≡ true) × (front_of s ≡ p)
-kind_of_add s p e = let parts = both_parts (is_add s) (front_of s == p) e
-    in (parts.0, is_number (front_of s) p parts.1)
 
 line_is_fine : (trace : Trace) (lines : List Line) → AreInOrder trace lines →
     (i : ℕ) (line : Line) → slice_get lines i ≡ Some line → is_wrong_place lines i ≡ false

@@ -33,7 +33,7 @@ none_of_none : (test : ℕ → Bool) → last_below test 0 ≡ None
 none_of_none test = refl
 
 -- what a line's test is at its number
-at_line : (lines : List Line) (i : ℕ) (line : Line) (test : Line → Bool) →
+pub at_line : (lines : List Line) (i : ℕ) (line : Line) (test : Line → Bool) →
     slice_get lines i ≡ Some line → holds_at test (slice_get lines i) ≡ test line
 at_line lines i line test at = ap (holds_at test) at
 

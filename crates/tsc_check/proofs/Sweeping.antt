@@ -14,7 +14,7 @@ use Rattle.tsc_check.specs.Verdict.{PlacedCall, calls_of_list, calls_of_lists, c
 use Rattle.tsc_check.specs.CheckParts.{ArePlaced, first_other, last_below, holds_at, is_lookup_at, adds_there, looks_up_there, is_before_front, call_in, AreInOrder, Lowers, LowersAt}
 use Rattle.tsc_check.proofs.Places.{tested}
 use Rattle.tsc_check.proofs.FirstOther.{NoneBelow, none_from_least, least_none_below, least_at, right_when_none}
-use Rattle.tsc_check.proofs.Slots.{fine_line}
+use Rattle.tsc_check.proofs.Slots.{at_line, fine_line}
 use Rattle.tsc_check.proofs.Misplaced.{has_last}
 
 same_number : (a b : ℕ) → a ≡ b → (a == b) ≡ true
@@ -136,13 +136,9 @@ lookup_parts s f e = let parts = both_parts (not (is_add s)) (front_of s == f) e
     not_true true h = absurd (true≢false (sym h))
     not_true false h = refl
 
-add_parts : (s : CallAnswer) (p : ℕ) → is_add_at p s ≡ true → (is_add s ≡ true) × (front_of s ≡ p)
-add_parts s p e = let parts = both_parts (is_add s) (front_of s == p) e
+pub kind_of_add : (s : CallAnswer) (p : ℕ) → is_add_at p s ≡ true → (is_add s ≡ true) × (front_of s ≡ p)
+kind_of_add s p e = let parts = both_parts (is_add s) (front_of s == p) e
     in (parts.0, is_number (front_of s) p parts.1)
-
-pub at_line : (lines : List Line) (i : ℕ) (line : Line) (test : Line → Bool) →
-    slice_get lines i ≡ Some line → holds_at test (slice_get lines i) ≡ test line
-at_line lines i line test at = ap (holds_at test) at
 
 same_some : (a b : Call) → Some a ≡ Some b → a ≡ b
 same_some a b e = cc
@@ -179,7 +175,7 @@ pub add_told : (trace : Trace) (lines : List Line) → AreInOrder trace lines �
 add_told trace lines order i line at call there other stands tells place adds s =
     let c = has_call trace lines order.calls i line at in
     let same : call ≡ c.call.call = same_some call c.call.call (sym there ∙ c.there) in
-    let parts = add_parts line.said place
+    let parts = kind_of_add line.said place
     (sym (at_line lines i line (λ l. is_add_at place l.said) at) ∙ adds) in
     tells (first_adds (calls_of trace) lines place) s parts.0
     (ap (λ d. is_of_kind d line.said) same ∙ c.kind)
@@ -237,7 +233,7 @@ add_is_taken lines j p line at add taken =
     by_said : (s : CallAnswer) → is_add_at p s ≡ true →
         is_misplaced (adds_in lines) (take j lines) line.thread s ≡ true
     by_said s e =
-        let parts = add_parts s p e in
+        let parts = kind_of_add s p e in
         let there : has_add_at (front_of s) (take j lines) ≡ true =
         ap (λ q. has_add_at q (take j lines)) parts.1 ∙ taken in
         rw (parts.0, there, or_true (nat_lt (adds_in lines) (suc (front_of s)))) refl

@@ -23,15 +23,16 @@ use Rattle.tsc_ffi_store.specs.declared.refusal.Refusal.{Refusal}
 use Rattle.tsc_ffi_store.specs.declared.refusal.Refusal.TheVariants as refusal
 use Rattle.tsc_ffi_store.specs.declared.seats.placed.Placed.{Placed}
 use Rattle.tsc_ffi_store.specs.declared.seats.kinds.AnySeat.{AnySeat}
-use Rattle.tsc_ffi_store.specs.Decode.{AskedAdd, AskedBatch, add_span}
-use Rattle.tsc_ffi_store.specs.Marks.{AreMarks}
-use Rattle.tsc_ffi_store.specs.Kinds.{ByKind}
+use Rattle.tsc_ffi_store.specs.declared.seats.kinds.AnySeat.TheVariants.{Shared, Striped}
+use Rattle.tsc_ffi_store.specs.Decode.{AskedAdd, AskedBatch, NamesAdd}
+use Rattle.tsc_ffi_store.specs.Marks.{NamesAddAll}
+use Rattle.tsc_ffi_store.specs.Kinds.{ByKind, config_of}
 use Rattle.tsc_ffi_store.specs.Asking.{AddsShared, AddsStriped, IsPlaced, IsPlacedAt, one_mark}
+use Rattle.tsc_ffi_store.specs.Asking.{LacksShared, LacksStriped}
 use Rattle.tsc_ffi_store.specs.SeatCalls.{SeatAccepts, RefusesTried, KeepsOnRefusal, IsCodeOf}
 use Rattle.tsc_ffi_store.specs.SeatCalls.{AnswersTriedAdd, AnswersTriedAddAll}
 use Rattle.tsc_ffi_store.specs.StripedCalls.{StripedAccepts, RefusesInStripes, IsStripedCode}
 use Rattle.tsc_ffi_store.specs.StripedCalls.{AnswersStripedTriedAdd, AnswersStripedTriedAll}
-use Rattle.tsc_ffi_store.proofs.ByKinds.{by_kind}
 use Rattle.tsc_ffi_store.proofs.Trying.{why_refused}
 
 -- ---- at a shared cache
@@ -163,71 +164,99 @@ TriesOne span value now tries old new did = ByKind
     (λ x y (r : Result Placed Refusal). AddsShared (one_mark span value) now
     (fits x.cache.config span) tries x y r) (AddsStriped (one_mark span value) now tries) old new did
 
-pub one_added : (asked : AskedAdd) (span : Interval) (value : OwnedTime) (now : Time) (tries : ℕ)
-    (placed : Placed) (told : Added) (old new : AnySeat) → add_span asked.span ≡ Some span
-    → value ≡ asked.value → now ≡ asked.moment → placed.added ≡ told
-    → TriesOne span value now tries old new (Ok placed)
+pub one_added : (asked : AskedAdd) (span : Interval) (tries : ℕ) (placed : Placed) (told : Added)
+    (old new : AnySeat) → NamesAdd asked span → fits (config_of old) span ≡ true
+    → placed.added ≡ told → TriesOne span asked.value asked.moment tries old new (Ok placed)
     → ByKind {A = Result (Unit {0}) Refusal} (AnswersTriedAdd asked placed.place told)
     (AnswersStripedTriedAdd asked placed.place told) old new (Ok tt)
-one_added asked span value now tries placed told old new is same moment added did =
-    let named : TriesOne span asked.value asked.moment tries old new (Ok placed) =
-    subst (λ (v : OwnedTime). TriesOne span v asked.moment tries old new (Ok placed)) same
-    (subst (λ (t : Time). TriesOne span value t tries old new (Ok placed)) moment did) in
-    by_kind (λ x y (r : Result Placed Refusal). AddsShared (one_mark span asked.value) asked.moment
-    (fits x.cache.config span) tries x y r)
-    (AddsStriped (one_mark span asked.value) asked.moment tries)
-    (AnswersTriedAdd asked placed.place told) (AnswersStripedTriedAdd asked placed.place told)
-    (Ok placed) (Ok tt)
-    (λ x y a. record {
-      added = record {
-        span = span;
-        asked_for = is;
-        accepted = seat_accepts (one_mark span asked.value) asked.moment
-            (fits x.cache.config span) tries placed told x y added a;
-      };
-      refused = tt;
-      spared = tt;
-    })
-    (λ x y a. record {
-      added = record {
-        span = span;
-        asked_for = is;
-        accepted = striped_accepts (one_mark span asked.value) asked.moment tries placed told x y
-            added a;
-      };
-      refused = tt;
-      unchanged = tt;
-    }) old new named
+one_added asked span tries placed told (Shared x) (Shared y) names fit added a = record {
+  added = record {
+    span = span;
+    names = names;
+    fit = fit;
+    accepted = seat_accepts (one_mark span asked.value) asked.moment (fits x.cache.config span) tries placed
+        told x y added a;
+  };
+  refused = tt;
+  spared = tt;
+}
+one_added asked span tries placed told (Shared x) (Striped y) names fit added a = absurd a
+one_added asked span tries placed told (Striped x) (Shared y) names fit added a = absurd a
+one_added asked span tries placed told (Striped x) (Striped y) names fit added a = record {
+  added = record {
+    span = span;
+    names = names;
+    fit = fit;
+    accepted = striped_accepts (one_mark span asked.value) asked.moment tries placed told x y added a;
+  };
+  refused = tt;
+  unchanged = tt;
+}
 
 pub one_refused : (asked : AskedAdd) (span : Interval) (value : OwnedTime) (now : Time) (tries : ℕ)
-    (why : Refusal) (place : ℕ) (told : Added) (old new : AnySeat)
-    → add_span asked.span ≡ Some span → TriesOne span value now tries old new (Err why)
+    (why : Refusal) (place : ℕ) (told : Added) (old new : AnySeat) → NamesAdd asked span
+    → fits (config_of old) span ≡ true → TriesOne span value now tries old new (Err why)
     → ByKind {A = Result (Unit {0}) Refusal} (AnswersTriedAdd asked place told)
     (AnswersStripedTriedAdd asked place told) old new (Err why)
-one_refused asked span value now tries why place told old new is did =
-    by_kind (λ x y (r : Result Placed Refusal). AddsShared (one_mark span value) now
-    (fits x.cache.config span) tries x y r) (AddsStriped (one_mark span value) now tries)
-    (AnswersTriedAdd asked place told) (AnswersStripedTriedAdd asked place told) (Err why)
-    (Err why)
-    (λ x y a. record {
-      added = tt;
-      refused = inr (seat_refuses (one_mark span value) now (fits x.cache.config span) tries why x
-          y a
-          (λ large code same. record {
-            span = span;
-            asked_for = is;
-            too_large = large;
-            told = code;
-            same = same;
-          })
-          (λ fit code. record { span = span; asked_for = is; fit = fit; told = code }));
-      spared = seat_spared (one_mark span value) now (fits x.cache.config span) tries why x y a;
-    })
-    (λ x y a. record {
-      added = tt;
-      refused = inr (striped_refuses (one_mark span value) now tries why x y a);
-      unchanged = striped_same (one_mark span value) now tries why x y a;
-    }) old new did
+one_refused asked span value now tries why place told (Shared x) (Shared y) names fit a = record {
+  added = tt;
+  refused = seat_refuses (one_mark span value) now (fits x.cache.config span) tries why x y a
+      (λ large code same. (
+        inr (record { span = span; names = names; too_large = large; told = code }),
+        same,
+      ))
+      (λ does code. record { span = span; names = names; fit = does; told = code });
+  spared = seat_spared (one_mark span value) now (fits x.cache.config span) tries why x y a;
+}
+one_refused asked span value now tries why place told (Shared x) (Striped y) names fit a = absurd a
+one_refused asked span value now tries why place told (Striped x) (Shared y) names fit a = absurd a
+one_refused asked span value now tries why place told (Striped x) (Striped y) names fit a = record {
+  added = tt;
+  refused = inr (inr (record {
+    span = span;
+    names = names;
+    fit = fit;
+    told = striped_refuses (one_mark span value) now tries why x y a;
+  }));
+  unchanged = striped_same (one_mark span value) now tries why x y a;
+}
+
+-- where there was no memory for a copy of what is added
+pub one_lacks : (asked : AskedAdd) (span : Interval) (why : Refusal) (place : ℕ) (told : Added)
+    (old new : AnySeat) → NamesAdd asked span → fits (config_of old) span ≡ true
+    → ByKind LacksShared LacksStriped old new why
+    → ByKind {A = Result (Unit {0}) Refusal} (AnswersTriedAdd asked place told)
+    (AnswersStripedTriedAdd asked place told) old new (Err why)
+one_lacks asked span why place told (Shared x) (Shared y) names fit a = record {
+  added = tt;
+  refused = inr (record { span = span; names = names; fit = fit; told = a.tried });
+  spared = inr a.spared;
+}
+one_lacks asked span why place told (Shared x) (Striped y) names fit a = absurd a
+one_lacks asked span why place told (Striped x) (Shared y) names fit a = absurd a
+one_lacks asked span why place told (Striped x) (Striped y) names fit a = record {
+  added = tt;
+  refused = inr (inr (record { span = span; names = names; fit = fit; told = a.refuses }));
+  unchanged = a.same;
+}
+
+pub one_too_large : (asked : AskedAdd) (span : Interval) (place : ℕ) (told : Added) (seat : AnySeat)
+    → NamesAdd asked span → fits (config_of seat) span ≡ false
+    → ByKind {A = Result (Unit {0}) Refusal} (AnswersTriedAdd asked place told)
+    (AnswersStripedTriedAdd asked place told) seat seat (Err refusal.TooLarge)
+one_too_large asked span place told (Shared x) names large = record {
+  added = tt;
+  refused = inl (
+    inr (record { span = span; names = names; too_large = large; told = refl }),
+    refl,
+  );
+  spared = inl refl;
+}
+one_too_large asked span place told (Striped x) names large = record {
+  added = tt;
+  refused = inr (inl (record { span = span; names = names; too_large = large; told = refl }));
+  unchanged = refl;
+}
 
 -- ---- an Add of several marks
 
@@ -236,62 +265,96 @@ TriesAll ms now tries old new did = ByKind
     (λ x y (r : Result Placed Refusal). AddsShared ms now (all_fit x.cache.config ms) tries x y r)
     (AddsStriped ms now tries) old new did
 
-pub all_added : (asked : AskedBatch) (ms : List Mark) (now : Time) (tries : ℕ) (placed : Placed)
-    (told : Added) (old new : AnySeat) → AreMarks asked.keys asked.marks ms → now ≡ asked.moment
-    → placed.added ≡ told → TriesAll ms now tries old new (Ok placed)
+pub all_added : (asked : AskedBatch) (ms : List Mark) (tries : ℕ) (placed : Placed) (told : Added)
+    (old new : AnySeat) → NamesAddAll asked ms → all_fit (config_of old) ms ≡ true
+    → placed.added ≡ told → TriesAll ms asked.moment tries old new (Ok placed)
     → ByKind {A = Result (Unit {0}) Refusal} (AnswersTriedAddAll asked placed.place told)
     (AnswersStripedTriedAll asked placed.place told) old new (Ok tt)
-all_added asked ms now tries placed told old new is moment added did =
-    let named : TriesAll ms asked.moment tries old new (Ok placed) =
-    subst (λ (t : Time). TriesAll ms t tries old new (Ok placed)) moment did in
-    by_kind (λ x y (r : Result Placed Refusal). AddsShared ms asked.moment
-    (all_fit x.cache.config ms) tries x y r) (AddsStriped ms asked.moment tries)
-    (AnswersTriedAddAll asked placed.place told) (AnswersStripedTriedAll asked placed.place told)
-    (Ok placed) (Ok tt)
-    (λ x y a. record {
-      added = record {
-        marks = ms;
-        asked_for = is;
-        accepted = seat_accepts ms asked.moment (all_fit x.cache.config ms) tries placed told x y
-            added a;
-      };
-      refused = tt;
-      spared = tt;
-    })
-    (λ x y a. record {
-      added = record {
-        marks = ms;
-        asked_for = is;
-        accepted = striped_accepts ms asked.moment tries placed told x y added a;
-      };
-      refused = tt;
-      unchanged = tt;
-    }) old new named
+all_added asked ms tries placed told (Shared x) (Shared y) names fit added a = record {
+  added = record {
+    marks = ms;
+    names = names;
+    fit = fit;
+    accepted = seat_accepts ms asked.moment (all_fit x.cache.config ms) tries placed
+        told x y added a;
+  };
+  refused = tt;
+  spared = tt;
+}
+all_added asked ms tries placed told (Shared x) (Striped y) names fit added a = absurd a
+all_added asked ms tries placed told (Striped x) (Shared y) names fit added a = absurd a
+all_added asked ms tries placed told (Striped x) (Striped y) names fit added a = record {
+  added = record {
+    marks = ms;
+    names = names;
+    fit = fit;
+    accepted = striped_accepts ms asked.moment tries placed told x y added a;
+  };
+  refused = tt;
+  unchanged = tt;
+}
 
-pub all_refused : (asked : AskedBatch) (ms : List Mark) (now : Time) (tries : ℕ) (why : Refusal)
-    (place : ℕ) (told : Added) (old new : AnySeat) → AreMarks asked.keys asked.marks ms
-    → TriesAll ms now tries old new (Err why)
+pub all_refused : (asked : AskedBatch) (ms : List Mark) (now : Time) (tries : ℕ)
+    (why : Refusal) (place : ℕ) (told : Added) (old new : AnySeat) → NamesAddAll asked ms
+    → all_fit (config_of old) ms ≡ true → TriesAll ms now tries old new (Err why)
     → ByKind {A = Result (Unit {0}) Refusal} (AnswersTriedAddAll asked place told)
     (AnswersStripedTriedAll asked place told) old new (Err why)
-all_refused asked ms now tries why place told old new is did =
-    by_kind (λ x y (r : Result Placed Refusal). AddsShared ms now (all_fit x.cache.config ms) tries
-    x y r) (AddsStriped ms now tries) (AnswersTriedAddAll asked place told)
-    (AnswersStripedTriedAll asked place told) (Err why) (Err why)
-    (λ x y a. record {
-      added = tt;
-      refused = inr (seat_refuses ms now (all_fit x.cache.config ms) tries why x y a
-          (λ large code same. record {
-            marks = ms;
-            asked_for = is;
-            too_large = large;
-            told = code;
-            same = same;
-          })
-          (λ fit code. record { marks = ms; asked_for = is; fit = fit; told = code }));
-      spared = seat_spared ms now (all_fit x.cache.config ms) tries why x y a;
-    })
-    (λ x y a. record {
-      added = tt;
-      refused = inr (striped_refuses ms now tries why x y a);
-      unchanged = striped_same ms now tries why x y a;
-    }) old new did
+all_refused asked ms now tries why place told (Shared x) (Shared y) names fit a = record {
+  added = tt;
+  refused = seat_refuses ms now (all_fit x.cache.config ms) tries why x y a
+      (λ large code same. (
+        inr (record { marks = ms; names = names; too_large = large; told = code }),
+        same,
+      ))
+      (λ does code. record { marks = ms; names = names; fit = does; told = code });
+  spared = seat_spared ms now (all_fit x.cache.config ms) tries why x y a;
+}
+all_refused asked ms now tries why place told (Shared x) (Striped y) names fit a = absurd a
+all_refused asked ms now tries why place told (Striped x) (Shared y) names fit a = absurd a
+all_refused asked ms now tries why place told (Striped x) (Striped y) names fit a = record {
+  added = tt;
+  refused = inr (inr (record {
+    marks = ms;
+    names = names;
+    fit = fit;
+    told = striped_refuses ms now tries why x y a;
+  }));
+  unchanged = striped_same ms now tries why x y a;
+}
+
+-- where there was no memory for a copy of what is added
+pub all_lacks : (asked : AskedBatch) (ms : List Mark) (why : Refusal) (place : ℕ) (told : Added)
+    (old new : AnySeat) → NamesAddAll asked ms → all_fit (config_of old) ms ≡ true
+    → ByKind LacksShared LacksStriped old new why
+    → ByKind {A = Result (Unit {0}) Refusal} (AnswersTriedAddAll asked place told)
+    (AnswersStripedTriedAll asked place told) old new (Err why)
+all_lacks asked ms why place told (Shared x) (Shared y) names fit a = record {
+  added = tt;
+  refused = inr (record { marks = ms; names = names; fit = fit; told = a.tried });
+  spared = inr a.spared;
+}
+all_lacks asked ms why place told (Shared x) (Striped y) names fit a = absurd a
+all_lacks asked ms why place told (Striped x) (Shared y) names fit a = absurd a
+all_lacks asked ms why place told (Striped x) (Striped y) names fit a = record {
+  added = tt;
+  refused = inr (inr (record { marks = ms; names = names; fit = fit; told = a.refuses }));
+  unchanged = a.same;
+}
+
+pub all_too_large : (asked : AskedBatch) (ms : List Mark) (place : ℕ) (told : Added) (seat : AnySeat)
+    → NamesAddAll asked ms → all_fit (config_of seat) ms ≡ false
+    → ByKind {A = Result (Unit {0}) Refusal} (AnswersTriedAddAll asked place told)
+    (AnswersStripedTriedAll asked place told) seat seat (Err refusal.TooLarge)
+all_too_large asked ms place told (Shared x) names large = record {
+  added = tt;
+  refused = inl (
+    inr (record { marks = ms; names = names; too_large = large; told = refl }),
+    refl,
+  );
+  spared = inl refl;
+}
+all_too_large asked ms place told (Striped x) names large = record {
+  added = tt;
+  refused = inr (inl (record { marks = ms; names = names; too_large = large; told = refl }));
+  unchanged = refl;
+}

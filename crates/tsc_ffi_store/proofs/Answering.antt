@@ -1,40 +1,60 @@
 -- What a cache or a seat answered, in what a call wrote of it.
-use Rattle.std.proofs.Common.{◌≡◌, ◌∙◌, sym, ap, subst, List, Some}
+use Rattle.std.proofs.Common.{◌≡◌, subst, List, Some, true}
 use Rattle.tsc_time.specs.Time.{Time}
 use Rattle.tsc_time.specs.OwnedTime.{OwnedTime}
 use Rattle.tsc_span.specs.Span.{Interval}
 use Rattle.tsc_page_nodes.specs.Page.{Mark}
 use Rattle.tsc_cache.specs.declared.added.Added.{Added}
-use Rattle.tsc_cache.specs.Settings.{Settings}
-use Rattle.tsc_cache.specs.State.{CacheState, step_all}
-use Rattle.tsc_cache.specs.CacheView.{CacheView, RepresentsState}
-use Rattle.tsc_cache.specs.Batch.{AddsAll}
+use Rattle.tsc_cache.specs.Settings.{fits}
+use Rattle.tsc_cache.specs.CacheView.{CacheView, Adds}
+use Rattle.tsc_cache.specs.Batch.{AddsAll, all_fit}
+use Rattle.tsc_cache.proofs.AddsSeen.{adds_are_steps}
 use Rattle.tsc_shared.specs.declared.answers.Answer.{Answer}
 use Rattle.tsc_shared.specs.Seats.{SeatView}
 use Rattle.tsc_shared.specs.Answers.{AnswersLookup, IsAbove, TellsNoPart}
-use Rattle.tsc_ffi_store.specs.Decode.{AskedSpan, AskedBatch, lookup_span}
-use Rattle.tsc_ffi_store.specs.Marks.{AreMarks}
-use Rattle.tsc_ffi_store.specs.CacheCalls.{AddsAllIn}
+use Rattle.tsc_ffi_store.specs.Decode.{AskedSpan, AskedAdd, AskedBatch, lookup_span, NamesAdd}
+use Rattle.tsc_ffi_store.specs.Marks.{NamesAddAll}
+use Rattle.tsc_ffi_store.specs.CacheCalls.{AddsIn, AddsAllIn}
 use Rattle.tsc_ffi_store.specs.SeatCalls.{SeatLooks}
 
+pub adds_in : (cache after : CacheView) (asked : AskedAdd) (span : Interval) (value : OwnedTime)
+    (now : Time) (added told : Added) → NamesAdd asked span → fits cache.settings span ≡ true
+    → value ≡ asked.value → now ≡ asked.moment → added ≡ told
+    → Adds cache after (record { span = span; value = value }) now added
+    → AddsIn cache after asked told
+adds_in cache after asked span value now added told names fit is moment tells adds =
+    let m : Mark = record { span = span; value = asked.value } in
+    let made : Adds cache after m asked.moment told =
+    subst (λ (a : Added). Adds cache after m asked.moment a) tells
+    (subst (λ (t : Time). Adds cache after m t added) moment
+    (subst (λ (v : OwnedTime). Adds cache after (record { span = span; value = v }) now added)
+    is adds)) in
+    record {
+      span = span;
+      names = names;
+      fit = fit;
+      adds = made;
+      stands = adds_are_steps.stands cache after m asked.moment told made;
+      tells = adds_are_steps.answers cache after m asked.moment told made;
+    }
+
 pub adds_all_in : (cache after : CacheView) (asked : AskedBatch) (marks : List Mark) (now : Time)
-    (added told : Added) → AreMarks asked.keys asked.marks marks → now ≡ asked.moment → added ≡ told
+    (added told : Added) → NamesAddAll asked marks → all_fit cache.settings marks ≡ true
+    → now ≡ asked.moment → added ≡ told
     → AddsAll cache after marks now added
-    → ((settings : Settings) (s : CacheState) → RepresentsState cache settings s →
-    RepresentsState after settings (step_all settings s marks now).state)
-    → ((settings : Settings) (s : CacheState) → RepresentsState cache settings s →
-    added ≡ (step_all settings s marks now).added)
     → AddsAllIn cache after asked told
-adds_all_in cache after asked marks now added told are moment tells adds stands says = record {
-  marks = marks;
-  asked_for = are;
-  adds = subst (λ (a : Added). AddsAll cache after marks asked.moment a) tells
-      (subst (λ (t : Time). AddsAll cache after marks t added) moment adds);
-  stands = λ settings s is. subst (λ (t : Time). RepresentsState after settings
-      (step_all settings s marks t).state) moment (stands settings s is);
-  tells = λ settings s is. sym tells ∙ says settings s is ∙
-      ap (λ (t : Time). (step_all settings s marks t).added) moment;
-}
+adds_all_in cache after asked marks now added told names fit moment tells adds =
+    let all : AddsAll cache after marks asked.moment told =
+    subst (λ (a : Added). AddsAll cache after marks asked.moment a) tells
+    (subst (λ (t : Time). AddsAll cache after marks t added) moment adds) in
+    record {
+      marks = marks;
+      names = names;
+      fit = fit;
+      adds = all;
+      stands = adds_are_steps.all_stand cache after marks asked.moment told all;
+      tells = adds_are_steps.all_answer cache after marks asked.moment told all;
+    }
 
 pub seat_looks : (old new : SeatView) (asked : AskedSpan) (span : Interval) (answer : Answer)
     (v : OwnedTime) → lookup_span asked ≡ Some span → answer.value ≡ v

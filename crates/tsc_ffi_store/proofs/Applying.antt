@@ -1,15 +1,13 @@
 -- What a cache did with a summary, in what a call wrote of it.
-use Rattle.std.proofs.Common.{◌≡◌, subst}
-use Rattle.std.specs.Prelude.{Ok}
+use Rattle.std.proofs.Common.{◌≡◌, subst, true}
 use Rattle.tsc_time.specs.Time.{Time}
 use Rattle.tsc_cache.specs.declared.added.Added.{Added}
 use Rattle.tsc_cache.specs.Settings.{Settings}
 use Rattle.tsc_cache.specs.State.{CacheState, step_all}
 use Rattle.tsc_cache.specs.CacheView.{CacheView, RepresentsState}
-use Rattle.tsc_cache.specs.Batch.{AddsAll}
+use Rattle.tsc_cache.specs.Batch.{AddsAll, all_fit}
 use Rattle.timestamp_cache.specs.HandOver.{Summary, marks_told, TakesOver}
-use Rattle.timestamp_cache.specs.SummaryReading.{summary_of}
-use Rattle.tsc_ffi_store.specs.Summaries.{AskedApply, AppliesIn}
+use Rattle.tsc_ffi_store.specs.Summaries.{AskedApply, NamesSummary, AppliesIn}
 
 -- what the cache says of each state that it stands for
 abbrev pub Does : CacheView → CacheView → Summary → Time → Type 0
@@ -27,12 +25,14 @@ Takes cache told now = (settings : Settings) (s : CacheState) → RepresentsStat
     → TakesOver s (step_all settings s (marks_told told) now).state told
 
 pub applies_in : (cache after : CacheView) (asked : AskedApply) (told : Summary) (now : Time)
-    (added words : Added) → summary_of asked.bytes ≡ Ok told → now ≡ asked.moment → added ≡ words
+    (added words : Added) → NamesSummary asked told
+    → all_fit cache.settings (marks_told told) ≡ true → now ≡ asked.moment → added ≡ words
     → AddsAll cache after (marks_told told) now added → Does cache after told now
     → Says cache told now added → Takes cache told now → AppliesIn cache after asked words
-applies_in cache after asked told now added words read moment tells adds does says takes = record {
+applies_in cache after asked told now added words names fit moment tells adds does says takes = record {
   told = told;
-  read = read;
+  names = names;
+  fit = fit;
   adds = subst (λ (a : Added). AddsAll cache after (marks_told told) asked.moment a) tells
       (subst (λ (t : Time). AddsAll cache after (marks_told told) t added) moment adds);
   stands = subst (Does cache after told) moment does;

@@ -10,6 +10,7 @@ use Rattle.tsc_ffi_store.specs.declared.store.Slot.TheVariants.{Closed, Seat}
 use Rattle.tsc_ffi_store.specs.OpenHandles.{named_by, AreOpen, StandsThere, IsNotOpen, IsPlaceOf}
 use Rattle.tsc_ffi_store.specs.Store.{cache_in, cache_of, cache_at, seat_in, seat_of, seat_at}
 use Rattle.tsc_ffi_store.specs.Store.{shared_in, shared_of, shared_at}
+use Rattle.tsc_ffi_store.specs.SeatCalls.{NamesNone, NamesSome}
 use Rattle.tsc_ffi_store.proofs.OpenHandles.{named_there, named_changed, named_nowhere}
 
 -- A slot stands at the place of a handle.
@@ -74,6 +75,29 @@ pub no_shared_there : (hs : List ℕ) (ss : List Slot) (n p k : ℕ) (named : Li
 no_shared_there hs ss n p k named open_ view_is place past =
     elim (nothing_there hs ss n p k named open_ view_is place past)
     [ inl none ↦ ap shared_in none | inr closed ↦ ap shared_in closed ]
+
+-- ---- whether a handle names something
+
+pub some_named : (hs : List ℕ) (ss : List Slot) (n p k : ℕ) (e : Slot) (named : List Slot) →
+    IsThere hs ss n p k e named → e ≢ Closed → NamesSome named k
+some_named hs ss n p k e named at ne = (e, at.there, ne)
+
+pub closed_named : (hs : List ℕ) (ss : List Slot) (n p k : ℕ) (e : Slot) (named : List Slot) →
+    IsThere hs ss n p k e named → e ≡ Closed → NamesNone named k
+closed_named hs ss n p k e named at closed = (
+  ap cache_in at.there ∙ ap cache_of closed,
+  ap shared_in at.there ∙ ap shared_of closed,
+  ap seat_in at.there ∙ ap seat_of closed,
+)
+
+pub none_named : (hs : List ℕ) (ss : List Slot) (n p k : ℕ) (named : List Slot) →
+    AreOpen hs ss n → named_by hs ss n ≡ named → IsPlaceOf hs k p → length ss ≤ p →
+    NamesNone named k
+none_named hs ss n p k named open_ view_is place past = (
+  no_cache_there hs ss n p k named open_ view_is place past,
+  no_shared_there hs ss n p k named open_ view_is place past,
+  no_seat_there hs ss n p k named open_ view_is place past,
+)
 
 -- ---- what is taken
 

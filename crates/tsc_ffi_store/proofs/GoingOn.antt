@@ -19,7 +19,7 @@ pub leases_go_on : LeasesGoOn
 leases_go_on former next after last settings others h later s asked applied added inner by at
     was told
     took is within clear =
-    let same : told.told ≡ took.told = the_same told.read_back took.read in
+    let same : told.told ≡ took.told = the_same told.read_back took.names.read in
     let tells : TellsOf (state_of settings h) took.told =
     subst (λ (t : Summary). TellsOf (state_of settings h) t) same
     (told.summarizes.answers settings (state_of settings h) was) in

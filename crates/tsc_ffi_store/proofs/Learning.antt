@@ -1,6 +1,6 @@
 -- What an owner learns of seats that came back, from the tokens up to the store.
 use Rattle.std.proofs.Common.{◌≡◌, ◌⊎◌, ◌∙◌, inl, inr, refl, sym, ap, subst, Bool, true, false, true≢false, ℕ, zero, suc, ◌<◌, List, [], ◌++◌, append-nil, arith}
-use Rattle.std.specs.Prelude.{◌≢◌, Option, Some, None, slice_get, slice_set}
+use Rattle.std.specs.Prelude.{Option, Some, None, slice_get, slice_set}
 use Rattle.atomic_table.specs.Seated.{TableId}
 use Rattle.atomic_table.specs.declared.shared.Seat.{Seat as Token}
 use Rattle.tsc_ffi_store.specs.declared.seats.kinds.AnyCache.{AnyCache}

@@ -1,5 +1,5 @@
 -- The steps at the slots in which seats are returned keep their rule.
-use Rattle.std.proofs.Common.{◌≡◌, ◌≢◌, ◌⊎◌, ◌∙◌, inl, inr, refl, sym, ap, subst, true, false, true≢false, All, ℕ, zero, suc, ◌+◌, ◌<◌, List, [], ◌∷◌, ◌++◌, length, map, set, arith, slice_index, length-set, get_or-set_other, get_or-set_same, ◌≤◌, rules}
+use Rattle.std.proofs.Common.{◌≡◌, ◌≢◌, ◌⊎◌, ◌∙◌, inl, inr, refl, sym, ap, subst, true, true≢false, All, ℕ, zero, suc, ◌+◌, ◌<◌, List, [], ◌∷◌, ◌++◌, length, map, set, arith, slice_index, length-set, get_or-set_other, get_or-set_same, ◌≤◌, rules}
 use Rattle.std.specs.Prelude.{Some, None, replicate, slice_get}
 use mathlib.Core.Logic.{dite}
 use native.Mathlib.Decide.{ℕ_discrete}

@@ -43,7 +43,7 @@ asked_at keys (w ∷ ws) (s ∷ ss) (suc i) d are lt =
 none_is_some : {X : Type 0} {x : X} {o : Option X} → o ≡ None → o ≡ Some x → ⊥
 none_is_some {X} {x} {o} none some = let never : None ≡ Some x = sym none ∙ some in cc
 
-the_same : {X : Type 0} {a b : X} {o : Option X} → o ≡ Some a → o ≡ Some b → a ≡ b
+pub the_same : {X : Type 0} {a b : X} {o : Option X} → o ≡ Some a → o ≡ Some b → a ≡ b
 the_same {X} {a} {b} {o} first second = let is : Some a ≡ Some b = sym first ∙ second in cc
 
 inverted_is_none : (asked : AskedSpan) → IsInverted asked → add_span asked ≡ None

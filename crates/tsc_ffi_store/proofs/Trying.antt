@@ -1,6 +1,6 @@
 -- Why an Add was refused whose arguments are right.
 use Rattle.std.proofs.Common.{◌≡◌, ◌∙◌, refl, sym, ap, inl, inr, Bool, true, false, true≢false}
-use Rattle.std.specs.Prelude.{Err, Result, ◌↔◌, ◌⊎◌}
+use Rattle.std.specs.Prelude.{Ok, Err, Result, ◌↔◌, ◌⊎◌}
 use Rattle.tsc_cache.specs.declared.fault.CacheFault.{CacheFault}
 use Rattle.tsc_cache.specs.declared.fault.CacheFault.TheVariants as cache_fault
 use Rattle.tsc_cache.specs.declared.added.Added.{Added}
@@ -28,6 +28,11 @@ fits_else : (fit : Bool) (fault : TryAddFault) → IsTooLargeFor fit (Err fault)
     is_too_large (Err fault) ≡ false → fit ≡ true
 fits_else true fault t other = refl
 fits_else false fault t other = absurd (true≢false (sym (ap is_too_large (t.1 refl)) ∙ other))
+
+-- what was accepted fits
+pub accepted_fits : (fit : Bool) (receipt : Receipt) → IsTooLargeFor fit (Ok receipt) → fit ≡ true
+accepted_fits true receipt t = refl
+accepted_fits false receipt t = absurd (true≢false (sym (ap is_too_large (t.1 refl))))
 
 -- Why it was refused, where X says that the marks do not fit, and Y that they do.
 pub why_refused : {X Y : Type 0} (why : Refusal) (old new : SeatView) (fit : Bool)
@@ -57,6 +62,12 @@ fits_memory : (fit : Bool) (did : Result Added CacheFault) → is_large did ≡ 
     → ((did ≡ Err cache_fault.TooLarge) ↔ (fit ≡ false)) → fit ≡ true
 fits_memory true did other t = refl
 fits_memory false did other t = absurd (true≢false (sym (ap is_large (t.1 refl)) ∙ other))
+
+-- what a cache of one's own accepted fits
+pub added_fits : (fit : Bool) (added : Added)
+    → (◌≡◌ {A = Result Added CacheFault} (Ok added) (Err cache_fault.TooLarge) ↔ (fit ≡ false))
+    → fit ≡ true
+added_fits fit added t = fits_memory fit (Ok added) refl t
 
 -- Why a cache of one's own refused an Add, where X says that the marks do not fit, and Y that they
 -- do.

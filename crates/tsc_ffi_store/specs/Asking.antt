@@ -24,8 +24,9 @@ use Rattle.tsc_ffi_store.specs.declared.seats.placed.Placed.{Placed}
 use Rattle.tsc_ffi_store.specs.declared.seats.placed.Counted.{Counted}
 use Rattle.tsc_ffi_store.specs.declared.refusal.Refusal.{Refusal}
 use Rattle.tsc_ffi_store.specs.declared.refusal.Refusal.TheVariants as refusal
-use Rattle.tsc_ffi_store.specs.SeatCalls.{IsCodeOf}
+use Rattle.tsc_ffi_store.specs.SeatCalls.{IsCodeOf, RefusesTried, IsSpared}
 use Rattle.tsc_ffi_store.specs.StripedCalls.{IsStripedCode, ReadsFloors, ReadsAllFigures, LooksOn}
+use Rattle.tsc_ffi_store.specs.StripedCalls.{RefusesInStripes}
 
 -- one mark by itself
 abbrev pub one_mark : Interval → OwnedTime → List Mark
@@ -126,3 +127,12 @@ pub record AddsStriped (marks : List Mark) (now : Time) (tries : ℕ) (old new :
   pub told : Result StripedReceipt StripedFault
   pub answers : striped.AnswersTriedAdd old new marks now (Some tries) told
   pub is : IsPlacedAt old.count told did
+
+-- There is no memory for an Add: it is refused as it would be that was tried.
+pub record LacksShared (old new : SharedSeat) (why : Refusal) : Type 0 where
+  pub tried : RefusesTried why old new
+  pub spared : IsSpared old new
+
+pub record LacksStriped (old new : StripedSeat) (why : Refusal) : Type 0 where
+  pub refuses : RefusesInStripes why old
+  pub same : new ≡ old

@@ -1,5 +1,5 @@
 -- What a call makes of the cache that it names, and why it is refused.
-use Rattle.std.specs.Prelude.{◌≡◌, ◌⊎◌, ℕ, List, true, false, Option, Some, None, Result, Ok, IfOk, IfErr, IsOk, OnErr}
+use Rattle.std.specs.Prelude.{◌≡◌, ◌⊎◌, ◌+◌, ◌-◌, ◌^◌, ◌≤◌, ℕ, List, length, true, false, Option, Some, None, Result, IfOk, IfErr, IsOk, OnErr}
 use Rattle.tsc_time.specs.Time.{Time}
 use Rattle.tsc_time.specs.OwnedTime.{OwnedTime}
 use Rattle.tsc_span.specs.Span.{Interval}
@@ -15,8 +15,8 @@ use Rattle.tsc_ffi_store.specs.declared.ctypes.TscFigures.{TscFigures}
 use Rattle.tsc_ffi_store.specs.declared.refusal.Refusal.{Refusal}
 use Rattle.tsc_ffi_store.specs.declared.refusal.Refusal.TheVariants as refusal
 use Rattle.tsc_ffi_store.specs.declared.store.Slot.{Slot}
-use Rattle.tsc_ffi_store.specs.Decode.{AskedSpan, AskedAdd, AskedBatch, AskedConfig, settings_asked, add_span, lookup_span, figures_told, RefusesTime, RefusesEnds, RefusesAddSpan, RefusesConfig}
-use Rattle.tsc_ffi_store.specs.Marks.{AreMarks, RefusesMarks}
+use Rattle.tsc_ffi_store.specs.Decode.{AskedSpan, AskedAdd, AskedBatch, AskedConfig, lookup_span, figures_told, NamesAdd, NamesSettings, RefusesEnds, RefusesNamed, RefusesConfig}
+use Rattle.tsc_ffi_store.specs.Marks.{NamesAddAll, RefusesBatch}
 use Rattle.tsc_ffi_store.specs.Counts.{no_counts}
 use Rattle.tsc_ffi_store.specs.Store.{cache_at, GivesNext, RefusesHandles}
 
@@ -27,15 +27,27 @@ pub record Opens (old new : Option CountedCache) (settings : Settings) : Type 0 
   pub holds : new ≡ Some (record { cache = cache; counts = no_counts })
   pub stands : RepresentsState cache settings (opening settings)
 
+-- There are so many handles more, but no memory for what they are to name.
+abbrev pub LacksMemoryForHandles : Refusal → List Slot → ℕ → Type 0
+LacksMemoryForHandles why slots more =
+    (why ≡ refusal.NoMemory) × (length slots + more ≤ 2 ^ 64 - 1)
+
+-- All that a call says of a cache is right, and there is a handle for it, but no memory.
+pub record LacksMemoryToOpen (why : Refusal) (asked : AskedConfig) (slots : List Slot) : Type
+    0 where
+  pub settings : Settings
+  pub names : NamesSettings asked settings
+  pub lacks : LacksMemoryForHandles why slots 1
+
 -- Why no cache was opened.
 abbrev pub RefusesOpen : Refusal → AskedConfig → List Slot → Type 0
 RefusesOpen why asked slots = RefusesConfig why asked ⊎ RefusesHandles why slots 1 ⊎
-    (why ≡ refusal.NoMemory)
+    LacksMemoryToOpen why asked slots
 
 -- What a call does that opens a cache, at the next handle.
 pub record AnswersOpen {A : Type 0} (asked : AskedConfig) (handle : ℕ) (old new : List Slot)
     (did : Result A Refusal) : Type 0 where
-  pub opened : IfOk did (λ _. (settings : Settings) × (settings_asked asked ≡ Ok settings) ×
+  pub opened : IfOk did (λ _. (settings : Settings) × NamesSettings asked settings ×
       Opens (cache_at old handle) (cache_at new handle) settings)
   pub given : IfOk did (λ _. GivesNext old new handle)
   pub refused : IfErr did (λ why. RefusesOpen why asked old)
@@ -73,10 +85,11 @@ pub record AnswersAlways {A : Type 0} (Told : CountedCache → Type 0) (held : C
   pub told : Told held
   pub done : IsOk did
 
--- What an Add of the span that a call names makes of a cache.
+-- What an Add of the span that a call names makes of a cache, where the span fits a page.
 pub record AddsIn (cache after : CacheView) (asked : AskedAdd) (added : Added) : Type 0 where
   pub span : Interval
-  pub asked_for : add_span asked.span ≡ Some span
+  pub names : NamesAdd asked span
+  pub fit : fits cache.settings span ≡ true
   pub adds : Adds cache after (record { span = span; value = asked.value }) asked.moment added
   pub stands : (settings : Settings) (s : CacheState) → RepresentsState cache settings s
       → RepresentsState after settings
@@ -84,26 +97,24 @@ pub record AddsIn (cache after : CacheView) (asked : AskedAdd) (added : Added) :
   pub tells : (settings : Settings) (s : CacheState) → RepresentsState cache settings s
       → added ≡ (step settings s (record { span = span; value = asked.value }) asked.moment).added
 
--- A span that was named costs more than the largest page may have.
-pub record IsTooLarge (why : Refusal) (cache : CacheView) (asked : AskedSpan) : Type 0 where
+-- All that a call says of an Add is right, but its span costs more than the largest page may have.
+pub record IsTooLarge (why : Refusal) (settings : Settings) (asked : AskedAdd) : Type 0 where
   pub span : Interval
-  pub asked_for : add_span asked ≡ Some span
-  pub too_large : fits cache.settings span ≡ false
+  pub names : NamesAdd asked span
+  pub too_large : fits settings span ≡ false
   pub told : why ≡ refusal.TooLarge
 
--- A span that was named fits a page, but memory was refused for its Add.
-pub record LacksMemoryFor (why : Refusal) (cache : CacheView) (asked : AskedSpan) : Type 0 where
+-- All that a call says of an Add is right, and its span fits a page, but memory was refused.
+pub record LacksMemoryFor (why : Refusal) (settings : Settings) (asked : AskedAdd) : Type 0 where
   pub span : Interval
-  pub asked_for : add_span asked ≡ Some span
-  pub fit : fits cache.settings span ≡ true
+  pub names : NamesAdd asked span
+  pub fit : fits settings span ≡ true
   pub told : why ≡ refusal.NoMemory
 
 -- Why a cache refused an Add.
 abbrev pub RefusesAdd : Refusal → CacheView → AskedAdd → Type 0
-RefusesAdd why cache asked =
-    RefusesTime why asked.value.time ⊎ RefusesTime why asked.moment ⊎
-    RefusesAddSpan why asked.span ⊎ IsTooLarge why cache asked.span ⊎
-    LacksMemoryFor why cache asked.span
+RefusesAdd why cache asked = RefusesNamed why asked ⊎ IsTooLarge why cache.settings asked ⊎
+    LacksMemoryFor why cache.settings asked
 
 -- What an Add to a cache does.
 pub record AnswersAdd {A : Type 0} (asked : AskedAdd) (told : Added) (cache after : CacheView)
@@ -112,35 +123,37 @@ pub record AnswersAdd {A : Type 0} (asked : AskedAdd) (told : Added) (cache afte
   pub refused : IfErr did (λ why. RefusesAdd why cache asked)
   pub unchanged : OnErr did (after ≡ cache)
 
--- What an Add of the marks that a call names makes of a cache.
+-- What an Add of the marks that a call names makes of a cache, where the span of each fits a page.
 pub record AddsAllIn (cache after : CacheView) (asked : AskedBatch) (added : Added) : Type 0 where
   pub marks : List Mark
-  pub asked_for : AreMarks asked.keys asked.marks marks
+  pub names : NamesAddAll asked marks
+  pub fit : all_fit cache.settings marks ≡ true
   pub adds : AddsAll cache after marks asked.moment added
   pub stands : (settings : Settings) (s : CacheState) → RepresentsState cache settings s →
       RepresentsState after settings (step_all settings s marks asked.moment).state
   pub tells : (settings : Settings) (s : CacheState) → RepresentsState cache settings s →
       added ≡ (step_all settings s marks asked.moment).added
 
--- The span of a mark that was named costs more than the largest page may have.
-pub record AreTooLarge (why : Refusal) (cache : CacheView) (asked : AskedBatch) : Type 0 where
+-- All that a call says of several marks is right, but the span of one costs more than the largest
+-- page may have.
+pub record AreTooLarge (why : Refusal) (settings : Settings) (asked : AskedBatch) : Type 0 where
   pub marks : List Mark
-  pub asked_for : AreMarks asked.keys asked.marks marks
-  pub too_large : all_fit cache.settings marks ≡ false
+  pub names : NamesAddAll asked marks
+  pub too_large : all_fit settings marks ≡ false
   pub told : why ≡ refusal.TooLarge
 
--- The spans of all marks that were named fit a page, but memory was refused for their Add.
-pub record LackMemoryFor (why : Refusal) (cache : CacheView) (asked : AskedBatch) : Type 0 where
+-- All that a call says of several marks is right, and the span of each fits a page, but memory was
+-- refused.
+pub record LackMemoryFor (why : Refusal) (settings : Settings) (asked : AskedBatch) : Type 0 where
   pub marks : List Mark
-  pub asked_for : AreMarks asked.keys asked.marks marks
-  pub fit : all_fit cache.settings marks ≡ true
+  pub names : NamesAddAll asked marks
+  pub fit : all_fit settings marks ≡ true
   pub told : why ≡ refusal.NoMemory
 
 -- Why a cache refused an Add of several marks.
 abbrev pub RefusesAddAll : Refusal → CacheView → AskedBatch → Type 0
-RefusesAddAll why cache asked = RefusesTime why asked.moment ⊎
-    RefusesMarks why asked.keys asked.marks ⊎ AreTooLarge why cache asked ⊎
-    LackMemoryFor why cache asked
+RefusesAddAll why cache asked = RefusesBatch why asked ⊎ AreTooLarge why cache.settings asked ⊎
+    LackMemoryFor why cache.settings asked
 
 -- What an Add of several marks to a cache does.
 pub record AnswersAddAll {A : Type 0} (asked : AskedBatch) (told : Added) (cache after : CacheView)

@@ -1,5 +1,5 @@
 -- What the arguments of a call from C ask for, and why they are refused.
-use Rattle.std.specs.Prelude.{◌≡◌, ◌⊎◌, ◌<◌, ◌≤◌, ◌==◌, ℕ, List, length, Bool, true, false, Option, Some, None, Result, Err, if◌then◌else◌}
+use Rattle.std.specs.Prelude.{◌≡◌, ◌⊎◌, ◌<◌, ◌≤◌, ◌==◌, ℕ, List, length, Bool, true, false, Option, Some, None, Result, Ok, Err, if◌then◌else◌}
 use Rattle.tsc_time.specs.Time.{Time, is_in_range}
 use Rattle.tsc_time.specs.OwnedTime.{OwnedTime, owner_of}
 use Rattle.tsc_span.specs.declared.span.Ends.{Ends}
@@ -177,16 +177,15 @@ RefusesKey why key = (why ≡ refusal.KeyTooLong) × (longest_key < length key)
 abbrev pub IsShort : KeyBytes → Type 0
 IsShort key = length key ≤ longest_key
 
--- Two keys name a range, and neither is too long.
-abbrev pub NamesRange : KeyBytes → KeyBytes → Ends → Type 0
-NamesRange from to ends = IsShort from × IsShort to ×
-    ((span : Interval) × (range from to ends.exclude_from ends.exclude_to ≡ Some span))
+-- Two keys name this range, and neither is too long.
+abbrev pub NamesRange : KeyBytes → KeyBytes → Ends → Interval → Type 0
+NamesRange from to ends span = IsShort from × IsShort to ×
+    (range from to ends.exclude_from ends.exclude_to ≡ Some span)
 
--- Why two keys were refused for a range. No memory is asked for unless they name one.
-abbrev pub RefusesRange : Refusal → KeyBytes → KeyBytes → Ends → Type 0
-RefusesRange why from to ends = RefusesKey why from ⊎ RefusesKey why to ⊎
-    ((why ≡ refusal.Inverted) × (range from to ends.exclude_from ends.exclude_to ≡ None)) ⊎
-    ((why ≡ refusal.NoMemory) × NamesRange from to ends)
+-- Why two keys name no range.
+abbrev pub RefusesRange : Refusal → KeyBytes → KeyBytes → Type 0
+RefusesRange why from to = RefusesKey why from ⊎ RefusesKey why to ⊎
+    ((why ≡ refusal.Inverted) × (is_inverted from to ≡ true))
 
 -- Why a second key was refused, which only a range has.
 abbrev pub RefusesSecondKey : Refusal → KeyBytes → ℕ → Type 0
@@ -200,29 +199,59 @@ AreShort from to (Some Point) = IsShort from
 AreShort from to (Some (Range ends)) = IsShort from × IsShort to
 AreShort from to (Some (Onward excluded)) = IsShort from
 
--- A call names a span that may be added, for a copy of which memory is asked.
-pub record NamesAddSpan (asked : AskedSpan) : Type 0 where
-  pub short : AreShort asked.from asked.to (form_of asked.ends)
-  pub span : Interval
+-- A call names this span to be added, and none of its keys is too long.
+pub record NamesAddSpan (asked : AskedSpan) (span : Interval) : Type 0 where
   pub named : add_span asked ≡ Some span
-
--- Why a call names no span to be added, or why there is no copy of the span that it names.
-abbrev pub RefusesAddSpan : Refusal → AskedSpan → Type 0
-RefusesAddSpan why asked =
-    RefusesEnds why asked.ends ⊎ RefusesKey why asked.from ⊎
-    RefusesSecondKey why asked.to asked.ends ⊎
-    ((why ≡ refusal.Inverted) × (add_span asked ≡ None)) ⊎
-    ((why ≡ refusal.NoMemory) × NamesAddSpan asked)
+  pub short : AreShort asked.from asked.to (form_of asked.ends)
 
 -- A call names a range from a key to a smaller one.
 abbrev pub IsInverted : AskedSpan → Type 0
 IsInverted asked = (excluded : Ends) × (form_of asked.ends ≡ Some (Range excluded)) ×
     (is_inverted asked.from asked.to ≡ true)
 
+-- Why a call names no span to be added.
+abbrev pub RefusesAddSpan : Refusal → AskedSpan → Type 0
+RefusesAddSpan why asked =
+    RefusesEnds why asked.ends ⊎ RefusesKey why asked.from ⊎
+    RefusesSecondKey why asked.to asked.ends ⊎ ((why ≡ refusal.Inverted) × IsInverted asked)
+
+-- Two keys name a range, but there is no memory for a copy of them.
+pub record LacksRangeCopy (why : Refusal) (from to : KeyBytes) (ends : Ends) : Type 0 where
+  pub span : Interval
+  pub names : NamesRange from to ends span
+  pub told : why ≡ refusal.NoMemory
+
+-- A call names a span, but there is no memory for a copy of its keys.
+pub record LacksCopy (why : Refusal) (asked : AskedSpan) : Type 0 where
+  pub span : Interval
+  pub names : NamesAddSpan asked span
+  pub told : why ≡ refusal.NoMemory
+
+-- Why there is no copy of the span that a call names.
+abbrev pub RefusesCopy : Refusal → AskedSpan → Type 0
+RefusesCopy why asked = RefusesAddSpan why asked ⊎ LacksCopy why asked
+
+-- All that a call says of an Add is right: its times are in range, and it names this span.
+pub record NamesAdd (asked : AskedAdd) (span : Interval) : Type 0 where
+  pub value_time : is_in_range asked.value.time ≡ true
+  pub moment : is_in_range asked.moment ≡ true
+  pub names : NamesAddSpan asked.span span
+
+-- Why what a call says of an Add is wrong.
+abbrev pub RefusesNamed : Refusal → AskedAdd → Type 0
+RefusesNamed why asked =
+    RefusesTime why asked.value.time ⊎ RefusesTime why asked.moment ⊎
+    RefusesAddSpan why asked.span
+
 -- Why a call names no span to be written, whose keys may be of any length.
 abbrev pub RefusesWrittenSpan : Refusal → AskedSpan → Type 0
 RefusesWrittenSpan why asked = RefusesEnds why asked.ends ⊎
     ((why ≡ refusal.Inverted) × IsInverted asked)
+
+-- A call names these settings, and the time of its low water is in range.
+pub record NamesSettings (asked : AskedConfig) (settings : Settings) : Type 0 where
+  pub low_water : is_in_range asked.low_water ≡ true
+  pub named : settings_asked asked ≡ Ok settings
 
 -- Why settings were refused.
 abbrev pub RefusesSettings : Refusal → ConfigFault → Type 0

@@ -1,6 +1,6 @@
 -- The kinds of caches that threads share, and of their seats: what is said of each by itself.
 use Rattle.std.specs.Prelude.{◌≡◌, ℕ, zero, suc, List, [], ◌∷◌, length}
-use Rattle.tsc_cache.specs.History.{History}
+use Rattle.tsc_cache.specs.Settings.{Settings}
 use Rattle.tsc_shared.specs.Seats.{SeatView as SharedSeat, new_seat as new_shared, IsSeat as IsShared}
 use Rattle.tsc_striped.specs.Seats.{SeatView as StripedSeat, new_seat as new_striped}
 use Rattle.tsc_striped.specs.Seats.{IsSeat as IsStriped}
@@ -18,6 +18,11 @@ seats_of (cache.Striped c) = c.terms.seats
 abbrev pub cache_of : AnySeat → AnyCache
 cache_of (Shared s) = cache.Shared s.cache
 cache_of (Striped s) = cache.Striped s.cache
+
+-- how the cache of a seat was set up
+abbrev pub config_of : AnySeat → Settings
+config_of (Shared s) = s.cache.config
+config_of (Striped s) = s.cache.terms.config
 
 abbrev pub number_of : AnySeat → ℕ
 number_of (Shared s) = s.number

@@ -1,27 +1,31 @@
 -- The marks that an array from C asks for. Their keys lie among bytes that come with it.
-use Rattle.std.specs.Prelude.{◌≡◌, ◌⊎◌, ◌-◌, ◌&&◌, ℕ, List, [], ◌∷◌, length, take, drop, nat_le, Option, Some, None, if◌then◌else◌}
+use Rattle.std.specs.Prelude.{◌≡◌, ◌⊎◌, ◌-◌, ◌&&◌, ℕ, List, [], ◌∷◌, length, take, drop, nat_le, Bool, true, Option, Some, None, if◌then◌else◌}
 use Rattle.std.specs.List.{Contains}
+use Rattle.tsc_time.specs.Time.{is_in_range}
 use Rattle.tsc_span.specs.Span.{KeyBytes}
 use Rattle.tsc_page_nodes.specs.Page.{Mark}
+use Rattle.tsc_cache.specs.Settings.{Settings}
+use Rattle.tsc_cache.specs.Batch.{all_fit}
 use Rattle.tsc_ffi_store.specs.declared.ctypes.TscMark.{TscMark}
 use Rattle.tsc_ffi_store.specs.declared.refusal.Refusal.{Refusal}
 use Rattle.tsc_ffi_store.specs.declared.refusal.Refusal.TheVariants as refusal
-use Rattle.tsc_ffi_store.specs.Decode.{value_of, add_span, RefusesTime, RefusesAddSpan}
+use Rattle.tsc_ffi_store.specs.Decode.{AskedBatch, span_asked, value_of, NamesAddSpan, RefusesTime, RefusesAddSpan}
 
 -- a part of some bytes, from an index on and of a length, where it lies within them
 abbrev pub part_of : List ℕ → ℕ → ℕ → Option KeyBytes
 part_of keys at len = if nat_le at (length keys) &&
     nat_le len (length keys - at) then Some (take len (drop at keys)) else None
 
--- A mark is the one that some words ask for: both of its keys are parts of the bytes, and its span
--- and its value are those of the words.
+-- A mark is the one that some words ask for: both of its keys are parts of the bytes, its span and
+-- its value are those of the words, and the time is in range.
 pub record IsMark (keys : List ℕ) (words : TscMark) (m : Mark) : Type 0 where
   pub from : KeyBytes
   pub to : KeyBytes
   pub from_lies : part_of keys words.from_at words.from_len ≡ Some from
   pub to_lies : part_of keys words.to_at words.to_len ≡ Some to
-  pub span : add_span (record { from = from; to = to; ends = words.ends }) ≡ Some m.span
+  pub names : NamesAddSpan (span_asked from to words.ends) m.span
   pub value : m.value ≡ value_of words.value
+  pub time : is_in_range (value_of words.value).time ≡ true
 
 -- Marks are those that an array asks for: as many, in their order.
 abbrev pub AreMarks : List ℕ → List TscMark → List Mark → Type 0
@@ -40,7 +44,7 @@ pub record RefusesMarkSpan (why : Refusal) (keys : List ℕ) (words : TscMark) :
   pub to : KeyBytes
   pub from_lies : part_of keys words.from_at words.from_len ≡ Some from
   pub to_lies : part_of keys words.to_at words.to_len ≡ Some to
-  pub refused : RefusesAddSpan why (record { from = from; to = to; ends = words.ends })
+  pub refused : RefusesAddSpan why (span_asked from to words.ends)
 
 -- Why a mark was refused.
 abbrev pub RefusesMark : Refusal → List ℕ → TscMark → Type 0
@@ -49,7 +53,24 @@ RefusesMark why keys words =
     RefusesPart why keys words.from_at words.from_len ⊎
     RefusesPart why keys words.to_at words.to_len ⊎ RefusesMarkSpan why keys words
 
--- Why an array of marks was refused: one of them is, or there was no memory for all.
+-- Why an array of marks was refused: one of them is.
 abbrev pub RefusesMarks : Refusal → List ℕ → List TscMark → Type 0
-RefusesMarks why keys ws = (why ≡ refusal.NoMemory) ⊎
-    ((w : TscMark) × Contains ws w × RefusesMark why keys w)
+RefusesMarks why keys ws = (w : TscMark) × Contains ws w × RefusesMark why keys w
+
+-- An array asks for marks, of which all fit a page, or not all.
+pub record AskForMarks (settings : Settings) (keys : List ℕ) (ws : List TscMark) (fit : Bool) : Type
+    0 where
+  pub marks : List Mark
+  pub are : AreMarks keys ws marks
+  pub fit_is : all_fit settings marks ≡ fit
+
+-- All that a call says of an Add of several marks is right: its moment is in range, and it names
+-- these.
+pub record NamesAddAll (asked : AskedBatch) (marks : List Mark) : Type 0 where
+  pub moment : is_in_range asked.moment ≡ true
+  pub are : AreMarks asked.keys asked.marks marks
+
+-- Why what a call says of several marks is wrong.
+abbrev pub RefusesBatch : Refusal → AskedBatch → Type 0
+RefusesBatch why asked =
+    RefusesTime why asked.moment ⊎ RefusesMarks why asked.keys asked.marks

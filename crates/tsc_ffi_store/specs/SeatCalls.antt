@@ -1,5 +1,5 @@
 -- What a call makes of a shared cache, or of the seat that it names, and why it is refused.
-use Rattle.std.specs.Prelude.{◌≡◌, ◌≢◌, ◌⊎◌, ◌++◌, ◌∷◌, ◌+◌, ◌<◌, ℕ, List, [], map, length, slice_get, slice_set, true, false, Option, Some, None, Result, Ok, Err, IfOk, IfErr, IsOk, OnErr}
+use Rattle.std.specs.Prelude.{◌≡◌, ◌≢◌, ◌⊎◌, ◌++◌, ◌∷◌, ◌+◌, ◌<◌, ℕ, List, [], map, length, slice_get, slice_set, true, false, Option, Some, None, Result, Err, IfOk, IfErr, IsOk, OnErr}
 use Rattle.tsc_time.specs.Time.{Time}
 use Rattle.tsc_time.specs.OwnedTime.{OwnedTime}
 use Rattle.tsc_span.specs.Span.{Interval}
@@ -19,8 +19,9 @@ use Rattle.tsc_ffi_store.specs.declared.refusal.Refusal.{Refusal}
 use Rattle.tsc_ffi_store.specs.declared.refusal.Refusal.TheVariants as refusal
 use Rattle.tsc_ffi_store.specs.declared.store.Slot.{Slot}
 use Rattle.tsc_ffi_store.specs.declared.store.Slot.TheVariants.{Closed, Shared, Seat}
-use Rattle.tsc_ffi_store.specs.Decode.{AskedSpan, AskedAdd, AskedBatch, AskedConfig, settings_asked, add_span, lookup_span, figures_told, RefusesTime, RefusesEnds, RefusesAddSpan, RefusesConfig}
-use Rattle.tsc_ffi_store.specs.Marks.{AreMarks, RefusesMarks}
+use Rattle.tsc_ffi_store.specs.Decode.{AskedSpan, AskedAdd, AskedBatch, AskedConfig, lookup_span, figures_told, NamesAdd, NamesSettings, RefusesEnds, RefusesNamed, RefusesConfig}
+use Rattle.tsc_ffi_store.specs.Marks.{NamesAddAll, RefusesBatch}
+use Rattle.tsc_ffi_store.specs.CacheCalls.{IsTooLarge, AreTooLarge, LacksMemoryForHandles}
 use Rattle.tsc_ffi_store.specs.declared.counts.CountedSeat.{CountedSeat}
 use Rattle.tsc_ffi_store.specs.declared.counts.Counts.{Counts}
 use Rattle.tsc_ffi_store.specs.declared.seats.kinds.AnySeat.{AnySeat}
@@ -49,17 +50,29 @@ pub record OpensShared (old new : List Slot) (handle : ℕ) (settings : Settings
 abbrev pub RefusesSeats : Refusal → ℕ → Type 0
 RefusesSeats why count = (why ≡ refusal.Seats) × (is_seat_count count ≡ false)
 
--- A shared cache may have `count` seats, but there is no memory for them.
-abbrev pub RefusesRoom : Refusal → ℕ → Type 0
-RefusesRoom why count = (why ≡ refusal.NoMemory) × (is_seat_count count ≡ true)
+-- A shared cache may have `count` seats, and there are handles for them, but no memory.
+abbrev pub LacksMemoryForSeats : Refusal → ℕ → List Slot → Type 0
+LacksMemoryForSeats why count slots =
+    (is_seat_count count ≡ true) × LacksMemoryForHandles why slots (count + 1)
+
+-- All that a call says of a shared cache is right, and there are handles for it, but no memory.
+pub record LacksMemoryToShare (why : Refusal) (asked : AskedConfig) (count : ℕ)
+    (slots : List Slot) : Type 0 where
+  pub settings : Settings
+  pub names : NamesSettings asked settings
+  pub lacks : LacksMemoryForSeats why count slots
+
+-- Why no shared cache was opened.
+abbrev pub RefusesOpenShared : Refusal → AskedConfig → ℕ → List Slot → Type 0
+RefusesOpenShared why asked count slots = RefusesConfig why asked ⊎ RefusesSeats why count ⊎
+    RefusesHandles why slots (count + 1) ⊎ LacksMemoryToShare why asked count slots
 
 -- What a call does that opens a shared cache, at the next handle.
 pub record AnswersOpenShared {A : Type 0} (asked : AskedConfig) (count limit handle : ℕ)
     (old new : List Slot) (did : Result A Refusal) : Type 0 where
-  pub opened : IfOk did (λ _. (settings : Settings) × (settings_asked asked ≡ Ok settings) ×
+  pub opened : IfOk did (λ _. (settings : Settings) × NamesSettings asked settings ×
       OpensShared old new handle settings count limit)
-  pub refused : IfErr did (λ why. RefusesConfig why asked ⊎ RefusesSeats why count ⊎
-      RefusesHandles why old (count + 1) ⊎ RefusesRoom why count)
+  pub refused : IfErr did (λ why. RefusesOpenShared why asked count old)
   pub unchanged : OnErr did (new ≡ old)
 
 -- What the cache of a seat answers to the span that a call names: by all that the seat has seen
@@ -108,19 +121,21 @@ pub record SeatAccepts (old new : SeatView) (marks : List Mark) (now : Time) (pl
   pub place_is : place ≡ receipt.place
   pub added_is : added ≡ receipt.added
 
--- What an Add of the span that a call names makes of a seat.
+-- What an Add of the span that a call names makes of a seat, where the span fits a page.
 pub record SeatAdds (old new : SeatView) (asked : AskedAdd) (place : ℕ) (added : Added) : Type
     0 where
   pub span : Interval
-  pub asked_for : add_span asked.span ≡ Some span
+  pub names : NamesAdd asked span
+  pub fit : fits old.cache.config span ≡ true
   pub accepted : SeatAccepts old new (record { span = span; value = asked.value } ∷ []) asked.moment
       place added
 
--- What an Add of the marks that a call names makes of a seat.
+-- What an Add of the marks that a call names makes of a seat, where the span of each fits a page.
 pub record SeatAddsAll (old new : SeatView) (asked : AskedBatch) (place : ℕ) (added : Added) : Type
     0 where
   pub marks : List Mark
-  pub asked_for : AreMarks asked.keys asked.marks marks
+  pub names : NamesAddAll asked marks
+  pub fit : all_fit old.cache.config marks ≡ true
   pub accepted : SeatAccepts old new marks asked.moment place added
 
 -- What a refused Add leaves: a seat that counts as many Adds as before, and may have seen more.
@@ -160,32 +175,22 @@ IsCodeOf (Refused (HistoryFull front)) why = why ≡ refusal.Full
 IsCodeOf (Refused NoMemory) why = why ≡ refusal.NoMemory
 IsCodeOf (Refused TooLarge) why = why ≡ refusal.TooLarge
 
--- A span that was named costs more than the largest page may have. The seat is as it was.
-pub record IsSeatTooLarge (why : Refusal) (old new : SeatView) (asked : AskedSpan) : Type 0 where
+-- All that a call says of an Add is right, and its span fits a page. It was refused for a reason
+-- that lies with the cache, or for memory.
+pub record RefusesFitting (why : Refusal) (old new : SeatView) (asked : AskedAdd) : Type 0 where
   pub span : Interval
-  pub asked_for : add_span asked ≡ Some span
-  pub too_large : fits old.cache.config span ≡ false
-  pub told : why ≡ refusal.TooLarge
-  pub same : new ≡ old
-
--- A span that was named fits a page, and its Add was tried.
-pub record RefusesFitting (why : Refusal) (old new : SeatView) (asked : AskedSpan) : Type 0 where
-  pub span : Interval
-  pub asked_for : add_span asked ≡ Some span
+  pub names : NamesAdd asked span
   pub fit : fits old.cache.config span ≡ true
   pub told : RefusesTried why old new
 
--- What a call says of an Add was refused before the seat was asked.
-abbrev pub RefusesNamed : Refusal → AskedAdd → Type 0
-RefusesNamed why asked =
-    RefusesTime why asked.value.time ⊎ RefusesTime why asked.moment ⊎
-    RefusesAddSpan why asked.span
+-- An Add was refused before the seat was asked: what the call says of it is wrong, or too large.
+abbrev pub RefusesUntried : Refusal → SeatView → AskedAdd → Type 0
+RefusesUntried why seat asked = RefusesNamed why asked ⊎ IsTooLarge why seat.cache.config asked
 
 -- Why an Add at a seat was refused.
 abbrev pub RefusesSeatAdd : Refusal → SeatView → SeatView → AskedAdd → Type 0
 RefusesSeatAdd why old new asked =
-    (RefusesNamed why asked × (new ≡ old)) ⊎ IsSeatTooLarge why old new asked.span ⊎
-    RefusesFitting why old new asked.span
+    (RefusesUntried why old asked × (new ≡ old)) ⊎ RefusesFitting why old new asked
 
 -- What an Add at a seat does that may be tried.
 pub record AnswersTriedAdd {A : Type 0} (asked : AskedAdd) (place : ℕ) (told : Added)
@@ -206,33 +211,24 @@ pub record AnswersSeatAdd {A : Type 0} (asked : AskedAdd) (tries place : ℕ) (t
   pub no_tries : tries ≡ 0 → RefusesNoTries old new did
   pub tried : tries ≢ 0 → AnswersTriedAdd asked place told old new did
 
--- The span of a mark that was named costs more than the largest page may have. The seat is as it
--- was.
-pub record AreSeatTooLarge (why : Refusal) (old new : SeatView) (asked : AskedBatch) : Type 0 where
-  pub marks : List Mark
-  pub asked_for : AreMarks asked.keys asked.marks marks
-  pub too_large : all_fit old.cache.config marks ≡ false
-  pub told : why ≡ refusal.TooLarge
-  pub same : new ≡ old
-
--- The spans of all marks that were named fit a page, and their Add was tried.
+-- All that a call says of several marks is right, and the span of each fits a page. They were
+-- refused for a reason that lies with the cache, or for memory.
 pub record RefusesAllFitting (why : Refusal) (old new : SeatView) (asked : AskedBatch) : Type
     0 where
   pub marks : List Mark
-  pub asked_for : AreMarks asked.keys asked.marks marks
+  pub names : NamesAddAll asked marks
   pub fit : all_fit old.cache.config marks ≡ true
   pub told : RefusesTried why old new
 
--- What a call says of several marks was refused before the seat was asked.
-abbrev pub RefusesBatch : Refusal → AskedBatch → Type 0
-RefusesBatch why asked =
-    RefusesTime why asked.moment ⊎ RefusesMarks why asked.keys asked.marks
+-- Several marks were refused before the seat was asked: what the call says of them is wrong, or one
+-- is too large.
+abbrev pub RefusesAllUntried : Refusal → SeatView → AskedBatch → Type 0
+RefusesAllUntried why seat asked = RefusesBatch why asked ⊎ AreTooLarge why seat.cache.config asked
 
 -- Why an Add of several marks at a seat was refused.
 abbrev pub RefusesSeatAddAll : Refusal → SeatView → SeatView → AskedBatch → Type 0
 RefusesSeatAddAll why old new asked =
-    (RefusesBatch why asked × (new ≡ old)) ⊎ AreSeatTooLarge why old new asked ⊎
-    RefusesAllFitting why old new asked
+    (RefusesAllUntried why old asked × (new ≡ old)) ⊎ RefusesAllFitting why old new asked
 
 -- What an Add of several marks at a seat does that may be tried.
 pub record AnswersTriedAddAll {A : Type 0} (asked : AskedBatch) (place : ℕ) (told : Added)
@@ -262,10 +258,15 @@ abbrev pub NamesNone : List Slot → ℕ → Type 0
 NamesNone slots handle = (cache_at slots handle ≡ None) × (shared_at slots handle ≡ None) ×
     (seat_at slots handle ≡ None)
 
+-- A handle names something.
+abbrev pub NamesSome : List Slot → ℕ → Type 0
+NamesSome slots handle = (slot : Slot) × (slice_get slots handle ≡ Some slot) × (slot ≢ Closed)
+
 -- Why nothing was moved.
 abbrev pub RefusesMove : Refusal → List Slot → List Slot → ℕ → Type 0
 RefusesMove why slots other handle = ((why ≡ refusal.Closed) × NamesNone slots handle) ⊎
-    RefusesHandles why other 1 ⊎ (why ≡ refusal.NoMemory)
+    RefusesHandles why other 1 ⊎
+    (NamesSome slots handle × LacksMemoryForHandles why other 1)
 
 -- What a call does that moves what a handle names.
 pub record AnswersMove {A : Type 0} (handle m : ℕ) (from to from' to' : List Slot)

@@ -1,5 +1,5 @@
 -- What a call makes of a cache in stripes, or of a seat of one, and why it is refused.
-use Rattle.std.specs.Prelude.{◌≡◌, ◌≢◌, ◌⊎◌, ◌++◌, ◌∷◌, ◌+◌, ◌-◌, ◌<◌, ◌^◌, ℕ, zero, suc}
+use Rattle.std.specs.Prelude.{◌≡◌, ◌≢◌, ◌⊎◌, ◌++◌, ◌∷◌, ◌+◌, ◌-◌, ◌<◌, ◌≤◌, ◌^◌, ℕ, zero, suc}
 use Rattle.std.specs.Prelude.{List, [], map, length, true, false, Bool, Option, Some, None}
 use Rattle.std.specs.Prelude.{Result, Ok, Err, IfOk, IfErr, IsOk, OnErr, IsTrue, ◌↔◌}
 use Rattle.std.specs.List.{sum_by, concat, Contains}
@@ -10,7 +10,8 @@ use Rattle.tsc_page_nodes.specs.Page.{Mark}
 use Rattle.tsc_cache.specs.declared.added.Added.{Added}
 use Rattle.tsc_cache.specs.declared.figures.Figures.{Figures}
 use Rattle.tsc_cache.specs.Counts.{up_to_end}
-use Rattle.tsc_cache.specs.Settings.{Settings}
+use Rattle.tsc_cache.specs.Settings.{Settings, fits}
+use Rattle.tsc_cache.specs.Batch.{all_fit}
 use Rattle.tsc_stripe_table.specs.Stripes.{stripe_count}
 use Rattle.tsc_striped.specs.declared.answers.Receipt.{Receipt}
 use Rattle.tsc_striped.specs.declared.answers.OpenFault.{OpenFault}
@@ -32,19 +33,20 @@ use Rattle.tsc_ffi_store.specs.declared.ctypes.TscFigures.{TscFigures}
 use Rattle.tsc_ffi_store.specs.declared.counts.Counts.{Counts}
 use Rattle.tsc_ffi_store.specs.declared.refusal.Refusal.{Refusal}
 use Rattle.tsc_ffi_store.specs.declared.refusal.Refusal.TheVariants as refusal
-use Rattle.tsc_ffi_store.specs.Decode.{AskedSpan, AskedAdd, AskedBatch, add_span, lookup_span}
-use Rattle.tsc_ffi_store.specs.Decode.{figures_told, RefusesTime, RefusesEnds, RefusesAddSpan}
-use Rattle.tsc_ffi_store.specs.Marks.{AreMarks}
+use Rattle.tsc_ffi_store.specs.Decode.{AskedSpan, AskedAdd, AskedBatch, lookup_span}
+use Rattle.tsc_ffi_store.specs.Decode.{NamesAdd, NamesAddSpan, figures_told, RefusesEnds, RefusesNamed}
+use Rattle.tsc_ffi_store.specs.Marks.{NamesAddAll, RefusesBatch}
+use Rattle.tsc_ffi_store.specs.CacheCalls.{IsTooLarge, AreTooLarge}
 use Rattle.tsc_ffi_store.specs.Writes.{AskedWrite, AsksWriteOf, RefusesWrite}
 use Rattle.tsc_ffi_store.specs.Summaries.{AskedSummary, RefusesSummary}
 use Rattle.tsc_ffi_store.specs.declared.store.Slot.{Slot}
 use Rattle.tsc_ffi_store.specs.declared.store.Slot.TheVariants.{Shared, Seat}
-use Rattle.tsc_ffi_store.specs.Decode.{AskedConfig, settings_asked, RefusesConfig}
+use Rattle.tsc_ffi_store.specs.Decode.{AskedConfig, NamesSettings, RefusesConfig}
 use Rattle.tsc_ffi_store.specs.Store.{RefusesHandles}
 use Rattle.tsc_ffi_store.specs.Owners.{OwnerView, handle_of, IsStriped}
 use Rattle.tsc_ffi_store.specs.declared.counts.CountedSeat.{CountedSeat}
 use Rattle.tsc_ffi_store.specs.Counts.{CountsNothing}
-use Rattle.tsc_ffi_store.specs.SeatCalls.{unasked, AnswersSeatFigures, RefusesNamed, RefusesBatch}
+use Rattle.tsc_ffi_store.specs.SeatCalls.{unasked, AnswersSeatFigures}
 use Rattle.tsc_ffi_store.specs.Kinds.{ByKind, new_any_seats}
 
 -- ---- opening
@@ -60,13 +62,21 @@ pub record IsOneTooLong (lens : List ℕ) : Type 0 where
   pub there : Contains lens one
   pub long : longest_key < one
 
--- Why bytes and lengths name no bounds: there are too many, or the lengths do not use up the bytes,
--- or one is too long, or memory was refused.
-abbrev pub RefusesBounds : Refusal → List ℕ → List ℕ → Type 0
-RefusesBounds why keys lens =
+-- There are not too many lengths, and they use up the bytes.
+pub record UseUp (keys lens : List ℕ) : Type 0 where
+  pub few : length lens < most_stripes
+  pub whole : sum_by (λ n. n) lens ≡ length keys
+
+-- Why they do not: there are too many, or they come to something else.
+abbrev pub RefusesLengths : Refusal → List ℕ → List ℕ → Type 0
+RefusesLengths why keys lens =
     ((why ≡ refusal.Stripes) × (length lens < most_stripes → ⊥))
     ⊎ ((why ≡ refusal.Outside) × (sum_by (λ n. n) lens ≢ length keys))
-    ⊎ ((why ≡ refusal.KeyTooLong) × IsOneTooLong lens) ⊎ (why ≡ refusal.NoMemory)
+
+-- Why there are no copies of the bounds: one is too long, or memory was refused. Whether a later
+-- one is too long, or not above the one before it, is not known then.
+abbrev pub RefusesBounds : Refusal → List ℕ → Type 0
+RefusesBounds why lens = ((why ≡ refusal.KeyTooLong) × IsOneTooLong lens) ⊎ (why ≡ refusal.NoMemory)
 
 -- why no cache is opened, and what C is told
 abbrev pub IsOpenCode : OpenFault → Refusal → Type 0
@@ -106,20 +116,32 @@ pub record OpensStriped (old new : List Slot) (handle : ℕ) (settings : Setting
 abbrev pub RefusesNoSeats : Refusal → ℕ → Type 0
 RefusesNoSeats why count = (why ≡ refusal.Seats) × (count ≡ 0)
 
+-- Why a call names no cache in stripes, as far as its numbers tell.
+abbrev pub RefusesNumbers : Refusal → ℕ → List ℕ → List ℕ → Type 0
+RefusesNumbers why count keys lens = RefusesNoSeats why count ⊎ RefusesLengths why keys lens
+
+-- There is some seat, the lengths use up the bytes, and there are handles for all. But the bounds
+-- were refused, or the cache.
+pub record RefusesStripesOf (why : Refusal) (old : List Slot) (settings : Settings) (count : ℕ)
+    (keys lens : List ℕ) : Type 0 where
+  pub some : 0 < count
+  pub use_up : UseUp keys lens
+  pub handles : length old + (count + 1) ≤ 2 ^ 64 - 1
+  pub refused : RefusesBounds why lens ⊎ RefusesStripes why settings keys lens
+
 -- Why a cache in stripes with these settings was not opened.
 abbrev pub RefusesOpenStriped : Refusal → List Slot → Settings → ℕ → List ℕ → List ℕ → Type 0
 RefusesOpenStriped why old settings count keys lens =
-    RefusesNoSeats why count ⊎ RefusesBounds why keys lens
-    ⊎ RefusesStripes why settings keys lens ⊎ RefusesHandles why old (count + 1)
+    RefusesNumbers why count keys lens ⊎ RefusesHandles why old (count + 1)
+    ⊎ RefusesStripesOf why old settings count keys lens
 
 -- What a call does that opens a cache in stripes, at the next handle.
 pub record AnswersOpenStriped {A : Type 0} (asked : AskedConfig) (count : ℕ) (keys lens : List ℕ)
     (handle : ℕ) (old new : List Slot) (did : Result A Refusal) : Type 0 where
-  pub opened : IfOk did (λ _. (settings : Settings) × (settings_asked asked ≡ Ok settings) ×
+  pub opened : IfOk did (λ _. (settings : Settings) × NamesSettings asked settings ×
       OpensStriped old new handle settings count keys lens)
   pub refused : IfErr did (λ why. RefusesConfig why asked ⊎ ((settings : Settings) ×
-      (settings_asked asked ≡ Ok settings) × RefusesOpenStriped why old settings count keys lens)
-      ⊎ (why ≡ refusal.NoMemory))
+      NamesSettings asked settings × RefusesOpenStriped why old settings count keys lens))
   pub unchanged : OnErr did (new ≡ old)
 
 -- ---- lookups
@@ -245,61 +267,89 @@ IsStripedCode tried.Busy why = why ≡ refusal.Busy
 IsStripedCode (tried.Refused fault.SeatFull) why = why ≡ refusal.Full
 IsStripedCode (tried.Refused fault.NoMemory) why = why ≡ refusal.NoMemory
 
--- What an Add of the span that a call names makes of a seat.
+-- What an Add of the span that a call names makes of a seat, where the span fits a page.
 pub record StripedAdds (old new : SeatView) (asked : AskedAdd) (place : ℕ) (added : Added) : Type
     0 where
   pub span : Interval
-  pub asked_for : add_span asked.span ≡ Some span
+  pub names : NamesAdd asked span
+  pub fit : fits old.cache.terms.config span ≡ true
   pub accepted : StripedAccepts old new (record { span = span; value = asked.value } ∷ [])
       asked.moment place added
 
--- What an Add of the marks that a call names makes of a seat.
+-- What an Add of the marks that a call names makes of a seat, where the span of each fits a page.
 pub record StripedAddsAll (old new : SeatView) (asked : AskedBatch) (place : ℕ) (added : Added) :
     Type 0 where
   pub marks : List Mark
-  pub asked_for : AreMarks asked.keys asked.marks marks
+  pub names : NamesAddAll asked marks
+  pub fit : all_fit old.cache.terms.config marks ≡ true
   pub accepted : StripedAccepts old new marks asked.moment place added
 
--- What an Add at a seat does that may be tried. Where it is refused the seat is as it was: what was
--- named is refused by this, or else the cache did.
-pub record AnswersStripedTried {A : Type 0} (Adds : ℕ → Added → Type 0) (Names : Refusal → Type 0)
-    (place : ℕ) (told : Added) (old new : SeatView) (did : Result A Refusal) : Type 0 where
+-- All that a call says of an Add is right, and its span fits a page. It was refused for a reason
+-- that lies with the cache, or for memory.
+pub record FitsInStripes (why : Refusal) (old : SeatView) (asked : AskedAdd) : Type 0 where
+  pub span : Interval
+  pub names : NamesAdd asked span
+  pub fit : fits old.cache.terms.config span ≡ true
+  pub told : RefusesInStripes why old
+
+-- Why an Add at a seat was refused.
+abbrev pub RefusesStripedAdd : Refusal → SeatView → AskedAdd → Type 0
+RefusesStripedAdd why old asked = RefusesNamed why asked
+    ⊎ IsTooLarge why old.cache.terms.config asked ⊎ FitsInStripes why old asked
+
+-- All that a call says of several marks is right, and the span of each fits a page. They were
+-- refused for a reason that lies with the cache, or for memory.
+pub record AllFitInStripes (why : Refusal) (old : SeatView) (asked : AskedBatch) : Type 0 where
+  pub marks : List Mark
+  pub names : NamesAddAll asked marks
+  pub fit : all_fit old.cache.terms.config marks ≡ true
+  pub told : RefusesInStripes why old
+
+-- Why an Add of several marks at a seat was refused.
+abbrev pub RefusesStripedAddAll : Refusal → SeatView → AskedBatch → Type 0
+RefusesStripedAddAll why old asked = RefusesBatch why asked
+    ⊎ AreTooLarge why old.cache.terms.config asked ⊎ AllFitInStripes why old asked
+
+-- What an Add at a seat does that may be tried. Where it is refused the seat is as it was.
+pub record AnswersStripedTried {A : Type 0} (Adds : ℕ → Added → Type 0)
+    (Refuses : Refusal → Type 0) (place : ℕ) (told : Added) (old new : SeatView)
+    (did : Result A Refusal) : Type 0 where
   pub added : IfOk did (λ _. Adds place told)
-  pub refused : IfErr did (λ why. Names why ⊎ RefusesInStripes why old)
+  pub refused : IfErr did (λ why. Refuses why)
   pub unchanged : OnErr did (new ≡ old)
 
 -- Without tries an Add is refused by name, before all else that it names is read.
 pub record AnswersStripedAdding {A : Type 0} (Adds : SeatView → SeatView → ℕ → Added → Type 0)
-    (Names : Refusal → Type 0) (tries place : ℕ) (told : Added) (old new : SeatView)
+    (Refuses : Refusal → Type 0) (tries place : ℕ) (told : Added) (old new : SeatView)
     (did : Result A Refusal) : Type 0 where
   pub no_tries : tries ≡ 0 → (did ≡ Err refusal.Tries) × (new ≡ old)
-  pub tried : tries ≢ 0 → AnswersStripedTried (Adds old new) Names place told old new did
+  pub tried : tries ≢ 0 → AnswersStripedTried (Adds old new) Refuses place told old new did
 
 abbrev pub AnswersStripedTriedAdd : {A : Type 0} → AskedAdd → ℕ → Added → SeatView → SeatView
     → Result A Refusal → Type 0
 AnswersStripedTriedAdd asked place told old new did =
-    AnswersStripedTried (StripedAdds old new asked) (λ why. RefusesNamed why asked) place told old
-    new did
+    AnswersStripedTried (StripedAdds old new asked) (λ why. RefusesStripedAdd why old asked) place
+    told old new did
 
 abbrev pub AnswersStripedTriedAll : {A : Type 0} → AskedBatch → ℕ → Added → SeatView → SeatView
     → Result A Refusal → Type 0
 AnswersStripedTriedAll asked place told old new did =
-    AnswersStripedTried (StripedAddsAll old new asked) (λ why. RefusesBatch why asked) place told
-    old new did
+    AnswersStripedTried (StripedAddsAll old new asked) (λ why. RefusesStripedAddAll why old asked)
+    place told old new did
 
 -- What an Add of a span at a seat does. It is refused for its tries just where they are 0.
 abbrev pub AnswersStripedAdd : {A : Type 0} → AskedAdd → ℕ → ℕ → Added → SeatView → SeatView
     → Result A Refusal → Type 0
 AnswersStripedAdd asked tries place told old new did =
-    AnswersStripedAdding (λ old new. StripedAdds old new asked) (λ why. RefusesNamed why asked)
-    tries place told old new did
+    AnswersStripedAdding (λ old new. StripedAdds old new asked)
+    (λ why. RefusesStripedAdd why old asked) tries place told old new did
 
 -- What an Add of several marks does, in the same way.
 abbrev pub AnswersStripedAddAll : {A : Type 0} → AskedBatch → ℕ → ℕ → Added → SeatView → SeatView
     → Result A Refusal → Type 0
 AnswersStripedAddAll asked tries place told old new did =
-    AnswersStripedAdding (λ old new. StripedAddsAll old new asked) (λ why. RefusesBatch why asked)
-    tries place told old new did
+    AnswersStripedAdding (λ old new. StripedAddsAll old new asked)
+    (λ why. RefusesStripedAddAll why old asked) tries place told old new did
 
 -- ---- writes
 
@@ -336,7 +386,7 @@ pub record AnswersStripedMayWrite {A : Type 0} (asked : AskedWrite) (seen : ℕ)
 pub record TellsStripedSummary (old new : SeatView) (asked : AskedSummary) (seen : ℕ)
     (bytes : List ℕ) : Type 0 where
   pub span : Interval
-  pub asked_for : add_span asked.span ≡ Some span
+  pub names : NamesAddSpan asked.span span
   pub parts : List Summary
   pub summarizes : SummarizesInStripes old new span asked.most parts
   pub front : seen ≡ new.count

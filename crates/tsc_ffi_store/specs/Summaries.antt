@@ -1,6 +1,6 @@
 -- What was read of a span, told as bytes, and what such bytes make of a cache.
-use Rattle.std.specs.Prelude.{◌≡◌, ◌⊎◌, ℕ, List, length, false, Some, Result, Ok, Err, IfOk, IfErr, OnErr}
-use Rattle.tsc_time.specs.Time.{Time}
+use Rattle.std.specs.Prelude.{◌≡◌, ◌⊎◌, ℕ, List, length, true, false, Result, Ok, Err, IfOk, IfErr, OnErr}
+use Rattle.tsc_time.specs.Time.{Time, is_in_range}
 use Rattle.tsc_span.specs.Span.{Interval}
 use Rattle.tsc_cache.specs.declared.added.Added.{Added}
 use Rattle.tsc_cache.specs.Settings.{Settings}
@@ -22,8 +22,8 @@ use Rattle.tsc_ffi_store.specs.declared.ctypes.TscTime.{TscTime}
 use Rattle.tsc_ffi_store.specs.declared.refusal.Refusal.{Refusal}
 use Rattle.tsc_ffi_store.specs.declared.refusal.Refusal.TheVariants as refusal
 use Rattle.tsc_ffi_store.specs.Codes.{code_of}
-use Rattle.tsc_ffi_store.specs.Decode.{AskedSpan, asked_span, add_span, time_of}
-use Rattle.tsc_ffi_store.specs.Decode.{RefusesTime, RefusesAddSpan}
+use Rattle.tsc_ffi_store.specs.Decode.{AskedSpan, asked_span, time_of}
+use Rattle.tsc_ffi_store.specs.Decode.{NamesAddSpan, RefusesTime, RefusesCopy}
 use Rattle.tsc_ffi_store.specs.Puts.{Puts}
 use Rattle.tsc_ffi_store.specs.declared.ctypes.SummaryArgs.{SummaryArgs}
 use Rattle.tsc_ffi_store.specs.declared.ctypes.ApplyArgs.{ApplyArgs}
@@ -53,15 +53,15 @@ asked_apply args = apply_asked args.summary.now args.moment.now
 -- Bytes tell what was read in a cache of the span that a call names. They are read back as that.
 pub record TellsSummary (cache : CacheView) (asked : AskedSummary) (bytes : List ℕ) : Type 0 where
   pub span : Interval
-  pub asked_for : add_span asked.span ≡ Some span
+  pub names : NamesAddSpan asked.span span
   pub told : Summary
   pub summarizes : Summarizes cache span asked.most told
   pub written : bytes ≡ summary_bytes told
   pub read_back : summary_of bytes ≡ Ok told
 
--- Why no summary was told.
+-- Why no summary was told: for want of memory only where a span is named.
 abbrev pub RefusesSummary : Refusal → AskedSummary → Type 0
-RefusesSummary why asked = RefusesAddSpan why asked.span ⊎ (why ≡ refusal.NoMemory)
+RefusesSummary why asked = RefusesCopy why asked.span
 
 -- What a cache answers that is asked for a summary.
 pub record AnswersSummary (asked : AskedSummary) (cache : CacheView) (did : Result (List ℕ) Refusal)
@@ -74,7 +74,7 @@ pub record AnswersSummary (asked : AskedSummary) (cache : CacheView) (did : Resu
 pub record TellsSeatSummary (old new : SeatView) (asked : AskedSummary) (seen : ℕ) (bytes : List ℕ)
     : Type 0 where
   pub span : Interval
-  pub asked_for : add_span asked.span ≡ Some span
+  pub names : NamesAddSpan asked.span span
   pub told : SeatSummary
   pub summarizes : SummarizesAt old new span asked.most told
   pub front : seen ≡ length new.seen
@@ -108,10 +108,17 @@ pub record PutsOrKeeps (Answers : Result (List ℕ) Refusal → Type 0) (Kept : 
   pub put : PutsBytes did code old new len len'
   pub kept : OnErr did Kept
 
--- Bytes are read as a summary, and what it tells is added to a cache: all of it, as one Add.
+-- All that a call says of a summary is right: its moment is in range, and the bytes are this one.
+pub record NamesSummary (asked : AskedApply) (told : Summary) : Type 0 where
+  pub moment : is_in_range asked.moment ≡ true
+  pub read : summary_of asked.bytes ≡ Ok told
+
+-- Bytes are read as a summary whose spans fit a page, and what it tells is added to a cache: all of
+-- it, as one Add.
 pub record AppliesIn (cache after : CacheView) (asked : AskedApply) (added : Added) : Type 0 where
   pub told : Summary
-  pub read : summary_of asked.bytes ≡ Ok told
+  pub names : NamesSummary asked told
+  pub fit : all_fit cache.settings (marks_told told) ≡ true
   pub adds : AddsAll cache after (marks_told told) asked.moment added
   pub stands : (settings : Settings) (s : CacheState) → RepresentsState cache settings s
       → RepresentsState after settings (step_all settings s (marks_told told) asked.moment).state
@@ -134,22 +141,29 @@ pub record IsNoSummary (why : Refusal) (bytes : List ℕ) : Type 0 where
   pub read : summary_of bytes ≡ Err fault
   pub told : IsFaultOf fault why
 
--- Why bytes were refused.
-abbrev pub RefusesBytes : Refusal → List ℕ → Type 0
-RefusesBytes why bytes = IsNoSummary why bytes ⊎ (why ≡ refusal.NoMemory)
+-- The moment is in range, and memory was refused. What the bytes are may not be known then.
+abbrev pub LacksMemoryToApply : Refusal → AskedApply → Type 0
+LacksMemoryToApply why asked =
+    (why ≡ refusal.NoMemory) × (is_in_range asked.moment ≡ true)
 
--- A span of the summary costs more than the largest page may have.
-pub record IsSummaryTooLarge (why : Refusal) (cache : CacheView) (bytes : List ℕ) : Type 0 where
+-- Why bytes were not read as a summary to be applied.
+abbrev pub RefusesBytes : Refusal → AskedApply → Type 0
+RefusesBytes why asked = IsNoSummary why asked.bytes ⊎ RefusesTime why asked.moment ⊎
+    LacksMemoryToApply why asked
+
+-- All that a call says of a summary is right, but a span of it costs more than the largest page may
+-- have.
+pub record IsSummaryTooLarge (why : Refusal) (settings : Settings) (asked : AskedApply) : Type
+    0 where
   pub summary : Summary
-  pub read : summary_of bytes ≡ Ok summary
-  pub too_large : all_fit cache.settings (marks_told summary) ≡ false
+  pub names : NamesSummary asked summary
+  pub too_large : all_fit settings (marks_told summary) ≡ false
   pub told : why ≡ refusal.TooLarge
 
 -- Why a summary was not applied.
 abbrev pub RefusesApply : Refusal → CacheView → AskedApply → Type 0
 RefusesApply why cache asked =
-    RefusesBytes why asked.bytes ⊎ RefusesTime why asked.moment
-    ⊎ IsSummaryTooLarge why cache asked.bytes ⊎ (why ≡ refusal.NoMemory)
+    RefusesBytes why asked ⊎ IsSummaryTooLarge why cache.settings asked
 
 -- What a call does that applies a summary.
 pub record AnswersApply {A : Type 0} (asked : AskedApply) (told : Added) (cache after : CacheView)

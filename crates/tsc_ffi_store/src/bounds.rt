@@ -4,7 +4,7 @@ ghost use Rattle.tsc_span.specs.Span.{longest_key};
 ghost use Rattle.tsc_ffi_store.specs.declared.refusal.Refusal.TheVariants as refusal;
 ghost use Rattle.std.specs.Prelude.{◌≡◌, ◌≢◌, ◌⊎◌, ◌<◌, IfOk, IfErr, IsTrue, false, length};
 ghost use Rattle.std.specs.List.{sum_by};
-ghost use Rattle.tsc_ffi_store.specs.StripedCalls.{AreBounds, RefusesBounds, IsOpenCode};
+ghost use Rattle.tsc_ffi_store.specs.StripedCalls.{AreBounds, UseUp, RefusesNumbers, RefusesBounds, IsOpenCode};
 
 use crate::ctypes::BoundsArgs;
 use crate::refusal::Refusal;
@@ -15,19 +15,33 @@ use tsc_striped::OpenFault;
 /// How many stripes a cache may have at the most.
 const MOST_STRIPES: usize = 1024;
 
-/// The bounds of these bytes and lengths, which use up the bytes.
-pub(crate) fn bounds(alloc: Global, args: &BoundsArgs<'_>) -> Result<Vec<Key>, Refusal>
-    ensures value { IfOk result
-        (λ bounds. AreBounds args.now.keys.now args.now.lens.now bounds.items) }
+/// Whether there may be so many seats and so many stripes, and whether the lengths use up the bytes.
+/// No key is copied.
+pub fn check_bounds(args: &BoundsArgs<'_>, seats: u32) -> Result<(), Refusal>
+    ensures some { IfOk result (λ _. 0 < seats) }
+    ensures use_up { IfOk result (λ _. UseUp args.now.keys.now args.now.lens.now) }
     ensures refused { IfErr result
-        (λ why. RefusesBounds why args.now.keys.now args.now.lens.now) }
+        (λ why. RefusesNumbers why seats args.now.keys.now args.now.lens.now) }
 {
+    if seats == 0 {
+        return Err(Refusal::Seats);
+    }
     if args.lens.len() >= MOST_STRIPES {
         return Err(Refusal::Stripes);
     }
     if !is_whole(args.keys, args.lens) {
         return Err(Refusal::Outside);
     }
+    Ok(())
+}
+
+/// The bounds of these bytes and lengths, which use up the bytes.
+pub(crate) fn bounds(alloc: Global, args: &BoundsArgs<'_>) -> Result<Vec<Key>, Refusal>
+    requires use_up { UseUp args.now.keys.now args.now.lens.now }
+    ensures value { IfOk result
+        (λ bounds. AreBounds args.now.keys.now args.now.lens.now bounds.items) }
+    ensures refused { IfErr result (λ why. RefusesBounds why args.now.lens.now) }
+{
     let mut bounds = Vec::new(alloc);
     let mut rest = args.keys;
     for len in args.lens {

@@ -1,7 +1,7 @@
 //! The requests for caches of one thread at a time.
 
 ghost use Rattle.std.specs.Prelude.{◌≡◌, ◌⊎◌, IfOk, IfErr, OnErr};
-ghost use Rattle.tsc_ffi_store.specs.CacheCalls.{Opens, StandsAt, TellsFigures, AnswersLookup, AnswersAdd, AnswersAddAll};
+ghost use Rattle.tsc_ffi_store.specs.CacheCalls.{Opens, StandsAt, TellsFigures, LacksMemoryForHandles, AnswersLookup, AnswersAdd, AnswersAddAll};
 ghost use Rattle.tsc_ffi_store.specs.Counts.{CountsLookup, CountsAdd, add_counted};
 ghost use Rattle.tsc_ffi_store.specs.Decode.{time_of, value_of, added_of, asked_span, asked_add, asked_batch};
 ghost use Rattle.tsc_ffi_store.specs.Store.{cache_of, cache_at, LetsGo, AnswersClose, GivesNext, RefusesHandles};
@@ -10,17 +10,17 @@ ghost use Rattle.tsc_ffi_store.specs.declared.refusal.Refusal.TheVariants.{NoMem
 use crate::counts::{CountedCache, Counts};
 use crate::ctypes::{AddArgs, BatchArgs, SpanArgs, TscAdded, TscFigures, TscTime, TscValue};
 use crate::decode::{
-    POINT, added_span, looked_up_span, time, value, words_of, words_of_added, words_of_figures,
-    words_of_time,
+    POINT, added_span, copied_span, key, looked_up_span, time, value, words_of, words_of_added,
+    words_of_figures, words_of_time,
 };
-use crate::marks::marks;
+use crate::marks::{check_marks, marks};
 use crate::places::{lay, place_of};
 use crate::refusal::Refusal;
 use crate::store::{Slot, Store};
 use std::alloc::Global;
 use std::mem::replace;
 use tsc_cache::{Cache, CacheFault, Config, TimestampCache};
-use tsc_span::{KeyRef, SpanRef};
+use tsc_span::SpanRef;
 
 impl Slot {
     /// Lets the cache that is held go.
@@ -44,7 +44,8 @@ impl Store {
         ensures opened { IfOk result
             (λ handle. Opens (cache_at self.old handle) (cache_at self.new handle) config) }
         ensures given { IfOk result (λ handle. GivesNext self.old self.new handle) }
-        ensures refused { IfErr result (λ why. RefusesHandles why self.old 1 ⊎ (why ≡ NoMemory)) }
+        ensures refused { IfErr result (λ why. RefusesHandles why self.old 1 ⊎
+            LacksMemoryForHandles why self.old 1) }
         ensures unchanged { OnErr result (self.new ≡ self.old) }
     {
         if self.next == u64::MAX {
@@ -178,10 +179,10 @@ fn add_to(
     if args.span.ends != POINT {
         return add_formed(alloc, cache, args, out);
     }
-    let Ok(key) = KeyRef::new(args.span.from) else {
-        return Err(Refusal::KeyTooLong);
-    };
-    match cache.add_key(&key, value(args.value)?, time(args.moment)?) {
+    let value = value(args.value)?;
+    let moment = time(args.moment)?;
+    let key = key(args.span.from)?;
+    match cache.add_key(&key, value, moment) {
         Ok(added) => {
             *out = words_of_added(added);
             Ok(())
@@ -204,7 +205,10 @@ fn add_formed(
 {
     let value = value(args.value)?;
     let moment = time(args.moment)?;
-    let span = added_span(alloc, &args.span)?;
+    if !cache.config().fits_ref(&added_span(&args.span)?) {
+        return Err(Refusal::TooLarge);
+    }
+    let span = copied_span(alloc, &args.span)?;
     match cache.add(&span, value, moment) {
         Ok(added) => {
             *out = words_of_added(added);
@@ -242,6 +246,7 @@ fn add_all_to(
     ensures kept { OnErr result (out.new ≡ out.old) }
 {
     let moment = time(args.moment)?;
+    check_marks(&cache.config(), args.keys, args.marks)?;
     let marks = marks(alloc, args.keys, args.marks)?;
     match cache.add_all(&marks, moment) {
         Ok(added) => {

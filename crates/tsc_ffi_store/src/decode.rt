@@ -1,8 +1,9 @@
 //! What the arguments of a call ask for: its times, its owner, its span and its configuration.
 
-ghost use Rattle.std.specs.Prelude.{◌≡◌, IfOk, IfErr, Ok as Made, Some, true};
+ghost use Rattle.std.specs.Prelude.{◌≡◌, ◌⊎◌, IfOk, IfErr, Some, true};
+ghost use Rattle.tsc_time.specs.Time.{is_in_range};
 ghost use Rattle.tsc_span.specs.Span.{Interval, range, is_inverted};
-ghost use Rattle.tsc_ffi_store.specs.Decode.{time_of, value_of, added_of, figures_told, form_of, asked_span, add_span, lookup_span, asked_config, settings_asked, IsShort, RefusesTime, RefusesEnds, RefusesKey, RefusesRange, RefusesAddSpan, RefusesSettings, RefusesConfig, RefusesWrittenSpan};
+ghost use Rattle.tsc_ffi_store.specs.Decode.{time_of, value_of, added_of, figures_told, form_of, asked_span, add_span, lookup_span, asked_config, IsShort, NamesRange, NamesAddSpan, NamesSettings, LacksRangeCopy, RefusesTime, RefusesEnds, RefusesKey, RefusesRange, RefusesAddSpan, RefusesCopy, RefusesSettings, RefusesConfig, RefusesWrittenSpan};
 ghost use Rattle.tsc_ffi_store.specs.declared.refusal.Refusal.TheVariants.{Inverted, NoMemory};
 
 use crate::counts::Counts;
@@ -11,7 +12,7 @@ use crate::refusal::Refusal;
 use std::alloc::Global;
 use std::cmp::Ordering;
 use tsc_cache::{Added, Config, ConfigFault, Figures};
-use tsc_span::{Ends, Key, KeyRef, Span, SpanRef};
+use tsc_span::{AddSpan, Ends, Key, KeyRef, Span, SpanRef};
 use tsc_time::{Timestamp, Value};
 use uuid::Uuid;
 
@@ -32,6 +33,7 @@ pub enum Form {
 /// The time of these words.
 pub fn time(words: &TscTime) -> Result<Timestamp, Refusal>
     ensures value { IfOk result (λ time. time ≡ time_of words.now) }
+    ensures in_range { IfOk result (λ _. is_in_range (time_of words.now) ≡ true) }
     ensures refused { IfErr result (λ refusal. RefusesTime refusal (time_of words.now)) }
 {
     match Timestamp::new(words.wall, words.logical) {
@@ -43,6 +45,7 @@ pub fn time(words: &TscTime) -> Result<Timestamp, Refusal>
 /// The value of these words.
 pub fn value(words: &TscValue) -> Result<Value, Refusal>
     ensures value { IfOk result (λ value. value ≡ value_of words.now) }
+    ensures in_range { IfOk result (λ _. is_in_range (value_of words.now).time ≡ true) }
     ensures refused { IfErr result (λ refusal. RefusesTime refusal (value_of words.now).time) }
 {
     let TscValue { wall, logical, .. } = *words;
@@ -53,6 +56,7 @@ pub fn value(words: &TscValue) -> Result<Value, Refusal>
 /// The time of a value's words.
 pub fn value_time(words: &TscValue) -> Result<Timestamp, Refusal>
     ensures value { IfOk result (λ time. time ≡ (value_of words.now).time) }
+    ensures in_range { IfOk result (λ _. is_in_range (value_of words.now).time ≡ true) }
     ensures refused { IfErr result (λ refusal. RefusesTime refusal (value_of words.now).time) }
 {
     let TscValue { wall, logical, .. } = *words;
@@ -178,36 +182,61 @@ fn copy_of(alloc: Global, key: &KeyRef<'_>) -> Result<Key, Refusal>
     }
 }
 
-/// The span to be added that a call names.
-pub fn added_span(alloc: Global, args: &SpanArgs<'_>) -> Result<Span, Refusal>
-    ensures value { IfOk result (λ span. add_span (asked_span args.now) ≡ Some span) }
-    ensures refused { IfErr result (λ refusal. RefusesAddSpan refusal (asked_span args.now)) }
+/// The span to be added that a call names, over the keys where they lie.
+pub fn added_span<'a>(args: &SpanArgs<'a>) -> Result<AddSpan<'a>, Refusal>
+    ensures names { IfOk result (λ span. NamesAddSpan (asked_span args.now) span) }
+    ensures refused { IfErr result (λ why. RefusesAddSpan why (asked_span args.now)) }
+{
+    match form_meant_by(args.ends)? {
+        Form::Point => Ok(AddSpan::point(key(args.from)?)),
+        Form::Range(ends) => added_range(args.from, args.to, ends),
+        Form::Onward(excluded) => Ok(AddSpan::onward(key(args.from)?, excluded)),
+    }
+}
+
+/// The range between two keys that is to be added, over the keys where they lie.
+fn added_range<'a>(from: &'a [u8], to: &'a [u8], ends: Ends) -> Result<AddSpan<'a>, Refusal>
+    ensures names { IfOk result (λ span. NamesRange from.now to.now ends span) }
+    ensures refused { IfErr result (λ why. RefusesRange why from.now to.now) }
+{
+    let first = key(from)?;
+    let second = key(to)?;
+    match AddSpan::range(first, second, ends) {
+        Ok(span) => Ok(span),
+        Err(_) => Err(Refusal::Inverted),
+    }
+}
+
+/// The span to be added that a call names, with copies of its keys.
+pub fn copied_span(alloc: Global, args: &SpanArgs<'_>) -> Result<Span, Refusal>
+    ensures names { IfOk result (λ span. NamesAddSpan (asked_span args.now) span) }
+    ensures refused { IfErr result (λ why. RefusesCopy why (asked_span args.now)) }
 {
     match form_meant_by(args.ends)? {
         Form::Point => Ok(Span::point(copy_of(alloc, &key(args.from)?)?)),
-        Form::Range(ends) => added_range(alloc, args.from, args.to, ends),
+        Form::Range(ends) => copied_range(alloc, args.from, args.to, ends),
         Form::Onward(excluded) => Ok(Span::onward(copy_of(alloc, &key(args.from)?)?, excluded)),
     }
 }
 
-/// The range between two keys that is to be added. An inverted one is refused before a key is
-/// copied.
-fn added_range(alloc: Global, from: &[u8], to: &[u8], ends: Ends) -> Result<Span, Refusal>
-    ensures value { IfOk result (λ span. range from.now to.now ends.exclude_from ends.exclude_to ≡
-        Some span) }
-    ensures refused { IfErr result (λ refusal. RefusesRange refusal from.now to.now ends) }
+/// The range between two keys that is to be added, with copies of the keys. An inverted one is
+/// refused before a key is copied.
+fn copied_range(alloc: Global, from: &[u8], to: &[u8], ends: Ends) -> Result<Span, Refusal>
+    ensures names { IfOk result (λ span. NamesRange from.now to.now ends span) }
+    ensures refused { IfErr result (λ why. RefusesRange why from.now to.now ⊎
+        LacksRangeCopy why from.now to.now ends) }
 {
     let first = key(from)?;
     let second = key(to)?;
     match to.cmp(from) {
         Ordering::Less => Err(Refusal::Inverted),
-        Ordering::Equal => copied_range(alloc, &first, &second, ends),
-        Ordering::Greater => copied_range(alloc, &first, &second, ends),
+        Ordering::Equal => copied_upright(alloc, &first, &second, ends),
+        Ordering::Greater => copied_upright(alloc, &first, &second, ends),
     }
 }
 
 /// The range between two keys, which is not inverted, with copies of the keys.
-fn copied_range(
+fn copied_upright(
     alloc: Global,
     from: &KeyRef<'_>,
     to: &KeyRef<'_>,
@@ -269,7 +298,7 @@ fn written_range<'a>(from: &'a [u8], to: &'a [u8], ends: Ends) -> Result<SpanRef
 
 /// The configuration that a call names.
 pub fn config(args: &ConfigArgs<'_>) -> Result<Config, Refusal>
-    ensures value { IfOk result (λ config. settings_asked (asked_config args.now) ≡ Made config) }
+    ensures names { IfOk result (λ config. NamesSettings (asked_config args.now) config) }
     ensures refused { IfErr result (λ why. RefusesConfig why (asked_config args.now)) }
 {
     let low_water = time(args.low_water)?;

@@ -21,6 +21,7 @@ mod store;
 mod summaries;
 mod writes;
 
+pub use bounds::check_bounds;
 pub use buffer::{REFUSED, put};
 pub use cache_calls::{add_all_in, add_in, figures_in, floor_in, look_in};
 pub use counts::{CountedCache, CountedSeat, Counts};

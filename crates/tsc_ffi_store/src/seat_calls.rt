@@ -5,22 +5,22 @@ ghost use Rattle.std.specs.Vec.{vec_len, vec_capacity};
 ghost use Rattle.tsc_shared.specs.Seats.{is_seat_count};
 ghost use Rattle.tsc_ffi_store.specs.Decode.{time_of, value_of, added_of, asked_span, asked_add, asked_batch};
 ghost use Rattle.tsc_ffi_store.specs.Store.{seat_of, seat_at, shared_of, RefusesHandles};
-ghost use Rattle.tsc_ffi_store.specs.SeatCalls.{unasked, OpensShared, RefusesSeats, RefusesRoom, AnswersSeatLookup, AnswersSeatLowWater, AnswersSeatAdd, AnswersSeatAddAll, AnswersTriedAdd, AnswersTriedAddAll, AnswersMove, Learns, LearnsAt, AnswersCloseSeat, EndsShared, AnswersCloseShared};
+ghost use Rattle.tsc_ffi_store.specs.SeatCalls.{unasked, OpensShared, RefusesSeats, LacksMemoryForSeats, AnswersSeatLookup, AnswersSeatLowWater, AnswersSeatAdd, AnswersSeatAddAll, AnswersTriedAdd, AnswersTriedAddAll, AnswersMove, Learns, LearnsAt, AnswersCloseSeat, EndsShared, AnswersCloseShared};
 ghost use Rattle.tsc_ffi_store.specs.Counts.{CountsSeatLookup, CountsSeatAdd, CountsNothing};
 ghost use Rattle.tsc_ffi_store.specs.Kinds.{ByKind};
 ghost use Rattle.tsc_ffi_store.specs.StripedCalls.{OpensStriped, RefusesOpenStriped, AnswersStripedLookup, AnswersStripedLowWater, AnswersFigures, AnswersStripedAdd, AnswersStripedAddAll, AnswersStripedTriedAdd, AnswersStripedTriedAll};
 ghost use Rattle.tsc_ffi_store.specs.OpenHandles.{AreOpen, named_by};
 ghost use Rattle.tsc_ffi_store.specs.declared.store.Slot.TheVariants as kinds;
 
-use crate::bounds::{bounds, of_open_fault};
+use crate::bounds::{bounds, check_bounds, of_open_fault};
 use crate::cache_calls::count;
 use crate::counts::CountedSeat;
 use crate::ctypes::{AddArgs, BatchArgs, BoundsArgs, SpanArgs, TscAdded, TscFigures, TscTime, TscValue};
 use crate::decode::{
-    added_span, looked_up_span, time, value, words_of, words_of_added, words_of_figures,
-    words_of_time,
+    added_span, copied_span, looked_up_span, time, value, words_of, words_of_added,
+    words_of_figures, words_of_time,
 };
-use crate::marks::marks;
+use crate::marks::{check_marks, marks};
 use crate::places::{lay, place_of};
 use crate::refusal::Refusal;
 use crate::seats::{Owner, SeatHandle, SlotToken};
@@ -102,7 +102,7 @@ impl Store {
         ensures opened { IfOk result
             (λ handle. OpensShared self.old self.new handle config seats limit) }
         ensures refused { IfErr result (λ why. RefusesSeats why seats ⊎
-            RefusesHandles why self.old (seats + 1) ⊎ RefusesRoom why seats) }
+            RefusesHandles why self.old (seats + 1) ⊎ LacksMemoryForSeats why seats self.old) }
         ensures unchanged { OnErr result (self.new ≡ self.old) }
     {
         if !may_seat(seats) {
@@ -145,13 +145,11 @@ impl Store {
             args.now.keys.now args.now.lens.now) }
         ensures unchanged { OnErr result (self.new ≡ self.old) }
     {
-        if seats == 0 {
-            return Err(Refusal::Seats);
-        }
-        let bounds = bounds(alloc, args)?;
+        check_bounds(args, seats)?;
         if u64::MAX - self.next <= seats as u64 {
             return Err(Refusal::Full);
         }
+        let bounds = bounds(alloc, args)?;
         match Owner::open_striped(alloc, config, bounds, seats) {
             Ok((owner, handles)) => {
                 let many = handles.len() + 1;
@@ -258,6 +256,9 @@ impl Store {
         ensures kept { OnErr result ((self.new ≡ self.old) × (other.new ≡ other.old) ×
             (other_handle.new ≡ other_handle.old)) }
     {
+        if !self.names(handle) {
+            return Err(Refusal::Closed);
+        }
         if other.next == u64::MAX {
             return Err(Refusal::Full);
         }
@@ -412,7 +413,12 @@ fn try_add_to_seat(
 {
     let value = value(args.value)?;
     let moment = time(args.moment)?;
-    let span = added_span(alloc, &args.span)?;
+    if !seat.config().fits_ref(&added_span(&args.span)?) {
+        return Err(Refusal::TooLarge);
+    }
+    let Ok(span) = copied_span(alloc, &args.span) else {
+        return Err(seat.without_memory());
+    };
     let placed = seat.try_add(&span, value, moment, tries)?;
     *place = placed.place;
     *out = words_of_added(placed.added);
@@ -479,7 +485,10 @@ fn try_add_all_to_seat(
     ensures kept { OnErr result ((place.new ≡ place.old) × (out.new ≡ out.old)) }
 {
     let moment = time(args.moment)?;
-    let marks = marks(alloc, args.keys, args.marks)?;
+    check_marks(&seat.config(), args.keys, args.marks)?;
+    let Ok(marks) = marks(alloc, args.keys, args.marks) else {
+        return Err(seat.without_memory());
+    };
     let placed = seat.try_add_all(&marks, moment, tries)?;
     *place = placed.place;
     *out = words_of_added(placed.added);

@@ -1,7 +1,7 @@
 //! A store: caches, shared caches and seats by their handles.
 
 ghost use Rattle.std.specs.Borrow.{sem};
-ghost use Rattle.std.specs.Prelude.{◌≡◌, ◌≢◌, ◌⊎◌, IfSome, IfNone, None, [], option_map, slice_get, slice_set, Some};
+ghost use Rattle.std.specs.Prelude.{◌≡◌, ◌≢◌, ◌⊎◌, IfSome, IfNone, None, [], option_map, slice_get, slice_set, Some, true, false};
 ghost use Rattle.tsc_ffi_store.specs.declared.store.Slot.TheVariants as kinds;
 
 use crate::counts::{CountedCache, CountedSeat};
@@ -47,6 +47,14 @@ impl Slot {
             Slot::Own(cache) => Some(cache),
             Slot::Closed | Slot::Shared(_) | Slot::Seat(_) => None,
         }
+    }
+
+    /// Whether something is held.
+    fn is_open(&self) -> bool
+        ensures some { result ≡ true → self.now ≢ kinds.Closed }
+        ensures none { result ≡ false → self.now ≡ kinds.Closed }
+    {
+        !matches!(self, Slot::Closed)
     }
 
     /// The seat that is held.
@@ -99,6 +107,7 @@ impl Model for Store {
 impl Store {
     ghost use Rattle.tsc_ffi_store.specs.Lending.{LendsCacheAt, LendsSeatAt};
     ghost use Rattle.tsc_ffi_store.specs.Store.{cache_at, shared_at, seat_at};
+    ghost use Rattle.tsc_ffi_store.specs.SeatCalls.{NamesSome, NamesNone};
 
     /// A store that has given no handle.
     pub fn new(alloc: Global) -> Store
@@ -148,6 +157,18 @@ impl Store {
         match self.slots.get_mut(place) {
             Some(slot) => slot.seat_mut(),
             None => None,
+        }
+    }
+
+    /// Whether a handle names something.
+    pub fn names(&self, handle: u64) -> bool
+        ensures some { result ≡ true → NamesSome self.now handle }
+        ensures none { result ≡ false → NamesNone self.now handle }
+    {
+        let place = place_of(&self.handles, handle);
+        match self.slots.get(place) {
+            Some(slot) => slot.is_open(),
+            None => false,
         }
     }
 

@@ -4,7 +4,7 @@
 ghost use Rattle.std.specs.Prelude.{◌≡◌, ◌⊎◌, IfOk, IfErr, OnErr, Ok};
 ghost use Rattle.tsc_ffi_store.specs.Decode.{added_of};
 ghost use Rattle.timestamp_cache.specs.SummaryReading.{summary_of};
-ghost use Rattle.tsc_ffi_store.specs.Summaries.{asked_summary, asked_apply, TellsSummary, RefusesSummary, AnswersSummary, PutsOr, PutsOrKeeps, AnswersSeatSummary, RefusesBytes, AnswersApply, IsFaultOf};
+ghost use Rattle.tsc_ffi_store.specs.Summaries.{asked_summary, asked_apply, TellsSummary, RefusesSummary, AnswersSummary, PutsOr, PutsOrKeeps, AnswersSeatSummary, RefusesBytes, AnswersApply};
 ghost use Rattle.tsc_ffi_store.specs.Counts.{CountsAdd, CountsNothing};
 ghost use Rattle.tsc_ffi_store.specs.Kinds.{ByKind};
 ghost use Rattle.tsc_ffi_store.specs.StripedCalls.{AnswersStripedSummary};
@@ -14,7 +14,7 @@ use crate::buffer::put;
 use crate::cache_calls::{count, of_cache_fault};
 use crate::counts::{CountedCache, CountedSeat};
 use crate::ctypes::{ApplyArgs, SummaryArgs, TscAdded};
-use crate::decode::{added_span, time, words_of_added};
+use crate::decode::{copied_span, time, words_of_added};
 use crate::refusal::{OK, Refusal};
 use crate::seats::SeatHandle;
 use std::alloc::Global;
@@ -80,7 +80,7 @@ fn bytes_at(
         (TellsStripedBytes (asked_summary args.now)) seat.old.seat seat.new.seat result }
     ensures same { seat.new.returns ≡ seat.old.returns }
 {
-    let span = added_span(alloc, &args.span)?;
+    let span = copied_span(alloc, &args.span)?;
     let told = seat.summary(alloc, &span, args.most)?;
     match told.summary.to_bytes() {
         Ok(bytes) => Ok(SeatBytes {
@@ -97,7 +97,7 @@ fn bytes_in(cache: &Cache, alloc: Global, args: &SummaryArgs<'_>) -> Result<Vec<
         bytes.items) }
     ensures refused { IfErr result (λ why. RefusesSummary why (asked_summary args.now)) }
 {
-    let span = added_span(alloc, &args.span)?;
+    let span = copied_span(alloc, &args.span)?;
     let Ok(told) = summary(alloc, cache, &span, args.most) else {
         return Err(Refusal::NoMemory);
     };
@@ -134,8 +134,9 @@ fn apply_to(
         result }
     ensures kept { OnErr result (out.new ≡ out.old) }
 {
-    let told = told_by(alloc, args.summary)?;
-    match apply(cache, &told, time(args.moment)?) {
+    let told = told_by(alloc, args)?;
+    let moment = time(args.moment)?;
+    match apply(cache, &told, moment) {
         Ok(added) => {
             *out = words_of_added(added);
             Ok(())
@@ -144,26 +145,21 @@ fn apply_to(
     }
 }
 
-/// The summary that bytes are.
-fn told_by(alloc: Global, bytes: &[u8]) -> Result<ReadSummary, Refusal>
-    ensures told { IfOk result (λ told. summary_of bytes.now ≡ Ok told) }
-    ensures refused { IfErr result (λ why. RefusesBytes why bytes.now) }
+/// The summary that the bytes of a call are. Where there is no memory for it, the moment is looked
+/// at first.
+fn told_by(alloc: Global, args: &ApplyArgs<'_>) -> Result<ReadSummary, Refusal>
+    ensures told { IfOk result (λ told. summary_of args.now.summary.now ≡ Ok told) }
+    ensures refused { IfErr result (λ why. RefusesBytes why (asked_apply args.now)) }
 {
-    match ReadSummary::from_bytes(alloc, bytes) {
+    match ReadSummary::from_bytes(alloc, args.summary) {
         Ok(told) => Ok(told),
-        Err(fault) => Err(of_summary_fault(fault)),
-    }
-}
-
-/// Why bytes were not read as a summary.
-fn of_summary_fault(fault: SummaryFault) -> Refusal
-    ensures { IsFaultOf fault result }
-{
-    match fault {
-        SummaryFault::Version => Refusal::SummaryVersion,
-        SummaryFault::Length => Refusal::SummaryLength,
-        SummaryFault::Checksum => Refusal::SummaryChecksum,
-        SummaryFault::Form => Refusal::SummaryForm,
-        SummaryFault::NoMemory => Refusal::NoMemory,
+        Err(SummaryFault::Version) => Err(Refusal::SummaryVersion),
+        Err(SummaryFault::Length) => Err(Refusal::SummaryLength),
+        Err(SummaryFault::Checksum) => Err(Refusal::SummaryChecksum),
+        Err(SummaryFault::Form) => Err(Refusal::SummaryForm),
+        Err(SummaryFault::NoMemory) => {
+            let _moment = time(args.moment)?;
+            Err(Refusal::NoMemory)
+        }
     }
 }

@@ -15,143 +15,144 @@ use Rattle.tsc_left_right.specs.declared.table.Setup.{Setup}
 use Rattle.tsc_left_right.specs.declared.table.Slot.{Slot}
 use Rattle.tsc_left_right.specs.declared.table.SeatState.{SeatState}
 use Rattle.tsc_left_right.specs.declared.table.Knowledge.{Knowledge}
-use Rattle.tsc_left_right.specs.Rule.{keeping, SharedState, LeftRightRule, SeatFits, head_word}
+use Rattle.tsc_left_right.specs.Rule.{keeping, SharedState, LeftRightRule, SeatFits}
 use Rattle.tsc_left_right.specs.Rule.{epoch_word, side_slot, active_side, standby_side}
 use Rattle.tsc_left_right.specs.Steps.{clearing, has_left, clears}
 use Rattle.tsc_left_right.proofs.Hands.{Homes, Hand}
-use Rattle.tsc_left_right.proofs.Moves.{Board, knows_all, moved_kept, of_one, some_same}
-use Rattle.tsc_left_right.proofs.Moves.{same_number, none_is_no, false_is_no}
+use Rattle.tsc_left_right.proofs.Plain.{some_same}
+use Rattle.tsc_left_right.proofs.Frames.{same_word, other_slots}
+use Rattle.tsc_left_right.proofs.Moves.{Board, knows_all, moved_kept, of_one}
+use Rattle.tsc_left_right.proofs.Plain.{same_number, none_is_no, false_is_no}
 use Rattle.tsc_left_right.proofs.Moves.{others_fit, writer_fits, writer_now}
+use Rattle.tsc_left_right.specs.declared.replicated.Replicated.{Ghosts}
 
--- A seat whose epoch is odd, and is still the one that was watched, has not left.
-not_left : (watched : Option ℕ) (e : ℕ) → e % 2 ≡ 1 → ((w : ℕ) → watched ≡ Some w → e ≡ w)
-    → has_left watched e ≡ true → ⊥
-not_left None e odd still left = omega (
-  arith,
-  odd,
-  (let g : e % 2 ≡ 0 = grind (arith, nat_tests) in
-      g),
-)
-not_left (Some w) e odd still left =
-    let even : (e % 2 == 0) ≡ false = grind (arith, nat_tests) in
-    let same : (w == e) ≡ true = same_number w e (sym (still w refl)) in
-    let none : has_left (Some w) e ≡ false = rw (even, same) refl in
-    false_is_no (sym none ∙ left)
+module _ {P C O S E : Type 0} (R : Ghosts P C O S E) where
+  -- A seat whose epoch is odd, and is still the one that was watched, has not left.
+  not_left : (watched : Option ℕ) (e : ℕ) → e % 2 ≡ 1 → ((w : ℕ) → watched ≡ Some w → e ≡ w)
+      → has_left watched e ≡ true → ⊥
+  not_left None e odd still left = omega (
+    arith,
+    odd,
+    (let g : e % 2 ≡ 0 = grind (arith, nat_tests) in
+        g),
+  )
+  not_left (Some w) e odd still left =
+      let even : (e % 2 == 0) ≡ false = grind (arith, nat_tests) in
+      let same : (w == e) ≡ true = same_number w e (sym (still w refl)) in
+      let none : has_left (Some w) e ≡ false = rw (even, same) refl in
+      false_is_no (sym none ∙ left)
 
-module _ (setup : Setup) (slots : ℕ) (st : Step Slot) (id : ℕ) (t : Setup) (p : SeatState)
-    (hand : Hand) where
-  abbrev holder : Knowledge
-  holder = keeping t (p ∷ [])
+  module _ (setup : Setup S) (slots : ℕ) (st : Step (Slot C O)) (id : ℕ) (t : Setup S)
+      (p : SeatState E) (hand : Hand C O) where
+    abbrev holder : Knowledge S E
+    holder = keeping t (p ∷ [])
 
-  abbrev Clears : Board → ℕ → Type 0
-  Clears s n = (w : Knowledge) × (a : Act Slot) × Valid s.homes hand a × LeftRightRule setup
-      (stepped s (epoch_word p.cleared) n id hand w a) × clears st (holder, hand) n (
-        w,
-        carried_after hand a,
-      )
+    abbrev Clears : Board C O S E → ℕ → Type 0
+    Clears s n = (w : Knowledge S E) × (a : Act (Slot C O)) × Valid s.homes hand a
+        × LeftRightRule R setup
+        (stepped s (epoch_word p.cleared) n id hand w a) × clears st (holder, hand) n (
+          w,
+          carried_after hand a,
+        )
 
-  pub clear_allowed : p.holds ≡ true → p.cleared < t.seats → p.stage ≡ 0
-      → Allows (LeftRightRule setup) slots id (holder, hand) (epoch_word p.cleared) (λ n. n)
-      (clears st (holder, hand))
-  clear_allowed holds pinned out s k deep at small =
-      let all = knows_all setup s k id t p holds at in
-      let g : SharedState = k.g in
-      let hidden : ℕ = standby_side g.head in
-      let i : ℕ = epoch_word p.cleared in
-      let e : ℕ = slice_index s.words i in
-      let j : ℕ = side_slot p.cleared (standby_side p.head) in
-      let words : List ℕ = set s.words i e in
-      let same : (q : ℕ) → slice_index words q ≡ slice_index s.words q =
-      λ q. ap (λ (ws : List ℕ). slice_index ws q) (set-get_or s.words i 0) in
-      let within : p.cleared < setup.seats = omega (
-        arith,
-        pinned,
-        ap (λ (x : Setup). x.seats) all.same,
-      ) in
-      let cleared_is = all.cleared in
-      let head_is = all.head in
-      let taken = all.taken in
-      let here = k.seats p.cleared within in
-      let moved : (c : ℕ) (wt : Option ℕ) (homes : Homes) → length homes ≡ length s.homes
-      → ((r : ℕ) → r < setup.seats → SeatFits setup (writer_now g g.word c wt) words homes r)
-      → LeftRightRule setup (record {
-        words = words;
-        homes = homes;
-        views = set s.views id (keeping t (clearing p c wt ∷ []));
-      })
-      = λ c wt homes as_deep seats. moved_kept setup s k id holder
-      (keeping t (clearing p c wt ∷ [])) (writer_now g g.word c wt) words homes
-      (record {
-        at = at;
-        legal = k.legal;
-        limit = k.limit;
-        wide = length-set s.words i e ∙ k.wide;
-        deep = as_deep ∙ k.deep;
-        word_is = same 0 ∙ k.word_is;
-        head_is = same head_word ∙ k.head_is;
-        seats = seats;
-        fits = of_one t (clearing p c wt) all.same
-            (writer_fits g p p.holds g.word p.head c wt c wt all.mine
-            (λ _. (all.all, all.taken, refl, refl, all.head)));
-        others = λ other u apart z. others_fit setup g g.word c wt u (all.nobody other u apart z)
-            (k.views other u z);
-        each = λ _. refl;
-        one = omega (arith, k.one);
-        idle = λ z. absurd (omega (arith, z, taken));
-        free = λ z. absurd (omega (arith, z, taken));
-      }) in
-      let left : has_left p.watched e ≡ true → Clears s e = λ gone.
-      let gone_from : g.stage_of p.cleared ≢ hidden + 2 = λ z. not_left p.watched e
-      (here.pinned (omega (arith, z))) (λ w is. here.late w cleared_is (sym all.watched ∙ is) z)
-      gone in
-      let x = here.standby (omega (arith, cleared_is)) gone_from in
-      let homes : Homes = set s.homes j maybe.none in (
-        keeping t (clearing p (suc p.cleared) None ∷ []),
-        act_takes j x.0,
-        ap (λ (c : ℕ). get_elem? s.homes (side_slot p.cleared c)) (omega (arith, head_is)) ∙ x.1,
-        moved (suc p.cleared) None homes (length-set s.homes j maybe.none)
-            (λ r low. let ok = k.seats r low in record {
-              unpinned = λ z. ap (λ (b : ℕ). b % 2) (same (epoch_word r)) ∙ ok.unpinned z;
-              pinned = λ z. ap (λ (b : ℕ). b % 2) (same (epoch_word r)) ∙ ok.pinned z;
-              active = λ n. let y = ok.active n in (
-                y.0,
-                set_else s.homes j (side_slot r (active_side g.head)) maybe.none
-                    (λ z. omega (arith, z, head_is)) ∙ y.1,
-                y.2,
-              );
-              standby = λ c n. let y = ok.standby (omega (arith, c, cleared_is)) n in (
-                y.0,
-                set_else s.homes j (side_slot r hidden) maybe.none (λ z. omega (
-                  arith,
-                  z,
-                  head_is,
-                  c,
-                )) ∙ y.1,
-              );
-              left = λ c. dite (ℕ_discrete r p.cleared)
-                  (λ z. subst (λ (q : ℕ). g.stage_of q ≢ hidden + 2) (sym z) gone_from)
-                  (λ z. ok.left (omega (arith, c, z, cleared_is)));
-              late = λ w _ z. absurd (none_is_no w z);
-            }),
-        ((λ _. (x.0, refl)), (λ f. absurd (false_is_no (sym f ∙ gone)))),
-      ) in
-      let stays : has_left p.watched e ≡ false → Clears s e = λ still. (
-        keeping t (clearing p p.cleared (Some e) ∷ []),
-        act_keeps,
-        tt,
-        moved p.cleared (Some e) s.homes refl (λ r low. let ok = k.seats r low in
-            record {
-              unpinned = λ z. ap (λ (b : ℕ). b % 2) (same (epoch_word r)) ∙ ok.unpinned z;
-              pinned = λ z. ap (λ (b : ℕ). b % 2) (same (epoch_word r)) ∙ ok.pinned z;
-              active = ok.active;
-              standby = λ c n. ok.standby (omega (arith, c, cleared_is)) n;
-              left = λ c. ok.left (omega (arith, c, cleared_is));
-              late = λ w is z _. same (epoch_word r)
-                  ∙ ap (λ (c : ℕ). slice_index s.words (epoch_word c)) is ∙ some_same e w z;
-            }),
-        ((λ f. absurd (false_is_no (sym still ∙ f))), (λ _. refl)),
-      ) in by_test (has_left p.watched e) refl left stays
-    where
-      by_test : {P : Type 0} (b : Bool) {c : Bool} → c ≡ b → (c ≡ true → P) → (c ≡ false → P) → P
-      by_test {P} true {c} is yes_ no_ = yes_ is
-      by_test {P} false {c} is yes_ no_ = no_ is
+    pub clear_allowed : p.holds ≡ true → p.cleared < t.seats → p.stage ≡ 0
+        → Allows (LeftRightRule R setup) slots id (holder, hand) (epoch_word p.cleared) (λ n. n)
+        (clears st (holder, hand))
+    clear_allowed holds pinned out s k deep at small =
+        let all = knows_all R setup s k id t p holds at in
+        let g : SharedState E = k.g in
+        let hidden : ℕ = standby_side g.head in
+        let i : ℕ = epoch_word p.cleared in
+        let e : ℕ = slice_index s.words i in
+        let j : ℕ = side_slot p.cleared (standby_side p.head) in
+        let words : List ℕ = set s.words i e in
+        let same : (q : ℕ) → slice_index words q ≡ slice_index s.words q =
+        λ q. ap (λ (ws : List ℕ). slice_index ws q) (set-get_or s.words i 0) in
+        let within : p.cleared < setup.seats = omega (
+          arith,
+          pinned,
+          ap (λ (x : Setup S). x.seats) all.same,
+        ) in
+        let cleared_is = all.cleared in
+        let head_is = all.head in
+        let taken = all.taken in
+        let here = k.seats p.cleared within in
+        let moved : (c : ℕ) (wt : Option ℕ) (homes : Homes C O) → length homes ≡ length s.homes
+        → ((r : ℕ) → r < setup.seats → SeatFits R setup (writer_now g g.word c wt) words homes r)
+        → LeftRightRule R setup (record {
+          words = words;
+          homes = homes;
+          views = set s.views id (keeping t (clearing p c wt ∷ []));
+        })
+        = λ c wt homes as_deep seats. moved_kept R setup s k id holder
+        (keeping t (clearing p c wt ∷ [])) (writer_now g g.word c wt) words homes (record {
+          at = at;
+          legal = k.legal;
+          limit = k.limit;
+          shape = other_slots (same_word k.shape i) homes as_deep;
+          seats = seats;
+          fits = of_one R t (clearing p c wt) all.same
+              (writer_fits R g p p.holds g.word p.head c wt c wt all.mine
+              (λ _. (all.all, all.taken, refl, refl, all.head)));
+          others = λ other u apart z. others_fit R setup g g.word c wt u
+              (all.nobody other u apart z) (k.views other u z);
+          each = λ _. refl;
+          one = omega (arith, k.one);
+          idle = λ z. absurd (omega (arith, z, taken));
+          free = λ z. absurd (omega (arith, z, taken));
+        }) in
+        let left : has_left p.watched e ≡ true → Clears s e = λ gone.
+        let gone_from : g.stage_of p.cleared ≢ hidden + 2 = λ z. not_left p.watched e
+        (here.pinned (omega (arith, z))) (λ w is. here.late w cleared_is (sym all.watched ∙ is) z)
+        gone in
+        let x = here.standby (omega (arith, cleared_is)) gone_from in
+        let homes : Homes C O = set s.homes j maybe.none in (
+          keeping t (clearing p (suc p.cleared) None ∷ []),
+          act_takes j x.0,
+          ap (λ (c : ℕ). get_elem? s.homes (side_slot p.cleared c)) (omega (arith, head_is)) ∙ x.1,
+          moved (suc p.cleared) None homes (length-set s.homes j maybe.none)
+              (λ r low. let ok = k.seats r low in record {
+                unpinned = λ z. ap (λ (b : ℕ). b % 2) (same (epoch_word r)) ∙ ok.unpinned z;
+                pinned = λ z. ap (λ (b : ℕ). b % 2) (same (epoch_word r)) ∙ ok.pinned z;
+                active = λ n. let y = ok.active n in (
+                  y.0,
+                  set_else s.homes j (side_slot r (active_side g.head)) maybe.none
+                      (λ z. omega (arith, z, head_is)) ∙ y.1,
+                  y.2,
+                );
+                standby = λ c n. let y = ok.standby (omega (arith, c, cleared_is)) n in (
+                  y.0,
+                  set_else s.homes j (side_slot r hidden) maybe.none (λ z. omega (
+                    arith,
+                    z,
+                    head_is,
+                    c,
+                  )) ∙ y.1,
+                );
+                left = λ c. dite (ℕ_discrete r p.cleared)
+                    (λ z. subst (λ (q : ℕ). g.stage_of q ≢ hidden + 2) (sym z) gone_from)
+                    (λ z. ok.left (omega (arith, c, z, cleared_is)));
+                late = λ w _ z. absurd (none_is_no w z);
+              }),
+          ((λ _. (x.0, refl)), (λ f. absurd (false_is_no (sym f ∙ gone)))),
+        ) in
+        let stays : has_left p.watched e ≡ false → Clears s e = λ still. (
+          keeping t (clearing p p.cleared (Some e) ∷ []),
+          act_keeps,
+          tt,
+          moved p.cleared (Some e) s.homes refl (λ r low. let ok = k.seats r low in
+              record {
+                unpinned = λ z. ap (λ (b : ℕ). b % 2) (same (epoch_word r)) ∙ ok.unpinned z;
+                pinned = λ z. ap (λ (b : ℕ). b % 2) (same (epoch_word r)) ∙ ok.pinned z;
+                active = ok.active;
+                standby = λ c n. ok.standby (omega (arith, c, cleared_is)) n;
+                left = λ c. ok.left (omega (arith, c, cleared_is));
+                late = λ w is z _. same (epoch_word r)
+                    ∙ ap (λ (c : ℕ). slice_index s.words (epoch_word c)) is ∙ some_same e w z;
+              }),
+          ((λ f. absurd (false_is_no (sym still ∙ f))), (λ _. refl)),
+        ) in by_test (has_left p.watched e) refl left stays
+      where
+        by_test : {P : Type 0} (b : Bool) {c : Bool} → c ≡ b → (c ≡ true → P) → (c ≡ false → P) → P
+        by_test {P} true {c} is yes_ no_ = yes_ is
+        by_test {P} false {c} is yes_ no_ = no_ is

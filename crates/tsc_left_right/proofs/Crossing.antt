@@ -7,10 +7,6 @@ use denote.Param.SendFields.{declared_send, declared_sync, variants_send, as_row
 use Rattle.std.proofs.Crossing.{crosses}
 use Rattle.atomic_table.proofs.Sent.{owns_keyless, shares_keyless}
 use Rattle.atomic_table.proofs.Rights.{right_send}
-use Rattle.tsc_time.specs.contracts.timestamp.Timestamp.{the_row as timestamp}
-use Rattle.tsc_time.specs.contracts.value.Value.{the_row as value}
-use Rattle.tsc_cache.specs.contracts.mark.Mark.{the_row as mark}
-use Rattle.tsc_cache.proofs.Crossing.{config_sends, config_syncs, cache_sends, cache_syncs}
 use Rattle.atomic_table.specs.contracts.owned.Table.{the_row as table}
 use Rattle.atomic_table.specs.contracts.shared.Shared.{the_row as the_shared}
 use Rattle.atomic_table.specs.contracts.shared.Shared.{the_type as shared_type}
@@ -18,72 +14,31 @@ use denote.Struct.Struct.{Struct}
 use denote.Struct.Owning.{shape}
 use Rattle.atomic_table.specs.contracts.send_lease.SendLease.{the_row as send_lease}
 use Rattle.tsc_left_right.specs.contracts.table.Setup.{the_row as setup}
-use Rattle.tsc_left_right.specs.contracts.table.MarkList.{the_row as marks}
-use Rattle.tsc_left_right.specs.contracts.table.UnappliedAdd.{the_row as unapplied}
+use Rattle.tsc_left_right.specs.contracts.table.Copies.{the_row as copies}
 use Rattle.tsc_left_right.specs.contracts.table.WriterState.{the_row as writer}
 use Rattle.tsc_left_right.specs.contracts.table.ReadHandle.{the_row as handle}
 use Rattle.tsc_left_right.specs.contracts.table.Slot.{the_row as slot_row}
-use Rattle.tsc_span.specs.contracts.key.Key.{the_row as key}
-use Rattle.tsc_span.specs.contracts.span.Shape.{the_row as shape_row}
-use Rattle.tsc_span.specs.contracts.span.Span.{the_row as span}
 
-timestamp_sends : IsSend timestamp
-timestamp_sends = search (sendable, crosses) depth 20
+pub setup_sends : (S : RattleType) → IsSend S → IsSend (setup S)
+setup_sends S s = search (sendable, crosses, declared_send, as_row_send, s) depth 20
 
-value_sends : IsSend value
-value_sends = search (sendable, crosses, timestamp_sends) depth 20
+pub setup_syncs : (S : RattleType) → IsSync S → IsSync (setup S)
+setup_syncs S s = search (sendable, crosses, declared_sync, as_row_sync, s) depth 20
 
-pub setup_sends : IsSend setup
-setup_sends = search (sendable, crosses, config_sends) depth 20
+-- what lies in the slots, over copies and operations that can
+module _ (C O : RattleType) (c : IsSend C) (d : IsSync C) (o : IsSend O) where
+  copies_sends : IsSend (copies C O)
+  copies_sends = search (sendable, crosses, declared_send, as_row_send, c, d, o) depth 20
 
-pub setup_syncs : IsSync setup
-setup_syncs = search (sendable, crosses, config_syncs) depth 20
+  writer_sends : IsSend (writer C O)
+  writer_sends = search (sendable, crosses, declared_send, as_row_send, copies_sends) depth 20
 
-key_sends : IsSend key
-key_sends = search (sendable, crosses) depth 20
+  handle_sends : IsSend (handle C)
+  handle_sends = search (sendable, crosses, declared_send, as_row_send, c, d) depth 20
 
-shape_sends : IsSend shape_row
-shape_sends = search (sendable, crosses, key_sends) depth 20
-
-span_sends : IsSend span
-span_sends = search (sendable, crosses, shape_sends) depth 20
-
-mark_sends : IsSend mark
-mark_sends = search (sendable, crosses, declared_send, value_sends, span_sends) depth 20
-
-marks_sends : IsSend marks
-marks_sends = search (sendable, crosses, variants_send, mark_sends) depth 20
-
-unapplied_sends : IsSend unapplied
-unapplied_sends = search (sendable, crosses, declared_send, timestamp_sends, marks_sends) depth 20
-
-writer_sends : IsSend writer
-writer_sends =
-    search (
-      sendable,
-      crosses,
-      declared_send,
-      as_row_send,
-      cache_sends,
-      cache_syncs,
-      unapplied_sends,
-    )
-    depth 20
-
-handle_sends : IsSend handle
-handle_sends = search (sendable, crosses, declared_send, as_row_send, cache_sends, cache_syncs)
-    depth 20
-
-pub slot_sends : IsSend slot_row
-slot_sends =
-    search (
-      sendable,
-      crosses,
-      variants_send,
-      as_row_send,
-      writer_sends,
-      handle_sends,
-    ) depth 20
+  pub slot_sends : IsSend (slot_row C O)
+  slot_sends =
+      search (sendable, crosses, variants_send, as_row_send, writer_sends, handle_sends) depth 20
 
 -- a table, over whatever its slots hold
 module _ (S V K P A : RattleType) (rule : RuleGhosts P.Denot S.Denot V.Denot K.Denot)

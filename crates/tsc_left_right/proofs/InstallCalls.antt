@@ -3,7 +3,6 @@ use Rattle.std.proofs.Common.{◌≡◌, ◌∙◌, refl, sym, ap, subst, Bool, 
 use Rattle.std.proofs.Common.{◌≤◌, [], ◌∷◌, ◌++◌, append_assoc, arith}
 use Rattle.std.specs.Prelude.{None, ◌&&◌}
 use Rattle.atomic_table.specs.Table.{rest, turned}
-use Rattle.tsc_cache.specs.CacheView.{CacheView}
 use Rattle.tsc_left_right.specs.declared.table.Slot.{Slot}
 use Rattle.tsc_left_right.specs.declared.table.Slot.TheVariants.{Empty}
 use Rattle.tsc_left_right.specs.declared.table.Knowledge.{Knowledge}
@@ -17,158 +16,161 @@ use Rattle.tsc_left_right.specs.Writing.{LaidAs}
 use Rattle.tsc_left_right.proofs.Hands.{Hand, filled_le, filled_push, filled_weaker}
 use Rattle.tsc_left_right.proofs.Calls.{first_in}
 
--- If one handle is missing, not all are there.
-fewer : (all laid : Bool) (cache : CacheView) (adds : ℕ) (x : Slot) → LaidAs all cache adds x
-    → LaidAs (all && laid) cache adds x
-fewer true true cache adds x on = on
-fewer true false cache adds x on = tt
-fewer false laid cache adds x on = tt
+module _ {C O : Type 0} where
+  -- If one handle is missing, not all are there.
+  fewer : (all laid : Bool) (cache : C) (adds : ℕ) (x : Slot C O) → LaidAs all cache adds x
+      → LaidAs (all && laid) cache adds x
+  fewer true true cache adds x on = on
+  fewer true false cache adds x on = tt
+  fewer false laid cache adds x on = tt
 
-fewer_then : (all laid : Bool) (cache : CacheView) (adds : ℕ) (x : Slot) → LaidAs laid cache adds x
-    → LaidAs (all && laid) cache adds x
-fewer_then true laid cache adds x on = on
-fewer_then false laid cache adds x on = tt
+  fewer_then : (all laid : Bool) (cache : C) (adds : ℕ) (x : Slot C O) → LaidAs laid cache adds x
+      → LaidAs (all && laid) cache adds x
+  fewer_then true laid cache adds x on = on
+  fewer_then false laid cache adds x on = tt
 
--- So many handles are installed, and the other slots are still to come.
-pub record Installs (v : Knowledge) (me : At) (cache : CacheView) (adds seat seats : ℕ)
-    (all : Bool) : Type 0 where
-  pub todo : Hand
-  pub done : Hand
-  pub is : me ≡ (
-    cleared_in v seats None,
-    todo ++ (0, Empty) ∷ done,
-  )
-  pub left : Filled Anything (standby_side (state_in v).head) seat todo seats
-  pub so_far : Filled (LaidAs all cache adds) (standby_side (state_in v).head) 0 done seat
-  pub holds : (state_in v).holds ≡ true
-  pub unpinned : (state_in v).stage ≡ 0
-
-pub installs_none : (v : Knowledge) (me me' : At) (cache : CacheView) (adds seats : ℕ)
-    → (h : IsWriting v me seats None) → me' ≡ (me.0, turned me.1)
-    → Installs v me' cache adds 0 seats true
-installs_none v me me' cache adds seats h turned_is = record {
-  todo = h.slots;
-  done = [];
-  is = turned_is ∙ (λ i. ((h.is i).0, turned (h.is i).1));
-  left = h.filled;
-  so_far = refl;
-  holds = h.holds;
-  unpinned = h.unpinned;
-}
-
--- A handle is installed, and goes behind the others.
-pub installs_more : (v : Knowledge) (cache : CacheView) (me me₁ me₂ : At) (adds seat seats slot : ℕ)
-    (all laid all' : Bool) (y : Slot) → Installs v me cache adds seat seats all
-    → seat < seats → slot ≡ side_slot seat (standby_side (state_in v).head)
-    → LaidAs laid cache adds y → all' ≡ (all && laid)
-    → me₁ ≡ (me.0, (slot, y) ∷ rest me.1) → me₂ ≡ (me₁.0, turned me₁.1)
-    → Installs v me₂ cache adds (seat + 1) seats all'
-installs_more v cache me me₁ me₂ adds seat seats slot all laid all' y h low at on both laid_is
-    turned_is = by_todo h.todo h.is h.left
-  where
-    side : ℕ
-    side = standby_side (state_in v).head
-
-    more : suc seat ≡ seat + 1
-    more = omega arith
-
-    by_todo : (todo : Hand) → me ≡ (
+module _ {C O S E : Type 0} where
+  -- So many handles are installed, and the other slots are still to come.
+  pub record Installs (v : Knowledge S E) (me : At C O S E) (cache : C) (adds seat seats : ℕ)
+      (all : Bool) : Type 0 where
+    pub todo : Hand C O
+    pub done : Hand C O
+    pub is : me ≡ (
       cleared_in v seats None,
-      todo ++ (0, Empty) ∷ h.done,
-    ) → Filled Anything side seat todo seats
-        → Installs v me₂ cache adds (seat + 1) seats all'
-    by_todo [] is left = absurd (omega (arith, left, low))
-    by_todo (x ∷ todo) is left = record {
-      todo = todo;
-      done = h.done ++ (side_slot seat side, y) ∷ [];
-      is = turned_is ∙ (λ i. ((laid_is i).0, turned (laid_is i).1))
-          ∙ (λ i. ((is i).0, rest (is i).1 ++ (at i, y) ∷ []))
-          ∙ ap (λ (l : Hand). (cleared_in v seats None, l))
-          (append_assoc todo ((0, Empty) ∷ h.done) ((side_slot seat side, y) ∷ []));
-      left = subst (λ (n : ℕ). Filled Anything side n todo seats) more left.2;
-      so_far = subst (λ (b : Bool). Filled (LaidAs b cache adds) side 0
-          (h.done ++ (side_slot seat side, y) ∷ []) (seat + 1)) (sym both)
-          (subst (λ (n : ℕ). Filled (LaidAs (all && laid) cache adds) side 0
-          (h.done ++ (side_slot seat side, y) ∷ []) n) more
-          (filled_push (LaidAs (all && laid) cache adds) side 0 h.done seat y
-          (filled_weaker (LaidAs all cache adds) side (LaidAs (all && laid) cache adds)
-          (fewer all laid cache adds) 0 h.done seat h.so_far) (fewer_then all laid cache adds y
-          on)));
-      holds = h.holds;
-      unpinned = h.unpinned;
-    }
-
--- the first slot that is to come
-pub first_todo : (v : Knowledge) (cache : CacheView) (me : At) (adds seat seats slot : ℕ)
-    (all : Bool) → Installs v me cache adds seat seats all
-    → seat < seats → slot ≡ side_slot seat (standby_side (state_in v).head) → (y : Slot)
-    × (me.1 ≡ (slot, y) ∷ rest me.1)
-first_todo v cache me adds seat seats slot all h low at = by_todo h.todo h.is h.left
-  where
-    by_todo : (todo : Hand) → me ≡ (
-      cleared_in v seats None,
-      todo ++ (0, Empty) ∷ h.done,
+      todo ++ (0, Empty) ∷ done,
     )
-        → Filled Anything (standby_side (state_in v).head) seat todo seats → (y : Slot)
-        × (me.1 ≡ (slot, y) ∷ rest me.1)
-    by_todo [] is left = absurd (omega (arith, left, low))
-    by_todo (x ∷ todo) is left =
-        first_in me.1 (todo ++ (0, Empty) ∷ h.done) slot x.0
-        x.1 (ap (λ (m : At). m.1) is) (at ∙ sym left.0)
+    pub left : Filled Anything (standby_side (state_in v).head) seat todo seats
+    pub so_far : Filled (LaidAs all cache adds) (standby_side (state_in v).head) 0 done seat
+    pub holds : (state_in v).holds ≡ true
+    pub unpinned : (state_in v).stage ≡ 0
 
--- All were installed, or some.
-pub installed_some : (v : Knowledge) (cache : CacheView) (me : At) (adds seat seats : ℕ)
-    (all : Bool) → Installs v me cache adds seat seats all → seats ≤ seat
-    → IsWriting v me seats None
-installed_some v cache me adds seat seats all h high = by_todo h.todo h.is h.left
-  where
-    by_todo : (todo : Hand) → me ≡ (
-      cleared_in v seats None,
-      todo ++ (0, Empty) ∷ h.done,
-    )
-        → Filled Anything (standby_side (state_in v).head) seat todo seats
-        → IsWriting v me seats None
-    by_todo [] is left = record {
-      slots = h.done;
-      is = is;
-      filled = filled_weaker (LaidAs all cache adds) (standby_side (state_in v).head) Anything
-          (λ x _. tt) 0 h.done seats (subst (λ (n : ℕ). Filled (LaidAs all cache adds)
-          (standby_side (state_in v).head) 0 h.done n) left h.so_far);
-      holds = h.holds;
-      unpinned = h.unpinned;
-    }
-    by_todo (x ∷ todo) is left =
-        absurd (omega (
-          arith,
-          high,
-          filled_le Anything (standby_side (state_in v).head) (suc seat)
-              todo seats left.2,
-        ))
+  pub installs_none : (v : Knowledge S E) (me me' : At C O S E) (cache : C) (adds seats : ℕ)
+      → (h : IsWriting v me seats None) → me' ≡ (me.0, turned me.1)
+      → Installs v me' cache adds 0 seats true
+  installs_none v me me' cache adds seats h turned_is = record {
+    todo = h.slots;
+    done = [];
+    is = turned_is ∙ (λ i. ((h.is i).0, turned (h.is i).1));
+    left = h.filled;
+    so_far = refl;
+    holds = h.holds;
+    unpinned = h.unpinned;
+  }
 
-pub installed_all : (v : Knowledge) (cache : CacheView) (me : At) (adds seat seats : ℕ) (all : Bool)
-    → Installs v me cache adds seat seats all → seats ≤ seat → all ≡ true
-    → HasInstalled v me cache adds seats
-installed_all v cache me adds seat seats all h high is_all = by_todo h.todo h.is h.left
-  where
-    by_todo : (todo : Hand) → me ≡ (
-      cleared_in v seats None,
-      todo ++ (0, Empty) ∷ h.done,
-    )
-        → Filled Anything (standby_side (state_in v).head) seat todo seats
-        → HasInstalled v me cache adds seats
-    by_todo [] is left = record {
-      slots = h.done;
-      is = is;
-      filled = subst (λ (n : ℕ). Filled (IsHandleOn cache adds) (standby_side (state_in v).head) 0
-          h.done n) left (subst (λ (b : Bool). Filled (LaidAs b cache adds)
-          (standby_side (state_in v).head) 0 h.done seat) is_all h.so_far);
-      holds = h.holds;
-      unpinned = h.unpinned;
-    }
-    by_todo (x ∷ todo) is left =
-        absurd (omega (
-          arith,
-          high,
-          filled_le Anything (standby_side (state_in v).head) (suc seat)
-              todo seats left.2,
-        ))
+  -- A handle is installed, and goes behind the others.
+  pub installs_more : (v : Knowledge S E) (cache : C) (me me₁ me₂ : At C O S E)
+      (adds seat seats slot : ℕ)
+      (all laid all' : Bool) (y : Slot C O) → Installs v me cache adds seat seats all
+      → seat < seats → slot ≡ side_slot seat (standby_side (state_in v).head)
+      → LaidAs laid cache adds y → all' ≡ (all && laid)
+      → me₁ ≡ (me.0, (slot, y) ∷ rest me.1) → me₂ ≡ (me₁.0, turned me₁.1)
+      → Installs v me₂ cache adds (seat + 1) seats all'
+  installs_more v cache me me₁ me₂ adds seat seats slot all laid all' y h low at on both laid_is
+      turned_is = by_todo h.todo h.is h.left
+    where
+      side : ℕ
+      side = standby_side (state_in v).head
+
+      more : suc seat ≡ seat + 1
+      more = omega arith
+
+      by_todo : (todo : Hand C O) → me ≡ (
+        cleared_in v seats None,
+        todo ++ (0, Empty) ∷ h.done,
+      ) → Filled Anything side seat todo seats
+          → Installs v me₂ cache adds (seat + 1) seats all'
+      by_todo [] is left = absurd (omega (arith, left, low))
+      by_todo (x ∷ todo) is left = record {
+        todo = todo;
+        done = h.done ++ (side_slot seat side, y) ∷ [];
+        is = turned_is ∙ (λ i. ((laid_is i).0, turned (laid_is i).1))
+            ∙ (λ i. ((is i).0, rest (is i).1 ++ (at i, y) ∷ []))
+            ∙ ap (λ (l : Hand C O). (cleared_in v seats None, l))
+            (append_assoc todo ((0, Empty) ∷ h.done) ((side_slot seat side, y) ∷ []));
+        left = subst (λ (n : ℕ). Filled Anything side n todo seats) more left.2;
+        so_far = subst (λ (b : Bool). Filled (LaidAs b cache adds) side 0
+            (h.done ++ (side_slot seat side, y) ∷ []) (seat + 1)) (sym both)
+            (subst (λ (n : ℕ). Filled (LaidAs (all && laid) cache adds) side 0
+            (h.done ++ (side_slot seat side, y) ∷ []) n) more
+            (filled_push (LaidAs (all && laid) cache adds) side 0 h.done seat y
+            (filled_weaker (LaidAs all cache adds) side (LaidAs (all && laid) cache adds)
+            (fewer all laid cache adds) 0 h.done seat h.so_far) (fewer_then all laid cache adds y
+            on)));
+        holds = h.holds;
+        unpinned = h.unpinned;
+      }
+
+  -- the first slot that is to come
+  pub first_todo : (v : Knowledge S E) (cache : C) (me : At C O S E) (adds seat seats slot : ℕ)
+      (all : Bool) → Installs v me cache adds seat seats all
+      → seat < seats → slot ≡ side_slot seat (standby_side (state_in v).head) → (y : Slot C O)
+      × (me.1 ≡ (slot, y) ∷ rest me.1)
+  first_todo v cache me adds seat seats slot all h low at = by_todo h.todo h.is h.left
+    where
+      by_todo : (todo : Hand C O) → me ≡ (
+        cleared_in v seats None,
+        todo ++ (0, Empty) ∷ h.done,
+      )
+          → Filled Anything (standby_side (state_in v).head) seat todo seats → (y : Slot C O)
+          × (me.1 ≡ (slot, y) ∷ rest me.1)
+      by_todo [] is left = absurd (omega (arith, left, low))
+      by_todo (x ∷ todo) is left =
+          first_in me.1 (todo ++ (0, Empty) ∷ h.done) slot x.0
+          x.1 (ap (λ (m : At C O S E). m.1) is) (at ∙ sym left.0)
+
+  -- All were installed, or some.
+  pub installed_some : (v : Knowledge S E) (cache : C) (me : At C O S E) (adds seat seats : ℕ)
+      (all : Bool) → Installs v me cache adds seat seats all → seats ≤ seat
+      → IsWriting v me seats None
+  installed_some v cache me adds seat seats all h high = by_todo h.todo h.is h.left
+    where
+      by_todo : (todo : Hand C O) → me ≡ (
+        cleared_in v seats None,
+        todo ++ (0, Empty) ∷ h.done,
+      )
+          → Filled Anything (standby_side (state_in v).head) seat todo seats
+          → IsWriting v me seats None
+      by_todo [] is left = record {
+        slots = h.done;
+        is = is;
+        filled = filled_weaker (LaidAs all cache adds) (standby_side (state_in v).head) Anything
+            (λ x _. tt) 0 h.done seats (subst (λ (n : ℕ). Filled (LaidAs all cache adds)
+            (standby_side (state_in v).head) 0 h.done n) left h.so_far);
+        holds = h.holds;
+        unpinned = h.unpinned;
+      }
+      by_todo (x ∷ todo) is left =
+          absurd (omega (
+            arith,
+            high,
+            filled_le Anything (standby_side (state_in v).head) (suc seat)
+                todo seats left.2,
+          ))
+
+  pub installed_all : (v : Knowledge S E) (cache : C) (me : At C O S E) (adds seat seats : ℕ)
+      (all : Bool) → Installs v me cache adds seat seats all → seats ≤ seat → all ≡ true
+      → HasInstalled v me cache adds seats
+  installed_all v cache me adds seat seats all h high is_all = by_todo h.todo h.is h.left
+    where
+      by_todo : (todo : Hand C O) → me ≡ (
+        cleared_in v seats None,
+        todo ++ (0, Empty) ∷ h.done,
+      )
+          → Filled Anything (standby_side (state_in v).head) seat todo seats
+          → HasInstalled v me cache adds seats
+      by_todo [] is left = record {
+        slots = h.done;
+        is = is;
+        filled = subst (λ (n : ℕ). Filled (IsHandleOn cache adds) (standby_side (state_in v).head) 0
+            h.done n) left (subst (λ (b : Bool). Filled (LaidAs b cache adds)
+            (standby_side (state_in v).head) 0 h.done seat) is_all h.so_far);
+        holds = h.holds;
+        unpinned = h.unpinned;
+      }
+      by_todo (x ∷ todo) is left =
+          absurd (omega (
+            arith,
+            high,
+            filled_le Anything (standby_side (state_in v).head) (suc seat)
+                todo seats left.2,
+          ))

@@ -9,125 +9,120 @@ use lib.ListN.{get_elem?}
 use Rattle.std.proofs.lemmas.List.{length-append, replicate-append-replicate}
 use Rattle.atomic_table.proofs.Lists.{at_longer}
 use Rattle.atomic_table.specs.Table.{opening}
-use Rattle.tsc_cache.specs.CacheView.{CacheView}
 use Rattle.tsc_left_right.specs.declared.table.Setup.{Setup}
 use Rattle.tsc_left_right.specs.declared.table.Slot.{Slot}
 use Rattle.tsc_left_right.specs.declared.table.Slot.TheVariants.{Empty, Writer, Handle}
-use Rattle.tsc_left_right.specs.Rule.{LaidState, LeftRightRule, IsState, Shows, first_knowledge}
+use Rattle.tsc_left_right.specs.Rule.{LaidState, LeftRightRule, Shows, first_knowledge}
 use Rattle.tsc_left_right.specs.Rule.{side_slot, word_count}
 use Rattle.tsc_left_right.specs.Steps.{IsHandleOn}
 use Rattle.tsc_left_right.specs.Opening.{IsLaidOut, IsFirst, line_of}
 use Rattle.tsc_left_right.proofs.Openings.{opening_kept}
+use Rattle.tsc_left_right.specs.declared.replicated.Replicated.{Ghosts}
 
--- What is laid stands behind all that was there.
-at_next : (xs rest : List Slot) (x : Slot) (i : ℕ) → length xs ≡ i → get_elem? (xs ++ x ∷ rest) i
-    ≡ maybe.some x
-at_next [] rest x zero long = refl
-at_next [] rest x (suc i) long = absurd (omega arith)
-at_next (y ∷ ys) rest x zero long = absurd (omega arith)
-at_next (y ∷ ys) rest x (suc i) long = at_next ys rest x i (omega arith)
+module _ {C O : Type 0} where
+  -- What is laid stands behind all that was there.
+  at_next : (xs rest : List (Slot C O)) (x : Slot C O) (i : ℕ) → length xs ≡ i
+      → get_elem? (xs ++ x ∷ rest) i
+      ≡ maybe.some x
+  at_next [] rest x zero long = refl
+  at_next [] rest x (suc i) long = absurd (omega arith)
+  at_next (y ∷ ys) rest x zero long = absurd (omega arith)
+  at_next (y ∷ ys) rest x (suc i) long = at_next ys rest x i (omega arith)
 
--- an empty slot more on the line
-pub line_more : (before xs ys : List Slot) (x : Slot) (n : ℕ) → xs ≡ before ++ x ∷ replicate n Empty
-    → ys ≡ xs ++ Empty ∷ [] → ys ≡ before ++ x ∷ replicate (n + 1) Empty
-line_more before xs ys x n is more =
-    more ∙ ap (λ (l : List Slot). l ++ Empty ∷ []) is ∙ append_assoc before (x ∷ replicate n Empty)
-    (Empty ∷ []) ∙ ap (λ (l : List Slot). before ++ x ∷ l)
-    (replicate-append-replicate n 1 Empty)
+  -- an empty slot more on the line
+  pub line_more : (before xs ys : List (Slot C O)) (x : Slot C O) (n : ℕ)
+      → xs ≡ before ++ x ∷ replicate n Empty
+      → ys ≡ xs ++ Empty ∷ [] → ys ≡ before ++ x ∷ replicate (n + 1) Empty
+  line_more before xs ys x n is more =
+      more ∙ ap (λ (l : List (Slot C O)). l ++ Empty ∷ []) is
+      ∙ append_assoc before (x ∷ replicate n Empty)
+      (Empty ∷ []) ∙ ap (λ (l : List (Slot C O)). before ++ x ∷ l)
+      (replicate-append-replicate n 1 Empty)
 
--- a full line
-pub line_full : (before xs : List Slot) (x : Slot) (n : ℕ) → xs ≡ before ++ x ∷ replicate n Empty
-    → n ≡ 7 → xs ≡ before ++ line_of x
-line_full before xs x n is full = is ∙ ap (λ (k : ℕ). before ++ x ∷ replicate k Empty) full
+  -- a full line
+  pub line_full : (before xs : List (Slot C O)) (x : Slot C O) (n : ℕ)
+      → xs ≡ before ++ x ∷ replicate n Empty → n ≡ 7 → xs ≡ before ++ line_of x
+  line_full before xs x n is full = is ∙ ap (λ (k : ℕ). before ++ x ∷ replicate k Empty) full
 
--- What is found in a list of slots is found in a longer one.
-later : (xs ys more : List Slot) → ys ≡ xs ++ more → (i : ℕ) (x : Slot) → get_elem? xs i
-    ≡ maybe.some x → get_elem? ys i ≡ maybe.some x
-later xs ys more is i x e = subst (λ (l : List Slot). get_elem? l i ≡ maybe.some x) (sym is)
-    (at_longer xs more i x e)
+  -- What is found in a list of slots is found in a longer one.
+  later : (xs ys more : List (Slot C O)) → ys ≡ xs ++ more → (i : ℕ) (x : Slot C O) → get_elem? xs i
+      ≡ maybe.some x → get_elem? ys i ≡ maybe.some x
+  later xs ys more is i x e = subst (λ (l : List (Slot C O)). get_elem? l i ≡ maybe.some x) (sym is)
+      (at_longer xs more i x e)
 
--- The slot of a line is behind all that was there.
-at_line : (xs ys : List Slot) (x : Slot) (i : ℕ) → ys ≡ xs ++ line_of x → length xs ≡ i
-    → get_elem? ys i ≡ maybe.some x
-at_line xs ys x i is long = subst (λ (l : List Slot). get_elem? l i ≡ maybe.some x) (sym is)
-    (at_next xs (replicate 7 Empty) x i long)
+  -- The slot of a line is behind all that was there.
+  at_line : (xs ys : List (Slot C O)) (x : Slot C O) (i : ℕ) → ys ≡ xs ++ line_of x → length xs ≡ i
+      → get_elem? ys i ≡ maybe.some x
+  at_line xs ys x i is long = subst (λ (l : List (Slot C O)). get_elem? l i ≡ maybe.some x) (sym is)
+      (at_next xs (replicate 7 Empty) x i long)
 
-line_length : (xs ys : List Slot) (x : Slot) (n : ℕ) → ys ≡ xs ++ line_of x → length xs ≡ n
-    → length ys ≡ n + 8
-line_length xs ys x n is long = omega (arith, ap length is, length-append xs (line_of x), long)
+  line_length : (xs ys : List (Slot C O)) (x : Slot C O) (n : ℕ) → ys ≡ xs ++ line_of x
+      → length xs ≡ n → length ys ≡ n + 8
+  line_length xs ys x n is long = omega (arith, ap length is, length-append xs (line_of x), long)
 
--- a seat more: a handle on side 0, and nothing on side 1
-pub laid_more : (state : LaidState) (n : ℕ) (xs ys zs : List Slot) (x : Slot)
-    → IsLaidOut state n xs → ys ≡ xs ++ line_of x → zs ≡ ys ++ line_of Empty
-    → IsHandleOn (arc_value state.value.active) 0 x → IsLaidOut state (n + 1) zs
-laid_more state n xs ys zs x laid one two on =
-    let deep = laid.deep in
-    let long_y : length ys ≡ 16 * n + 16 =
-    omega (arith, line_length xs ys x (16 * n + 8) one deep) in
-    let long_z : length zs ≡ 16 * n + 24 =
-    omega (arith, line_length ys zs Empty (16 * n + 16) two long_y) in
-    let from_y = later ys zs (line_of Empty) two in
-    let from_x : (i : ℕ) (b : Slot) → get_elem? xs i ≡ maybe.some b → get_elem? zs i
-    ≡ maybe.some b = λ i b e. from_y i b (later xs ys (line_of x) one i b e) in
-    record {
-      deep = omega (arith, long_z);
-      writer = from_x 0 (Writer state) laid.writer;
-      active = λ seat low. dite (ℕ_discrete seat n)
-          (λ is. (
-            x,
-            from_y (side_slot seat 0) x (at_line xs ys x (side_slot seat 0) one
-                (omega (arith, deep, is))),
-            on,
-          ))
-          (λ isnt. let s = laid.active seat (omega (arith, low, isnt)) in
-          (s.0, from_x (side_slot seat 0) s.0 s.1, s.2));
-      standby = λ seat low. dite (ℕ_discrete seat n)
-          (λ is. at_line ys zs Empty (side_slot seat 1) two (omega (arith, long_y, is)))
-          (λ isnt. from_x (side_slot seat 1) Empty (laid.standby seat (omega (arith, low, isnt))));
-    }
+  -- a seat more: a handle on side 0, and nothing on side 1
+  pub laid_more : (state : LaidState C O) (n : ℕ) (xs ys zs : List (Slot C O)) (x : Slot C O)
+      → IsLaidOut state n xs → ys ≡ xs ++ line_of x → zs ≡ ys ++ line_of Empty
+      → IsHandleOn (arc_value state.value.copies.active) 0 x → IsLaidOut state (n + 1) zs
+  laid_more state n xs ys zs x laid one two on =
+      let deep = laid.deep in
+      let long_y : length ys ≡ 16 * n + 16 =
+      omega (arith, line_length xs ys x (16 * n + 8) one deep) in
+      let long_z : length zs ≡ 16 * n + 24 =
+      omega (arith, line_length ys zs Empty (16 * n + 16) two long_y) in
+      let from_y = later ys zs (line_of Empty) two in
+      let from_x : (i : ℕ) (b : Slot C O) → get_elem? xs i ≡ maybe.some b → get_elem? zs i
+      ≡ maybe.some b = λ i b e. from_y i b (later xs ys (line_of x) one i b e) in
+      record {
+        deep = omega (arith, long_z);
+        writer = from_x 0 (Writer state) laid.writer;
+        active = λ seat low. dite (ℕ_discrete seat n)
+            (λ is. (
+              x,
+              from_y (side_slot seat 0) x (at_line xs ys x (side_slot seat 0) one
+                  (omega (arith, deep, is))),
+              on,
+            ))
+            (λ isnt. let s = laid.active seat (omega (arith, low, isnt)) in
+            (s.0, from_x (side_slot seat 0) s.0 s.1, s.2));
+        standby = λ seat low. dite (ℕ_discrete seat n)
+            (λ is. at_line ys zs Empty (side_slot seat 1) two (omega (arith, long_y, is)))
+            (λ isnt. from_x (side_slot seat 1) Empty (laid.standby seat (omega
+            (arith, low, isnt))));
+      }
 
--- no seat yet
-pub laid_none : (state : LaidState) (xs : List Slot) → xs ≡ line_of (Writer state)
-    → IsLaidOut state 0 xs
-laid_none state xs is = subst (IsLaidOut state 0) (sym is) (record {
-  deep = refl;
-  writer = refl;
-  active = λ seat low. absurd (omega (arith, low));
-  standby = λ seat low.
-      absurd (omega (arith, low));
-})
+  -- all seats
+  pub laid_all : (state : LaidState C O) (n m : ℕ) (xs : List (Slot C O)) → n ≤ m → m ≤ n
+      → IsLaidOut state n xs → IsLaidOut state m xs
+  laid_all state n m xs le ge laid = subst (λ (k : ℕ). IsLaidOut state k xs) (let g : n ≡ m =
+      omega (arith, le, ge) in g) laid
 
--- all seats
-pub laid_all : (state : LaidState) (n m : ℕ) (xs : List Slot) → n ≤ m → m ≤ n → IsLaidOut state n xs
-    → IsLaidOut state m xs
-laid_all state n m xs le ge laid = subst (λ (k : ℕ). IsLaidOut state k xs) (let g : n ≡ m =
-    omega (arith, le, ge) in g) laid
+module _ {P C O S E : Type 0} (R : Ghosts P C O S E) where
+  -- A handle on an empty cache shows the empty history.
+  shows_first : (setup : Setup S) (cache : C) (x : Slot C O) → R.stands setup.settings [] cache
+      → IsHandleOn cache 0 x → Shows R setup [] x
+  shows_first setup cache Empty stands on = absurd on
+  shows_first setup cache (Writer state) stands on = absurd on
+  shows_first setup cache (Handle handle) stands on = (
+    subst (R.stands setup.settings []) (sym on.0) stands,
+    on.1,
+  )
 
--- A handle on an empty cache shows the empty history.
-shows_first : (setup : Setup) (cache : CacheView) (x : Slot) → IsState setup [] cache
-    → IsHandleOn cache 0 x → Shows setup [] x
-shows_first setup cache Empty stands on = absurd on
-shows_first setup cache (Writer state) stands on = absurd on
-shows_first setup cache (Handle handle) stands on = (
-  subst (IsState setup []) (sym on.0) stands,
-  on.1,
-)
-
--- the rule at the opening
-pub opens : (setup : Setup) (state : LaidState) (words : List ℕ) (slots : List Slot)
-    → words ≡ replicate (word_count setup.seats) 0 → IsFirst setup state.value
-    → IsLaidOut state setup.seats slots → LeftRightRule setup
-    (opening words slots (first_knowledge setup))
-opens setup state words slots blank first laid = subst (λ (ws : List ℕ). LeftRightRule setup
-    (opening ws slots (first_knowledge setup))) (sym blank)
-    (opening_kept setup state slots first.is_after (record {
-      deep = laid.deep;
-      writer = laid.writer;
-      active = λ r low. let x = laid.active r low in (
-        x.0,
-        x.1,
-        shows_first setup (arc_value state.value.active) x.0 first.is_after.stands
-            x.2,
-      );
-      standby = λ r low. (Empty, laid.standby r low);
-    }))
+  -- the rule at the opening
+  pub opens : (setup : Setup S) (state : LaidState C O) (words : List ℕ) (slots : List (Slot C O))
+      → words ≡ replicate (word_count setup.seats) 0 → IsFirst R setup state.value
+      → IsLaidOut state setup.seats slots → LeftRightRule R setup
+      (opening words slots (first_knowledge setup))
+  opens setup state words slots blank first laid = subst (λ (ws : List ℕ). LeftRightRule R setup
+      (opening ws slots (first_knowledge setup))) (sym blank)
+      (opening_kept R setup state slots first.is_after (record {
+        deep = laid.deep;
+        writer = laid.writer;
+        active = λ r low. let x = laid.active r low in (
+          x.0,
+          x.1,
+          shows_first setup (arc_value state.value.copies.active) x.0 first.is_after.stand.active
+              x.2,
+        );
+        standby = λ r low. (Empty, laid.standby r low);
+      }))

@@ -1,3 +1,5 @@
+pub mod Histories
+pub mod Copies
 pub mod Rule
 pub mod Steps
 pub mod Participating
@@ -5,7 +7,4 @@ pub mod Writing
 pub mod Opening
 pub mod Closing
 pub mod Waiting
-pub mod Copying
-pub mod Context
-pub mod Adding
 pub mod Round

@@ -10,5 +10,5 @@ HasEnd None = ⊥
 HasEnd (Some tries) = Unit {0}
 
 -- The writer of v has cleared some seats, and may have watched the next one.
-abbrev pub StillWrites : Knowledge → At → Type 0
+abbrev pub StillWrites : {C O S E : Type 0} → Knowledge S E → At C O S E → Type 0
 StillWrites v me = (cleared : ℕ) × (watched : Option ℕ) × IsWriting v me cleared watched

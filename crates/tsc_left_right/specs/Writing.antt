@@ -1,10 +1,9 @@
 -- What the functions of a writer do with the slots in hand. (For private contracts.)
 use Rattle.std.specs.Prelude.{ℕ, Bool, true, false}
-use Rattle.tsc_cache.specs.CacheView.{CacheView}
 use Rattle.tsc_left_right.specs.declared.table.Slot.{Slot}
 use Rattle.tsc_left_right.specs.Steps.{IsHandleOn}
 
--- a handle on this cache if so, and else anything
-abbrev pub LaidAs : Bool → CacheView → ℕ → Slot → Type 0
-LaidAs true cache adds x = IsHandleOn cache adds x
-LaidAs false cache adds x = Unit {0}
+-- a handle on this copy if so, and else anything
+abbrev pub LaidAs : {C O : Type 0} → Bool → C → ℕ → Slot C O → Type 0
+LaidAs true copy length x = IsHandleOn copy length x
+LaidAs false copy length x = Unit {0}

@@ -1,13 +1,14 @@
-//! What an Add of a seat works with.
+//! What an operation of a seat works with.
+use crate::replicated::Replicated;
 use crate::table::{Setup, SharedReplicas};
 use std::alloc::Global;
 
-/// What an Add of a seat works with: where memory comes from, the table of the cache, how that was
-/// set up, and the number of the seat.
-#[derive(Clone, Copy)]
-pub struct AddContext<'c> {
+/// What an operation of a seat works with: where memory comes from, the table, how that was set up,
+/// and the number of the seat.
+#[derive(Drop)]
+pub struct Context<'c, P: Replicated> {
     pub alloc: Global,
-    pub shared: &'c SharedReplicas,
-    pub setup: &'c Setup,
+    pub shared: &'c SharedReplicas<P>,
+    pub setup: &'c Setup<P::Settings>,
     pub number: u32,
 }

@@ -11,10 +11,10 @@ ghost use Rattle.tsc_left_right.specs.Participating.{MayRelease};
 ghost use Rattle.tsc_left_right.specs.Participating.{published_in, released_in};
 
 use crate::places::{FIRST, HEAD, epoch_word, has_left, side_slot};
+use crate::replicated::Replicated;
 use crate::steps::{Acquire, Clear, Line, Publish, Release};
 use crate::table::{Participant, ReadHandle, SharedReplicas, Slot, WriterState};
 use std::sync::Arc;
-use tsc_cache::Cache;
 
 /// The side of the standby copy, by HEAD.
 pub(crate) fn standby_side(head: u64) -> u64
@@ -24,18 +24,19 @@ pub(crate) fn standby_side(head: u64) -> u64
 }
 
 /// Tries once to acquire the writer lock: `None` if somebody holds it.
-pub(crate) fn acquire(
-    shared: &SharedReplicas,
-    who: &mut Participant,
+pub(crate) fn acquire<P: Replicated>(
+    shared: &SharedReplicas<P>,
+    who: &mut Participant<P>,
     number: u32,
-) -> Option<Box<WriterState>>
+) -> Option<Box<WriterState<P::Value, P::Operation>>>
     requires of { IsOf who.old shared.now.table_id }
     requires free { IsFree who.old.me × (number ≡ number_of who.old.me.0) }
     ensures table { who.new.table_id ≡ who.old.table_id }
-    ensures acquired { IfSome result (λ state. HasAcquired who.old.me.0 who.new.me state.value) }
+    ensures acquired { IfSome result (λ state. HasAcquired P.Replicated who.old.me.0 who.new.me
+        state.value) }
     ensures busy { IfNone result (who.new.me ≡ who.old.me) }
 {
-    if shared.compare_exchange::<Acquire>(who, 0, 0, u64::from(number) + 1) != 0 {
+    if shared.compare_exchange::<Acquire<P>>(who, 0, 0, u64::from(number) + 1) != 0 {
         return None;
     }
     let Slot::Writer(state) = shared.exchange(who, 0, Slot::Empty) else {
@@ -45,7 +46,10 @@ pub(crate) fn acquire(
 }
 
 /// What stands in the word of the seat that goes first.
-pub(crate) fn first_in_line(shared: &SharedReplicas, who: &mut Participant) -> u64
+pub(crate) fn first_in_line<P: Replicated>(
+    shared: &SharedReplicas<P>,
+    who: &mut Participant<P>,
+) -> u64
     requires of { IsOf who.old shared.now.table_id }
     ensures same { (who.new.table_id ≡ who.old.table_id) × (who.new.me ≡ who.old.me) }
 {
@@ -53,7 +57,11 @@ pub(crate) fn first_in_line(shared: &SharedReplicas, who: &mut Participant) -> u
 }
 
 /// Writes the word of the seat that goes first.
-pub(crate) fn set_first(shared: &SharedReplicas, who: &mut Participant, first: u64)
+pub(crate) fn set_first<P: Replicated>(
+    shared: &SharedReplicas<P>,
+    who: &mut Participant<P>,
+    first: u64,
+)
     requires of { IsOf who.old shared.now.table_id }
     ensures same { (who.new.table_id ≡ who.old.table_id) × (who.new.me ≡ who.old.me) }
 {
@@ -62,9 +70,9 @@ pub(crate) fn set_first(shared: &SharedReplicas, who: &mut Participant, first: u
 
 /// Looks once whether the next seat, watched at this epoch before, has left the standby side. If so
 /// its slot there is taken, and is empty then. Else the result is the epoch at which it is watched.
-pub(crate) fn clear(
-    shared: &SharedReplicas,
-    who: &mut Participant,
+pub(crate) fn clear<P: Replicated>(
+    shared: &SharedReplicas<P>,
+    who: &mut Participant<P>,
     seat: u32,
     standby: u64,
     watched: Option<u64>,
@@ -85,24 +93,24 @@ pub(crate) fn clear(
     None
 }
 
-/// Whether there is memory for one more handle on this cache, which has had `length` Adds, and that
-/// handle.
-fn handle_on(active: &Arc<Cache>, length: u64) -> (bool, Slot)
+/// Whether there is memory for one more handle on this copy, which has had `length` operations,
+/// and that handle.
+fn handle_on<C, O>(active: &Arc<C>, length: u64) -> (bool, Slot<C, O>)
     ensures { LaidAs result.0 (arc_value active.now) length result.1 }
 {
     match Arc::try_clone(active) {
-        Ok(cache) => (true, Slot::Handle(ReadHandle { cache, length })),
+        Ok(copy) => (true, Slot::Handle(ReadHandle { copy, length })),
         Err(_full) => (false, Slot::Empty),
     }
 }
 
-/// Lays a handle on this cache, which has had `adds` Adds, into each slot that was cleared. The
-/// result says whether there was memory for all of them.
-pub(crate) fn install_handles(
-    shared: &SharedReplicas,
-    who: &mut Participant,
-    active: &Arc<Cache>,
-    adds: u64,
+/// Lays a handle on this copy, which has had `length` operations, into each slot that was cleared.
+/// The result says whether there was memory for all of them.
+pub(crate) fn install_handles<P: Replicated>(
+    shared: &SharedReplicas<P>,
+    who: &mut Participant<P>,
+    active: &Arc<P::Value>,
+    length: u64,
     seats: u32,
     standby: u64,
 ) -> bool
@@ -112,12 +120,12 @@ pub(crate) fn install_handles(
     ensures table { who.new.table_id ≡ who.old.table_id }
     ensures cleared { IsWriting who.old.me.0 who.new.me seats None }
     ensures installed { result ≡ true → HasInstalled who.old.me.0 who.new.me (arc_value active.now)
-        adds seats }
+        length seats }
 {
     who.turn();
     let mut all = true;
     for seat in 0..seats {
-        let (laid, handle) = handle_on(active, adds);
+        let (laid, handle) = handle_on(active, length);
         shared.exchange(who, side_slot(seat, standby), handle);
         who.turn();
         all &= laid;
@@ -125,34 +133,38 @@ pub(crate) fn install_handles(
     all
 }
 
-/// Publishes what the writer has added, and releases the writer lock: lookups read the copy on
+/// Publishes what the writer has prepared, and releases the writer lock: lookups read the copy on
 /// which the handles are.
-pub(crate) fn publish(shared: &SharedReplicas, who: &mut Participant, state: Box<WriterState>)
+pub(crate) fn publish<P: Replicated>(
+    shared: &SharedReplicas<P>,
+    who: &mut Participant<P>,
+    state: Box<WriterState<P::Value, P::Operation>>,
+)
     requires of { IsOf who.old shared.now.table_id }
-    requires installed { HasInstalled who.old.me.0 who.old.me (arc_value state.value.active)
+    requires installed { HasInstalled who.old.me.0 who.old.me (arc_value state.value.copies.active)
         state.value.length who.old.me.0.setup.seats }
-    requires ready { IsReady who.old.me.0 state.value }
+    requires ready { IsReady P.Replicated who.old.me.0 state.value }
     ensures table { who.new.table_id ≡ who.old.table_id }
     ensures published { who.new.me
-        ≡ (released_in (published_in who.old.me.0 state.value.lagging), []) }
+        ≡ (released_in (published_in P.Replicated who.old.me.0 state.value.copies.lagging), []) }
 {
     let mut state = state;
     let head = standby_side(state.head);
     state.head = head;
     shared.exchange(who, 0, Slot::Writer(state));
     who.turn();
-    shared.store::<Publish>(who, HEAD, head);
+    shared.store::<Publish<P>>(who, HEAD, head);
     shared.store::<Release>(who, 0, 0);
 }
 
-/// Releases the writer lock. The result is how many Adds there are.
-pub(crate) fn release(
-    shared: &SharedReplicas,
-    who: &mut Participant,
-    state: Box<WriterState>,
+/// Releases the writer lock. The result is how many operations there are.
+pub(crate) fn release<P: Replicated>(
+    shared: &SharedReplicas<P>,
+    who: &mut Participant<P>,
+    state: Box<WriterState<P::Value, P::Operation>>,
 ) -> u64
     requires of { IsOf who.old shared.now.table_id }
-    requires may { MayRelease who.old.me state.value }
+    requires may { MayRelease P.Replicated who.old.me state.value }
     ensures table { who.new.table_id ≡ who.old.table_id }
     ensures released { who.new.me ≡ (released_in who.old.me.0, []) }
     ensures length { result ≡ length (seen_of who.old.me.0) }

@@ -1,158 +1,170 @@
-//! How the writer prepares an Add before it publishes it.
+//! How the writer prepares an operation before it publishes it.
 ghost use Rattle.std.specs.Prelude.{◌≡◌, ◌+◌, ◌^◌, ◌<◌, IfOk, IfErr, OnErr, Option, ℕ};
-ghost use Rattle.tsc_cache.specs.History.{CanAllBeAdded};
-ghost use Rattle.tsc_left_right.specs.Copying.{marks_asked};
-ghost use Rattle.tsc_left_right.specs.Round.{IsNewWriter, MayPrepare, CanMake};
+ghost use Rattle.tsc_left_right.specs.Copies.{CanBe};
+ghost use Rattle.tsc_left_right.specs.Round.{IsNewWriter, MayPrepare};
 ghost use Rattle.tsc_left_right.specs.Round.{IsPrepared, MayLeave, IsAborted, IsSwapped};
-ghost use Rattle.tsc_left_right.specs.Context.{IsSeatOf};
+ghost use Rattle.tsc_left_right.specs.Participating.{IsSeatOf};
 
-use crate::adding::take_next;
-use crate::context::AddContext;
-use crate::copies::{AddRef, copy_of};
+use crate::changing::{Ask, Next, Replicate};
+use crate::context::Context;
 use crate::lock::{install_handles, standby_side};
-use crate::table::{Participant, UnappliedAdd, WriterState};
+use crate::table::{Participant, WriterState};
 use crate::waiting::{WaitPolicy, wait_for_readers};
 use std::mem;
 use std::sync::Arc;
-use tsc_cache::{Added, Cache};
 
-/// What the writer works with once its Add is prepared, what the Add made, and what is to be
+/// What the writer works with once its operation is prepared, what that answered, and what is to be
 /// dropped once the lock is released.
 #[derive(Drop)]
-pub(crate) struct Prepared {
-    pub(crate) state: Box<WriterState>,
-    pub(crate) added: Added,
-    pub(crate) retired: Option<Arc<Cache>>,
+pub(crate) struct Prepared<C, O, A> {
+    pub(crate) state: Box<WriterState<C, O>>,
+    pub(crate) answer: A,
+    pub(crate) retired: Option<Arc<C>>,
 }
 
-/// Why the writer does not make its Add.
+/// Why the writer does not apply its operation.
 #[derive(Clone, Copy)]
-pub enum NotAdded {
-    /// The history has as many Adds as its limit allows.
+pub enum NotApplied {
+    /// The history has as many operations as its limit allows.
     HistoryFull,
     /// A growth was refused.
     NoMemory,
-    /// A seat was inside a lookup each time that it was looked at.
+    /// A seat was inside a read each time that it was looked at.
     SeatInside,
 }
 
-/// What the writer works with if it makes no Add, what is to be dropped once the lock is released,
-/// and why it makes none.
+/// What the writer works with if it applies no operation, what is to be dropped once the lock is
+/// released, and why it applies none.
 #[derive(Drop)]
-pub(crate) struct Aborted {
-    pub(crate) state: Box<WriterState>,
-    pub(crate) retired: Option<Arc<Cache>>,
-    pub(crate) why: NotAdded,
+pub(crate) struct Aborted<C, O> {
+    pub(crate) state: Box<WriterState<C, O>>,
+    pub(crate) retired: Option<Arc<C>>,
+    pub(crate) why: NotApplied,
 }
 
-/// Makes this copy active, which has had an Add; the one that was active until then lags by it.
-fn swap(state: &mut WriterState, next: Arc<Cache>, add: UnappliedAdd)
+/// Makes this copy active, which has had an operation; the one that was active until then lags by
+/// it.
+fn swap<C: Drop, O: Drop>(state: &mut WriterState<C, O>, next: Arc<C>, operation: O)
     requires { state.old.length + 1 < 2 ^ 64 }
-    ensures { IsSwapped state.old next add state.new }
+    ensures { IsSwapped state.old next operation state.new }
 {
-    state.standby = Some(mem::replace(&mut state.active, next));
-    state.lagging = Some(add);
+    let copies = &mut state.copies;
+    copies.standby = Some(mem::replace(&mut copies.active, next));
+    copies.lagging = Some(operation);
     state.length += 1;
 }
 
-/// What an Add made, and what is to be dropped once the lock is released.
+/// What an operation answered, and what is to be dropped once the lock is released.
 #[derive(Drop)]
-struct Ready {
-    added: Added,
-    retired: Option<Arc<Cache>>,
+struct Ready<C, A> {
+    answer: A,
+    retired: Option<Arc<C>>,
 }
 
-/// Prepares an Add that is to be published. All readers have handles on their copy then. If memory
-/// is refused, what the writer works with stands for what it stood for.
-fn prepare(
-    context: &AddContext<'_>,
-    who: &mut Participant,
-    state: &mut WriterState,
-    add: UnappliedAdd,
-) -> Result<Ready, Option<Arc<Cache>>>
-    requires may { MayPrepare context.now who.old state.old add }
+/// Prepares an operation that is to be published. All readers have handles on their copy then. If
+/// memory is refused, what the writer works with stands for what it stood for.
+fn prepare<P: Replicate>(
+    context: &Context<'_, P>,
+    who: &mut Participant<P>,
+    state: &mut WriterState<P::Value, P::Operation>,
+    operation: P::Operation,
+) -> Result<Ready<P::Value, P::Answer>, Option<Arc<P::Value>>>
+    requires seat { IsSeatOf context.now.shared.now.table_id context.now.setup.now
+        context.now.number who.old }
+    requires may { MayPrepare P.Replicated context.now.setup.now.seats who.old.me state.old
+        operation }
     ensures table { who.new.table_id ≡ who.old.table_id }
-    ensures made { IfOk result (λ made.
-        IsPrepared who.old.me.0 who.new.me add state.new made.added) }
-    ensures left { OnErr result (MayLeave who.old.me.0 who.new.me state.new) }
+    ensures made { IfOk result (λ made. IsPrepared P.Replicated P.answer who.old.me.0 who.new.me
+        operation state.new made.answer) }
+    ensures left { OnErr result (MayLeave P.Replicated who.old.me.0 who.new.me state.new) }
 {
     // A field is read so that the proof has its range.
     let _limit = context.setup.limit;
-    let next = match take_next(context.alloc, state, &add) {
-        Ok(next) => next,
-        Err(retired) => return Err(retired),
-    };
-    let adds = state.length + 1;
+    let Next {
+        copy,
+        answer,
+        retired,
+    } = P::next(context.alloc, &mut state.copies, &operation)?;
+    let length = state.length + 1;
     let standby = standby_side(state.head);
-    let seats = context.setup.seats;
-    if !install_handles(context.shared, who, &next.cache, adds, seats, standby) {
-        return Err(next.retired);
+    if !install_handles(
+        context.shared,
+        who,
+        &copy,
+        length,
+        context.setup.seats,
+        standby,
+    ) {
+        return Err(retired);
     }
-    swap(state, next.cache, add);
-    Ok(Ready {
-        added: next.added,
-        retired: next.retired,
-    })
+    swap(state, copy, operation);
+    Ok(Ready { answer, retired })
 }
 
-/// Prepares an Add as [`prepare`] does, with what the writer works with in its box.
-fn prepare_boxed(
-    context: &AddContext<'_>,
-    who: &mut Participant,
-    mut state: Box<WriterState>,
-    add: UnappliedAdd,
-) -> Result<Prepared, Aborted>
-    requires may { MayPrepare context.now who.old state.value add }
+/// Prepares an operation as [`prepare`] does, with what the writer works with in its box.
+fn prepare_boxed<P: Replicate>(
+    context: &Context<'_, P>,
+    who: &mut Participant<P>,
+    mut state: Box<WriterState<P::Value, P::Operation>>,
+    operation: P::Operation,
+) -> Result<Prepared<P::Value, P::Operation, P::Answer>, Aborted<P::Value, P::Operation>>
+    requires seat { IsSeatOf context.now.shared.now.table_id context.now.setup.now
+        context.now.number who.old }
+    requires may { MayPrepare P.Replicated context.now.setup.now.seats who.old.me state.value
+        operation }
     ensures table { who.new.table_id ≡ who.old.table_id }
-    ensures made { IfOk result (λ made.
-        IsPrepared who.old.me.0 who.new.me add made.state.value made.added) }
+    ensures made { IfOk result (λ made. IsPrepared P.Replicated P.answer who.old.me.0 who.new.me
+        operation made.state.value made.answer) }
     ensures left { IfErr result (λ left. (tries : Option ℕ)
-        → IsAborted tries who.old.me.0 who.new.me left) }
+        → IsAborted P.Replicated tries who.old.me.0 who.new.me left) }
 {
-    match prepare(context, who, &mut state, add) {
-        Ok(Ready { added, retired }) => Ok(Prepared {
+    match prepare(context, who, &mut state, operation) {
+        Ok(Ready { answer, retired }) => Ok(Prepared {
             state,
-            added,
+            answer,
             retired,
         }),
         Err(retired) => Err(Aborted {
             state,
             retired,
-            why: NotAdded::NoMemory,
+            why: NotApplied::NoMemory,
         }),
     }
 }
 
-/// Prepares an Add by a copy of it, which is made only if the history is not full. All readers
-/// leave the standby copy first, unless the policy gives up.
-pub(crate) fn prepare_copy<P: WaitPolicy>(
-    policy: &P,
-    context: &AddContext<'_>,
-    who: &mut Participant,
-    state: Box<WriterState>,
-    asked: &AddRef<'_>,
-) -> Result<Prepared, Aborted>
-    requires writer { IsSeatOf context.now who.old × IsNewWriter who.old.me state.value }
-    requires make { CanAllBeAdded context.now.setup.now.config
-        (marks_asked asked.now.marks) asked.now.moment }
+/// Prepares an operation by a copy of what is asked for, which is made only if the history is not
+/// full. All readers leave the standby copy first, unless the policy gives up.
+pub(crate) fn prepare_copy<P: Replicate, W: WaitPolicy, Q: Ask<P::Operation>>(
+    policy: &W,
+    context: &Context<'_, P>,
+    who: &mut Participant<P>,
+    state: Box<WriterState<P::Value, P::Operation>>,
+    asked: &Q,
+) -> Result<Prepared<P::Value, P::Operation, P::Answer>, Aborted<P::Value, P::Operation>>
+    requires seat { IsSeatOf context.now.shared.now.table_id context.now.setup.now
+        context.now.number who.old }
+    requires writer { IsNewWriter P.Replicated who.old.me state.value }
+    requires make { (op : _) → Q.is asked.now op → CanBe P.Replicated context.now.setup.now op }
     ensures table { who.new.table_id ≡ who.old.table_id }
-    ensures made { IfOk result (CanMake (marks_asked asked.now.marks) asked.now.moment
-        who.old.me.0 who.new.me) }
-    ensures left { IfErr result (IsAborted (P.tries policy.now) who.old.me.0 who.new.me) }
+    ensures made { IfOk result (λ made. (op : _) × Q.is asked.now op
+        × IsPrepared P.Replicated P.answer who.old.me.0 who.new.me op made.state.value
+        made.answer) }
+    ensures left { IfErr result (IsAborted P.Replicated (W.tries policy.now) who.old.me.0
+        who.new.me) }
 {
     let setup = context.setup;
     if state.length >= setup.limit {
         return Err(Aborted {
             state,
             retired: None,
-            why: NotAdded::HistoryFull,
+            why: NotApplied::HistoryFull,
         });
     }
-    let Ok(add) = copy_of(context.alloc, asked) else {
+    let Ok(operation) = asked.copied(context.alloc) else {
         return Err(Aborted {
             state,
             retired: None,
-            why: NotAdded::NoMemory,
+            why: NotApplied::NoMemory,
         });
     };
     let standby = standby_side(state.head);
@@ -160,8 +172,8 @@ pub(crate) fn prepare_copy<P: WaitPolicy>(
         return Err(Aborted {
             state,
             retired: None,
-            why: NotAdded::SeatInside,
+            why: NotApplied::SeatInside,
         });
     }
-    prepare_boxed(context, who, state, add)
+    prepare_boxed(context, who, state, operation)
 }

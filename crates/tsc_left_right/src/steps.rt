@@ -1,20 +1,25 @@
 //! The steps of the protocol.
+use crate::replicated::Replicated;
 use crate::table::{Knowledge, Slot};
 use atomic_table::{Join, Play, Split};
+use std::marker::PhantomData;
 
 /// Acquires the writer lock where it is free.
-pub(crate) struct Acquire;
+pub(crate) struct Acquire<P> {
+    replicated: PhantomData<P>,
+}
 
-impl Play<Slot, Knowledge> for Acquire {
+impl<P: Replicated> Play<Slot<P::Value, P::Operation>, Knowledge<P::Settings, P::Entry>>
+    for Acquire<P> {
     ghost use Rattle.tsc_left_right.specs.Steps.{acquires};
 
-    ghost then = { acquires };
+    ghost then = { acquires P.Replicated };
 }
 
 /// Releases the writer lock.
 pub(crate) struct Release;
 
-impl Play<Slot, Knowledge> for Release {
+impl<C, O, S, E> Play<Slot<C, O>, Knowledge<S, E>> for Release {
     ghost use Rattle.tsc_left_right.specs.Steps.{releases};
 
     ghost then = { releases };
@@ -23,7 +28,7 @@ impl Play<Slot, Knowledge> for Release {
 /// Looks which seat goes first, or says so: nobody knows more or less then.
 pub(crate) struct Line;
 
-impl Play<Slot, Knowledge> for Line {
+impl<C, O, S, E> Play<Slot<C, O>, Knowledge<S, E>> for Line {
     ghost use Rattle.tsc_left_right.specs.Steps.{stays};
 
     ghost then = { stays };
@@ -32,61 +37,70 @@ impl Play<Slot, Knowledge> for Line {
 /// The writer finds out whether the next seat has left the standby side, and then takes its slot.
 pub(crate) struct Clear;
 
-impl Play<Slot, Knowledge> for Clear {
+impl<C, O, S, E> Play<Slot<C, O>, Knowledge<S, E>> for Clear {
     ghost use Rattle.tsc_left_right.specs.Steps.{clears};
 
     ghost then = { clears };
 }
 
-/// The writer's Add comes into the history, and the copies are swapped.
-pub(crate) struct Publish;
+/// The writer's operation comes into the history, and the copies are swapped.
+pub(crate) struct Publish<P> {
+    replicated: PhantomData<P>,
+}
 
-impl Play<Slot, Knowledge> for Publish {
+impl<P: Replicated> Play<Slot<P::Value, P::Operation>, Knowledge<P::Settings, P::Entry>>
+    for Publish<P> {
     ghost use Rattle.tsc_left_right.specs.Steps.{publishes};
 
-    ghost then = { publishes };
+    ghost then = { publishes P.Replicated };
 }
 
 /// A seat is pinned.
 pub(crate) struct Pin;
 
-impl Play<Slot, Knowledge> for Pin {
+impl<C, O, S, E> Play<Slot<C, O>, Knowledge<S, E>> for Pin {
     ghost use Rattle.tsc_left_right.specs.Steps.{pins};
 
     ghost then = { pins };
 }
 
 /// A seat takes its slot of the active side.
-pub(crate) struct ReadHead;
+pub(crate) struct ReadHead<P> {
+    replicated: PhantomData<P>,
+}
 
-impl Play<Slot, Knowledge> for ReadHead {
+impl<P: Replicated> Play<Slot<P::Value, P::Operation>, Knowledge<P::Settings, P::Entry>>
+    for ReadHead<P> {
     ghost use Rattle.tsc_left_right.specs.Steps.{reads_head};
 
-    ghost then = { reads_head };
+    ghost then = { reads_head P.Replicated };
 }
 
 /// A seat lays its slot back, and is unpinned.
 pub(crate) struct Unpin;
 
-impl Play<Slot, Knowledge> for Unpin {
+impl<C, O, S, E> Play<Slot<C, O>, Knowledge<S, E>> for Unpin {
     ghost use Rattle.tsc_left_right.specs.Steps.{unpins};
 
     ghost then = { unpins };
 }
 
 /// A seat has seen what its front says, where that is longer.
-pub(crate) struct CatchUp;
+pub(crate) struct CatchUp<P> {
+    replicated: PhantomData<P>,
+}
 
-impl Play<Slot, Knowledge> for CatchUp {
+impl<P: Replicated> Play<Slot<P::Value, P::Operation>, Knowledge<P::Settings, P::Entry>>
+    for CatchUp<P> {
     ghost use Rattle.tsc_left_right.specs.Steps.{catches_up};
 
-    ghost then = { catches_up };
+    ghost then = { catches_up P.Replicated };
 }
 
 /// The first state goes to a participant of its own.
 pub(crate) struct SplitOff;
 
-impl Split<Knowledge> for SplitOff {
+impl<S, E> Split<Knowledge<S, E>> for SplitOff {
     ghost use Rattle.std.specs.Prelude.{◌∷◌, []};
     ghost use Rattle.tsc_left_right.specs.Rule.{keeping};
     ghost use Rattle.tsc_left_right.specs.Steps.{first_state, other_states};
@@ -99,7 +113,7 @@ impl Split<Knowledge> for SplitOff {
 /// What a seat has seen goes to a front.
 pub(crate) struct SplitFront;
 
-impl Split<Knowledge> for SplitFront {
+impl<S, E> Split<Knowledge<S, E>> for SplitFront {
     ghost use Rattle.tsc_left_right.specs.Steps.{front_of, state_in};
 
     ghost left = { λ v. v };
@@ -108,25 +122,29 @@ impl Split<Knowledge> for SplitFront {
 }
 
 /// The states of two participants come together.
-pub(crate) struct Merge;
+pub(crate) struct Merge<P> {
+    replicated: PhantomData<P>,
+}
 
-impl Join<Knowledge> for Merge {
+impl<P: Replicated> Join<Knowledge<P::Settings, P::Entry>> for Merge<P> {
     ghost use Rattle.std.specs.Prelude.{◌++◌};
     ghost use Rattle.tsc_left_right.specs.Rule.{keeping};
     ghost use Rattle.tsc_left_right.specs.Steps.{spent};
 
     ghost both = { λ v w. keeping v.setup (v.states ++ w.states) };
 
-    ghost spent = { spent };
+    ghost spent = { spent P.unsettled };
 }
 
 /// What a front says goes to another participant.
-pub(crate) struct JoinFront;
+pub(crate) struct JoinFront<P> {
+    replicated: PhantomData<P>,
+}
 
-impl Join<Knowledge> for JoinFront {
+impl<P: Replicated> Join<Knowledge<P::Settings, P::Entry>> for JoinFront<P> {
     ghost use Rattle.tsc_left_right.specs.Steps.{spent};
 
     ghost both = { λ v w. record v { front = w.front } };
 
-    ghost spent = { spent };
+    ghost spent = { spent P.unsettled };
 }

@@ -1,71 +1,63 @@
 //! The table that the threads share, and what each of them knows of it.
+use crate::replicated::Replicated;
 use atomic_table::{Seat as TableSeat, Shared, Table, TableRule};
 use std::alloc::Global;
 use std::collections::LinkedList;
+use std::marker::PhantomData;
 use std::sync::Arc;
-use tsc_cache::{Cache, Config, Entry, Mark};
-use tsc_time::Timestamp;
 
-/// What was settled when a cache was opened.
+/// What was settled when the table was made.
 #[derive(Clone, Copy)]
-pub struct Setup {
-    /// How the cache is set up.
-    pub config: Config,
+pub struct Setup<S> {
+    /// The settings of what is replicated.
+    pub settings: S,
     /// How many seats there are.
     pub seats: u32,
-    /// How many Adds there may be.
+    /// How many operations there may be.
     pub limit: u64,
 }
 
-/// The marks of an Add: one, which takes no memory beside its own, or a list of them.
+/// The two copies.
 #[derive(Drop)]
-pub enum MarkList {
-    One(Mark),
-    Many(Vec<Mark>),
-}
-
-/// An Add that the standby copy has not had yet.
-#[derive(Drop)]
-pub struct UnappliedAdd {
-    pub marks: MarkList,
-    pub moment: Timestamp,
+pub struct Copies<C, O> {
+    /// The copy that readers read, which is after all operations.
+    pub active: Arc<C>,
+    /// The standby copy, if it is there, which is after all operations but `lagging`.
+    pub standby: Option<Arc<C>>,
+    /// The last operation, if the standby copy has not had it yet.
+    pub lagging: Option<O>,
 }
 
 /// What the writer works with.
 #[derive(Drop)]
-pub struct WriterState {
-    /// The copy that lookups read, which is after all Adds.
-    pub active: Arc<Cache>,
-    /// The standby copy, if it is there, which is after all Adds but the one of `lagging`.
-    pub standby: Option<Arc<Cache>>,
-    /// The last Add, if the standby copy has not had it yet.
-    pub lagging: Option<UnappliedAdd>,
-    /// How many Adds there were.
+pub struct WriterState<C, O> {
+    pub copies: Copies<C, O>,
+    /// How many operations there were.
     pub length: u64,
     /// What HEAD says: the side of the active copy.
     pub head: u64,
 }
 
-/// A handle on a copy, which has had the first `length` Adds.
+/// A handle on a copy, which has had the first `length` operations.
 #[derive(Drop)]
-pub struct ReadHandle {
-    pub cache: Arc<Cache>,
+pub struct ReadHandle<C> {
+    pub copy: Arc<C>,
     pub length: u64,
 }
 
 /// What a slot has: the writer's state, a handle on a copy, or nothing.
 #[derive(Drop)]
-pub enum Slot {
+pub enum Slot<C, O> {
     Empty,
-    Writer(Box<WriterState>),
-    Handle(ReadHandle),
+    Writer(Box<WriterState<C, O>>),
+    Handle(ReadHandle<C>),
 }
 
 /// What is known of a seat. No value of it is made.
-pub struct SeatState {
+pub struct SeatState<E> {
     pub number: u32,
-    /// What the seat has seen, and how many of its own Adds are there.
-    pub seen: LinkedList<Entry>,
+    /// What the seat has seen, and how many of its own operations are there.
+    pub seen: LinkedList<E>,
     pub count: u64,
     /// Whether the seat holds the writer lock.
     pub holds: bool,
@@ -81,21 +73,27 @@ pub struct SeatState {
 
 /// What a participant knows: the states of the seats that it keeps, and the history that its front
 /// says. No value of it is made.
-pub struct Knowledge {
+pub struct Knowledge<S, E> {
     /// Whether the participant was joined to no other.
     pub live: bool,
-    pub setup: Setup,
-    pub states: LinkedList<SeatState>,
-    pub front: LinkedList<Entry>,
+    pub setup: Setup<S>,
+    pub states: LinkedList<SeatState<E>>,
+    pub front: LinkedList<E>,
 }
 
 /// One seat at a time writes, and all that any seat has seen is a beginning of one history.
-pub struct LeftRight;
+pub struct LeftRight<P> {
+    replicated: PhantomData<P>,
+}
 
-impl TableRule<Slot, Knowledge, Setup> for LeftRight {
+impl<P: Replicated> TableRule<
+    Slot<P::Value, P::Operation>,
+    Knowledge<P::Settings, P::Entry>,
+    Setup<P::Settings>,
+> for LeftRight<P> {
     ghost use Rattle.tsc_left_right.specs.Rule.{LeftRightRule, first_knowledge};
 
-    ghost holds = { LeftRightRule };
+    ghost holds = { LeftRightRule P.Replicated };
 
     ghost first = { first_knowledge };
 }
@@ -108,10 +106,24 @@ impl TableRule<Slot, Knowledge, Setup> for LeftRight {
 /// the epoch of each seat. Slot 0 is the writer's, and slot 16 * s + 8 * k + 8 is that of seat s on
 /// side k. The lock, HEAD, each epoch and each slot has a line of 128 bytes of its own: sixteen
 /// words, or eight slots of sixteen bytes or more (`places.rt`).
-pub type Replicas = Table<Slot, Knowledge, Setup, LeftRight, Global>;
+pub type Replicas<P> = Table<
+    Slot<<P as Replicated>::Value, <P as Replicated>::Operation>,
+    Knowledge<<P as Replicated>::Settings, <P as Replicated>::Entry>,
+    Setup<<P as Replicated>::Settings>,
+    LeftRight<P>,
+    Global,
+>;
 
 /// The replicas as threads share them.
-pub type SharedReplicas = Shared<Slot, Knowledge, Setup, LeftRight>;
+pub type SharedReplicas<P> = Shared<
+    Slot<<P as Replicated>::Value, <P as Replicated>::Operation>,
+    Knowledge<<P as Replicated>::Settings, <P as Replicated>::Entry>,
+    Setup<<P as Replicated>::Settings>,
+    LeftRight<P>,
+>;
 
 /// One that takes part: a seat of the table.
-pub type Participant = TableSeat<Slot, Knowledge>;
+pub type Participant<P> = TableSeat<
+    Slot<<P as Replicated>::Value, <P as Replicated>::Operation>,
+    Knowledge<<P as Replicated>::Settings, <P as Replicated>::Entry>,
+>;

@@ -7,6 +7,7 @@ ghost use Rattle.tsc_left_right.specs.Participating.{IsOf, IsFree, IsNext, AreSi
 ghost use Rattle.tsc_left_right.specs.Participating.{HasAcquired};
 
 use crate::lock::{acquire, clear, first_in_line, set_first};
+use crate::replicated::Replicated;
 use crate::table::{Participant, SharedReplicas, WriterState};
 use crossbeam_utils::Backoff;
 use std::sync::Wait;
@@ -18,23 +19,29 @@ pub trait WaitPolicy {
     ghost tries: { Self → Option ℕ };
 
     /// Acquires the writer lock, once it is free: `None` if it was held at each try.
-    fn acquire(
+    fn acquire<P: Replicated>(
         &self,
-        shared: &SharedReplicas,
-        who: &mut Participant,
+        shared: &SharedReplicas<P>,
+        who: &mut Participant<P>,
         number: u32,
-    ) -> Option<Box<WriterState>>
+    ) -> Option<Box<WriterState<P::Value, P::Operation>>>
         requires of { IsOf who.old shared.now.table_id }
         requires free { IsFree who.old.me × (number ≡ number_of who.old.me.0) }
         ensures table { who.new.table_id ≡ who.old.table_id }
-        ensures acquired { IfSome result (λ state. HasAcquired who.old.me.0 who.new.me
-            state.value) }
+        ensures acquired { IfSome result (λ state. HasAcquired P.Replicated who.old.me.0
+            who.new.me state.value) }
         ensures busy { IfNone result ((who.new.me ≡ who.old.me) × HasEnd (tries self.now)) }
         ensures no_try { tries self.now ≡ Some 0 → IsNone result };
 
     /// Takes the slot of the next seat on the standby side, once that seat has left it. It tells
     /// whether the seat left it.
-    fn clear(&self, shared: &SharedReplicas, who: &mut Participant, seat: u32, standby: u64) -> bool
+    fn clear<P: Replicated>(
+        &self,
+        shared: &SharedReplicas<P>,
+        who: &mut Participant<P>,
+        seat: u32,
+        standby: u64,
+    ) -> bool
         requires of { IsOf who.old shared.now.table_id }
         requires next { IsNext who.old.me.0 seat standby }
         requires cleared { IsWriting who.old.me.0 who.old.me seat None }
@@ -53,16 +60,17 @@ const COURTESY: u32 = 64;
 /// Tries once to acquire the writer lock, after so many tries. Another seat that has waited long
 /// goes first for a while, and this one does when it has. Who acquires the lock ends that: the
 /// thread of a seat that was to go first may have been stopped.
-fn try_in_turn(
-    shared: &SharedReplicas,
-    who: &mut Participant,
+fn try_in_turn<P: Replicated>(
+    shared: &SharedReplicas<P>,
+    who: &mut Participant<P>,
     number: u32,
     tries: u32,
-) -> Option<Box<WriterState>>
+) -> Option<Box<WriterState<P::Value, P::Operation>>>
     requires of { IsOf who.old shared.now.table_id }
     requires free { IsFree who.old.me × (number ≡ number_of who.old.me.0) }
     ensures table { who.new.table_id ≡ who.old.table_id }
-    ensures acquired { IfSome result (λ state. HasAcquired who.old.me.0 who.new.me state.value) }
+    ensures acquired { IfSome result (λ state. HasAcquired P.Replicated who.old.me.0 who.new.me
+        state.value) }
     ensures busy { IfNone result (who.new.me ≡ who.old.me) }
 {
     let own = u64::from(number) + 1;
@@ -90,12 +98,12 @@ pub struct Blocking<'r, R>(pub &'r R);
 impl<'r, R: Wait> WaitPolicy for Blocking<'r, R> {
     ghost tries = { λ _. None };
 
-    fn acquire(
+    fn acquire<P: Replicated>(
         &self,
-        shared: &SharedReplicas,
-        who: &mut Participant,
+        shared: &SharedReplicas<P>,
+        who: &mut Participant<P>,
         number: u32,
-    ) -> Option<Box<WriterState>> {
+    ) -> Option<Box<WriterState<P::Value, P::Operation>>> {
         let backoff = Backoff::new();
         let mut tries: u32 = 0;
         for _ in self.0.forever() {
@@ -108,10 +116,10 @@ impl<'r, R: Wait> WaitPolicy for Blocking<'r, R> {
         unreachable!()
     }
 
-    fn clear(
+    fn clear<P: Replicated>(
         &self,
-        shared: &SharedReplicas,
-        who: &mut Participant,
+        shared: &SharedReplicas<P>,
+        who: &mut Participant<P>,
         seat: u32,
         standby: u64,
     ) -> bool {
@@ -136,12 +144,12 @@ pub struct Bounded(pub u32);
 impl WaitPolicy for Bounded {
     ghost tries = { λ t. Some t.0 };
 
-    fn acquire(
+    fn acquire<P: Replicated>(
         &self,
-        shared: &SharedReplicas,
-        who: &mut Participant,
+        shared: &SharedReplicas<P>,
+        who: &mut Participant<P>,
         number: u32,
-    ) -> Option<Box<WriterState>> {
+    ) -> Option<Box<WriterState<P::Value, P::Operation>>> {
         let backoff = Backoff::new();
         for _ in 0..self.0 {
             if let Some(state) = acquire(shared, who, number) {
@@ -152,10 +160,10 @@ impl WaitPolicy for Bounded {
         None
     }
 
-    fn clear(
+    fn clear<P: Replicated>(
         &self,
-        shared: &SharedReplicas,
-        who: &mut Participant,
+        shared: &SharedReplicas<P>,
+        who: &mut Participant<P>,
         seat: u32,
         standby: u64,
     ) -> bool {
@@ -174,10 +182,10 @@ impl WaitPolicy for Bounded {
 
 /// Takes the slots of all seats on the standby side. The result says whether each seat left that
 /// side before the policy gave up.
-pub(crate) fn wait_for_readers<P: WaitPolicy>(
-    policy: &P,
-    shared: &SharedReplicas,
-    who: &mut Participant,
+pub(crate) fn wait_for_readers<P: Replicated, W: WaitPolicy>(
+    policy: &W,
+    shared: &SharedReplicas<P>,
+    who: &mut Participant<P>,
     seats: u32,
     standby: u64,
 ) -> bool
@@ -187,7 +195,7 @@ pub(crate) fn wait_for_readers<P: WaitPolicy>(
     ensures table { who.new.table_id ≡ who.old.table_id }
     ensures cleared { result ≡ true → IsWriting who.old.me.0 who.new.me seats None }
     ensures pinned { result ≡ false → StillWrites who.old.me.0 who.new.me
-        × HasEnd (P.tries policy.now) }
+        × HasEnd (W.tries policy.now) }
 {
     for seat in 0..seats {
         if !policy.clear(shared, who, seat, standby) {

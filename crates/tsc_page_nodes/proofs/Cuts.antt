@@ -75,11 +75,11 @@ cuts_of_key k (n ∷ ns) h = by (cases_Bool (bytes_eq k n.key)) (λ g. cuts_of_k
         sym ((bytes_eq-Decides k n.key).0 e) in (inl (ap before same), inr (inl (ap after same)))
     by (inr e) rest = let r = rest (rw e at h) in (inr (inr r.0), inr (inr r.1))
 
--- raising moves no cut of the nodes
-raise_nodes-cut : (m : Interval) (v : OwnedTime) (ns : List Node) →
+-- raising moves no cut of the nodes: they begin where they did
+pub raise_nodes-start : (m : Interval) (v : OwnedTime) (ns : List Node) →
     next_cut (node_stretches (raise_nodes m v ns)) ≡ next_cut (node_stretches ns)
-raise_nodes-cut m v [] = refl
-raise_nodes-cut m v (n ∷ ns) = refl
+raise_nodes-start m v [] = refl
+raise_nodes-start m v (n ∷ ns) = refl
 
 raise_nodes-stretches : (m : Interval) (v : OwnedTime) (ns : List Node) →
     raise m v (node_stretches ns) ≡ node_stretches (raise_nodes m v ns)

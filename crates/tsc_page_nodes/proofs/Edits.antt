@@ -17,12 +17,6 @@ pub raise_nodes-keys : (m : Interval) (v : OwnedTime) (ns : List Node) →
 raise_nodes-keys m v [] = refl
 raise_nodes-keys m v (n ∷ ns) = ap (λ ks. n.key ∷ ks) (raise_nodes-keys m v ns)
 
--- they begin where they did
-pub raise_nodes-start : (m : Interval) (v : OwnedTime) (ns : List Node) →
-    next_cut (node_stretches (raise_nodes m v ns)) ≡ next_cut (node_stretches ns)
-raise_nodes-start m v [] = refl
-raise_nodes-start m v (n ∷ ns) = refl
-
 pub raise_nodes-length : (m : Interval) (v : OwnedTime) (ns : List Node) →
     length (raise_nodes m v ns) ≡ length ns
 raise_nodes-length m v [] = refl

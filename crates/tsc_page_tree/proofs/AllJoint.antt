@@ -12,8 +12,8 @@ use Rattle.tsc_page_nodes.specs.Nodes.{Node, answer_of, node_stretches, IsSorted
 use Rattle.tsc_page_tree.specs.Leaves.{nodes_of, start_of, HasNode}
 use Rattle.tsc_page_tree.specs.Lazy.{everything, with_lazy, seen_with, all_joint}
 use Rattle.tsc_page_nodes.proofs.CutOrder.{Lt, Le, Lt-or_Le, Lt-not_Le, Le-from_Lt, Lt-chain, Le_Lt-chain, before-after, below_last, none_above_last, overlaps-from}
-use Rattle.tsc_page_nodes.proofs.Cuts.{lowest}
-use Rattle.tsc_page_nodes.proofs.Edits.{raise_nodes-start, raise_nodes-sorted}
+use Rattle.tsc_page_nodes.proofs.Cuts.{lowest, raise_nodes-start}
+use Rattle.tsc_page_nodes.proofs.Edits.{raise_nodes-sorted}
 use Rattle.tsc_page_nodes.proofs.NewKeys.{with_new_splits, still_new, makes_sorted}
 use Rattle.tsc_page_nodes.proofs.Answers.{Meets}
 use Rattle.tsc_page_nodes.proofs.Raises.{first_below, second_below, both_below}

@@ -13,9 +13,9 @@ use Rattle.tsc_page_nodes.proofs.CutOrder.{Lt, Le}
 use Rattle.tsc_page_nodes.proofs.Costs.{cost-raised}
 use Rattle.tsc_page_nodes.proofs.Edits.{raise_nodes-length}
 use Rattle.tsc_page_tree.proofs.Joins.{sorted_right}
-use Rattle.tsc_page_tree.proofs.LeafAdds.{shifted}
+use Rattle.tsc_page_tree.proofs.LeafAdds.{shifted, known_low}
 use Rattle.tsc_page_tree.proofs.SubtreeAcross.{handed_on, raised_from, raised_up_to, raised_over}
-use Rattle.tsc_page_tree.proofs.EndNodes.{start_one, sorted_one, one_left, one_right, first_low, second_left}
+use Rattle.tsc_page_tree.proofs.EndNodes.{start_one, sorted_one, one_left, one_right, second_left}
 
 -- there are some of two lists where there are of one
 some_left : (xs ys : List Node) → 1 ≤ length xs → 1 ≤ length (xs ++ ys)
@@ -76,7 +76,7 @@ module _ (front low mid high behind new_low new_mid new_high : List Node) (a : I
       (shifted front told.lower) told.more_low
   lower_all = one_right front (low ++ rest) (told.mid_low ++ rest) a.first told.lower told.more_low
       (some_left low rest some_low) sorted (one_left low told.mid_low rest a.first told.lower
-      told.more_low some_low (first_low rest a.from a.first below first) told.first)
+      told.more_low some_low (known_low rest a.from a.first below first) told.first)
 
   sorted_upper : IsSorted (front ++ (low ++ rest_new))
   sorted_upper = sorted_one (front ++ (low ++ rest)) (front ++ (low ++ rest_new)) a.second
@@ -88,7 +88,7 @@ module _ (front low mid high behind new_low new_mid new_high : List Node) (a : I
 
   lower_here : MakesOne (low ++ rest_new) (told.mid_low ++ rest_new) a.first told.lower told.more_low
   lower_here = one_left low told.mid_low rest_new a.first told.lower told.more_low some_low
-      (first_low rest_new a.from a.first below_new first) told.first
+      (known_low rest_new a.from a.first below_new first) told.first
 
   lower_made : MakesOne (front ++ (low ++ rest_new)) made a.first (shifted front told.lower)
       told.more_low
@@ -173,7 +173,7 @@ pub told_two : (front low mid others high behind new_low new_mid new_others new_
 told_two front low mid others high behind new_low new_mid new_others new_high a q more some_low
     some_high low_sorted high_sorted start below reaches stops first second is told wholly all =
     let lower_here = one_left low told.mid_low mid a.first told.lower told.more_low some_low
-    (first_low mid a.from a.first below first) told.first in
+    (known_low mid a.from a.first below first) told.first in
     let lower_all = one_right front (low ++ mid) (told.mid_low ++ mid) a.first told.lower
     told.more_low (some_left low mid some_low) low_sorted lower_here in
     let upper_here = second_left a q high told.mid_high behind told.upper told.more_high

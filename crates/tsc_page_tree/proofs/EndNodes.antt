@@ -107,11 +107,6 @@ one_right xs ys new (Some k) (Some f) more some sorted made =
       grown = grown_right xs ys new more made.grown;
     }
 
--- a key at a cut below where others begin lies wholly below these
-pub first_low : (ys : List Node) (f : Cut) (o : Option KeyBytes) → Lt f (start_of ys) → LiesAt o f →
-    (k : KeyBytes) → o ≡ Some k → Lt (after k) (start_of ys)
-first_low ys f o low lies k e = known_low ys f o low lies k e
-
 -- the second key comes in in a subtree, or is the first of those behind
 pub second_left : (a : InsertionView) (q : Option KeyBytes) (high new behind : List Node)
     (g : Option (ℕ × KeyBytes)) (more : Growth) (b : Bool) → 1 ≤ length high →
@@ -119,7 +114,7 @@ pub second_left : (a : InsertionView) (q : Option KeyBytes) (high new behind : L
     Le a.to (start_of behind) → MakesOne high new q g more →
     MakesOne (high ++ behind) (new ++ behind) a.second g more
 second_left a q high new behind g more true some h is lies stops made =
-    one_left high new behind a.second g more some (first_low behind a.to a.second h lies)
+    one_left high new behind a.second g more some (known_low behind a.to a.second h lies)
     (subst (λ (o : Option KeyBytes). MakesOne high new o g more) is made)
 second_left a q high new behind g more false some h is lies stops made =
     by g (subst (λ (o : Option KeyBytes). MakesOne high new o g more) is made)

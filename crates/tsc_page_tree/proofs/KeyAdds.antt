@@ -10,6 +10,7 @@ use Rattle.tsc_time.specs.Time.{zero_time}
 use Rattle.tsc_time.specs.OwnedTime.{OwnedTime, unowned}
 use Rattle.tsc_time.specs.Joint.{joint}
 use Rattle.tsc_span.specs.Span.{KeyBytes, Cut, before, after, last, point, is_below}
+use Rattle.tsc_page_nodes.proofs.Cuts.{raise_nodes-start}
 use Rattle.tsc_page_nodes.specs.Prefixes.{IsCutPrefix}
 use Rattle.tsc_page_nodes.specs.declared.nodes.Growth.{Growth}
 use Rattle.tsc_page_nodes.specs.Nodes.{Node, IsSorted, FitsAt, IsNewKey, AddsNodes, with_new, node_in_gap, gap_value, raise_nodes, nodes_cost}
@@ -19,7 +20,6 @@ use Rattle.tsc_page_tree.specs.Lazy.{everything, with_lazy, IsToldOf, sizes_of, 
 use Rattle.tsc_page_tree.specs.KeyAdds.{at_key, AddsKey, IsKeyAddTold}
 use Rattle.tsc_page_nodes.proofs.CutOrder.{Lt, Le, Lt-not_Le, Le-chain, Le_Lt-chain, Le-from_Lt, before-after}
 use Rattle.tsc_page_nodes.proofs.Costs.{cost-raised}
-use Rattle.tsc_page_nodes.proofs.Edits.{raise_nodes-start}
 use Rattle.tsc_page_nodes.proofs.NewKeys.{with_new_splits}
 use Rattle.tsc_page_tree.proofs.LeafKeys.{wholly_below}
 use Rattle.tsc_page_tree.proofs.LeafAdds.{same_some, start_with}

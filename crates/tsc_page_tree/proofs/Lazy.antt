@@ -13,8 +13,8 @@ use Rattle.tsc_page_nodes.specs.Nodes.{Node, node_keys, node_stretches, IsSorted
 use Rattle.tsc_page_tree.specs.Leaves.{nodes_of, start_of}
 use Rattle.tsc_page_tree.specs.Lazy.{everything, with_lazy, merged, seen_with}
 use Rattle.tsc_page_nodes.proofs.CutOrder.{Lt, Le, Lt-not_Le, Le-from_Lt, Le-itself, Lt-chain, Le_Lt-chain, before-after, below_last, none_above_last, overlaps-from}
-use Rattle.tsc_page_nodes.proofs.Cuts.{lowest, raise_nodes_answers}
-use Rattle.tsc_page_nodes.proofs.Edits.{raise_nodes-keys, raise_nodes-start, raise_nodes-length, raise_nodes-sorted}
+use Rattle.tsc_page_nodes.proofs.Cuts.{lowest, raise_nodes_answers, raise_nodes-start}
+use Rattle.tsc_page_nodes.proofs.Edits.{raise_nodes-keys, raise_nodes-length, raise_nodes-sorted}
 use Rattle.tsc_page_nodes.proofs.Answers.{Meets}
 use Rattle.tsc_page_nodes.proofs.Raises.{first_below, second_below, both_below}
 use Rattle.tsc_page_nodes.proofs.Seen.{none_seen}

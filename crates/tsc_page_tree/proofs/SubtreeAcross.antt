@@ -14,9 +14,9 @@ use Rattle.tsc_page_tree.specs.Leaves.{nodes_of, AreSome, start_of, IsLeafAt}
 use Rattle.tsc_page_tree.specs.Lazy.{everything, with_lazy, all_joint, IsToldOf}
 use Rattle.tsc_page_tree.specs.Across.{HasKey, IsLastReached}
 use Rattle.tsc_page_nodes.proofs.CutOrder.{Lt, Le, Lt-not_Le, Le-from_Lt, Le-itself, Lt-chain, Le-chain, Le_Lt-chain, Lt_Le-chain, before-after, none_above_last}
-use Rattle.tsc_page_nodes.proofs.Cuts.{lowest}
+use Rattle.tsc_page_nodes.proofs.Cuts.{lowest, raise_nodes-start}
 use Rattle.tsc_page_nodes.proofs.Places.{before_or_past}
-use Rattle.tsc_page_nodes.proofs.Edits.{raise_nodes-start, raise_nodes-length}
+use Rattle.tsc_page_nodes.proofs.Edits.{raise_nodes-length}
 use Rattle.tsc_page_tree.proofs.Joins.{sorted_right, below_next, raises_left, raises_right, raises_both}
 use Rattle.tsc_page_tree.proofs.LeafLists.{parted_at, leaf_first, sorted_from, start_at, start_past, some_nodes}
 use Rattle.tsc_page_tree.proofs.LeafAdds.{known_high}

@@ -13,8 +13,8 @@ use Rattle.tsc_page_tree.specs.Lazy.{with_lazy, all_joint, IsToldOf}
 use Rattle.tsc_page_tree.specs.Across.{HasKey, IsAcrossTold, MakesOne}
 use Rattle.tsc_page_nodes.specs.declared.nodes.Growth.{Growth}
 use Rattle.tsc_page_nodes.proofs.CutOrder.{Lt, Le, Lt-not_Le, Le_Lt-chain, none_above_last}
-use Rattle.tsc_page_nodes.proofs.Cuts.{lowest}
-use Rattle.tsc_page_nodes.proofs.Edits.{raise_nodes-start, raise_nodes-length}
+use Rattle.tsc_page_nodes.proofs.Cuts.{lowest, raise_nodes-start}
+use Rattle.tsc_page_nodes.proofs.Edits.{raise_nodes-length}
 use Rattle.std.proofs.lemmas.Bool.{cases_Bool}
 use Rattle.tsc_page_tree.proofs.Joins.{up_to_last}
 use Rattle.tsc_page_tree.proofs.LeafLists.{starts_rise, start_at, start_past}

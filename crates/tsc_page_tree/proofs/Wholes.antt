@@ -109,10 +109,6 @@ branch_same nodes sizes IsWhole s xs ys same whole = record {
       (with_lazy s.lazy (nodes_of ls))) (sym same.nodes) whole.sizes);
 }
 
--- what holds of a refusal
-pub on_err : {T E : Type 0} (r : Result T E) (e : E) (P : Type 0) → r ≡ Err e → OnErr r P → P
-on_err {T = T} r e P is p = subst (λ (q : Result T _). OnErr q P) is p
-
 -- what such a call tells where it is refused
 pub refused_told : {E : Type 0} (r : Result (Option Growth) E) (old new : List Node)
     (was now : List ℕ) (a : InsertionView) (room : ℕ) → IsErr r → new ≡ old → now ≡ was →

@@ -24,6 +24,7 @@ use Rattle.tsc_shared.specs.declared.answers.Receipt.{Receipt}
 use Rattle.tsc_shared.specs.declared.answers.Closed.{Closed}
 use Rattle.tsc_cache.proofs.Beginnings.{begins_itself, begins_on}
 use Rattle.tsc_left_right.proofs.Prefixes.{begins_length, own_append, own_of_one, own_of_other}
+use Rattle.tsc_shared.specs.Caches.{caches}
 use Rattle.tsc_run.specs.Runs.{AnswersCall, Runs, RunsAll}
 
 -- ---- each line
@@ -206,8 +207,8 @@ of_later_seats from zero e h below = refl
 of_later_seats from (suc n) e h below =
     omega (
       arith,
-      own_append from (e ∷ []) h,
-      own_of_other from e (λ same. omega (arith, same)),
+      own_append caches from (e ∷ []) h,
+      own_of_other caches from e (λ same. omega (arith, same)),
       of_later_seats (suc from) n e h (omega arith),
     )
 
@@ -218,14 +219,14 @@ of_one_of_them from (suc n) e h low high =
     elim (same_or_not e.seat from) [
       | inl same ↦ omega (
         arith,
-        own_append from (e ∷ []) h,
-        own_of_one from e same,
+        own_append caches from (e ∷ []) h,
+        own_of_one caches from e same,
         of_later_seats (suc from) n e h (omega (arith, same)),
       )
       | inr other ↦ omega (
         arith,
-        own_append from (e ∷ []) h,
-        own_of_other from e other,
+        own_append caches from (e ∷ []) h,
+        own_of_other caches from e other,
         of_one_of_them (suc from) n e h (omega (arith, other)) (omega arith),
       )
     ]

@@ -3,17 +3,18 @@ use Rattle.std.proofs.Common.{◌≡◌, ◌∙◌, refl, sym, ap, subst, ℕ, s
 use Rattle.std.specs.Prelude.{All, map, slice_index_or}
 use Rattle.std.proofs.lemmas.List.{length-append, length_push}
 use Rattle.atomic_table.specs.Seated.{TableId}
-use Rattle.tsc_left_right.specs.declared.table.Setup.{Setup}
-use Rattle.tsc_left_right.specs.declared.table.SeatState.{SeatState}
 use Rattle.tsc_left_right.specs.Rule.{at_rest, keeping, first_knowledge, fresh_states}
-use Rattle.tsc_left_right.specs.Steps.{At, seated, first_state, other_states, number_of, seen_of, count_of}
-use Rattle.tsc_left_right.specs.Participating.{Participant, IsAtRest, IsOf, KeepsStates}
+use Rattle.tsc_left_right.specs.Steps.{seated, first_state, other_states, number_of, seen_of, count_of}
+use Rattle.tsc_left_right.specs.Participating.{IsAtRest, IsOf, KeepsStates}
 use Rattle.tsc_left_right.proofs.Calls.{still_of}
+use Rattle.tsc_cache.specs.declared.history.Entry.{Entry}
 use Rattle.tsc_shared.specs.Seats.{SeatView}
 use Rattle.tsc_shared.specs.Keeping.{state_of_seat}
+use Rattle.tsc_shared.specs.Caches.{At, Participant, SeatState, Setup}
 
 -- the first of the states that are left
-fresh_first : (number n : ℕ) → number < n → fresh_states number (n - number) ≡ at_rest number [] 0 ∷
+fresh_first : (number n : ℕ) → number < n → fresh_states {E = Entry} number (n - number)
+    ≡ at_rest number [] 0 ∷
     fresh_states (number + 1) (n - (number + 1))
 fresh_first number n low =
     let more : n - number ≡ suc (n - (number + 1)) = omega arith in
@@ -77,24 +78,6 @@ rest_keeps me rest = subst (λ (m : At). KeepsStates m.0) (sym rest) refl
 pub taken_keeps : (all : At) (taken : List SeatView) →
     all ≡ (keeping all.0.setup (map state_of_seat taken), []) → KeepsStates all.0
 taken_keeps all taken is = subst (λ (m : At). KeepsStates m.0) (sym is) refl
-
-get_middle : {X : Type 0} (xs ys : List X) (x : X) →
-    slice_index_or ((xs ++ x ∷ []) ++ ys) (length xs) x ≡ x
-get_middle [] ys x = refl
-get_middle (y ∷ xs) ys x = get_middle xs ys x
-
--- what holds of all holds of one among them
-pub all_middle : {X : Type 0} (P : X → Type 0) (xs ys zs ws : List X) (x : X) → zs ≡ ws ++ ys →
-    ws ≡ xs ++ x ∷ [] → All P zs → P x
-all_middle P xs ys zs ws x is whole all =
-    let same : zs ≡ (xs ++ x ∷ []) ++ ys = is ∙ ap (λ v. v ++ ys) whole in
-    subst P (ap (λ v. slice_index_or v (length xs) x) same ∙ get_middle xs ys x)
-    (all (length xs) x (omega (
-      arith,
-      ap length same,
-      length-append (xs ++ x ∷ []) ys,
-      length_push xs x,
-    )))
 
 -- the state of a seat comes to the others
 pub gathered_then : (me me' all : At) (seat : SeatView) (taken : List SeatView) → IsAtRest me →

@@ -75,8 +75,7 @@ waited_exactly P fault (Err (Refused other)) result is p = (
 
 -- all of that together
 pub waited_answers : (old new : SeatView) (ms : List Mark) (now : Time) (fit : Bool)
-    (tries : Option ℕ)
-    (tried : Tried) (result : Waited) → IsWaited tried result
+    (tries : Option ℕ) (tried : Tried) (result : Waited) → IsWaited tried result
     → AnswersTriedAdd old new ms now fit tries tried → AnswersAdd old new ms now fit result
 waited_answers old new ms now fit tries tried result is a = record {
   accepted = waited_ok (Accepts old new ms now) tried result is a.accepted;

@@ -5,11 +5,11 @@ use Rattle.tsc_time.specs.Time.{Time}
 use Rattle.tsc_page_nodes.specs.Page.{Mark}
 use Rattle.tsc_cache.specs.Settings.{Settings, fits}
 use Rattle.tsc_cache.specs.Batch.{all_fit}
-use Rattle.tsc_left_right.specs.declared.copies.MarksRef.{MarksRef}
-use Rattle.tsc_left_right.specs.declared.copies.MarksRef.TheVariants.{One, Many}
+use Rattle.tsc_shared.specs.declared.adds.MarksRef.{MarksRef}
+use Rattle.tsc_shared.specs.declared.adds.MarksRef.TheVariants.{One, Many}
 use Rattle.tsc_left_right.specs.Waiting.{HasEnd}
-use Rattle.tsc_left_right.specs.declared.preparing.NotAdded.{NotAdded}
-use Rattle.tsc_left_right.specs.declared.preparing.NotAdded.TheVariants as not_added
+use Rattle.tsc_left_right.specs.declared.preparing.NotApplied.{NotApplied}
+use Rattle.tsc_left_right.specs.declared.preparing.NotApplied.TheVariants as why
 use Rattle.tsc_shared.specs.declared.answers.Receipt.{Receipt}
 use Rattle.tsc_shared.specs.declared.answers.AddFault.{AddFault}
 use Rattle.tsc_shared.specs.declared.answers.AddFault.TheVariants as fault
@@ -52,7 +52,7 @@ IsWaited (Err SeatInside) result = ⊥
 IsWaited (Err (Refused fault)) result = result ≡ Err fault
 
 -- what a seat that saw such a history is told then
-abbrev pub fault_for : NotAdded → FrontView → TryAddFault
-fault_for not_added.HistoryFull front = Refused (fault.HistoryFull front)
-fault_for not_added.NoMemory front = Refused fault.NoMemory
-fault_for not_added.SeatInside front = SeatInside
+abbrev pub fault_for : NotApplied → FrontView → TryAddFault
+fault_for why.HistoryFull front = Refused (fault.HistoryFull front)
+fault_for why.NoMemory front = Refused fault.NoMemory
+fault_for why.SeatInside front = SeatInside

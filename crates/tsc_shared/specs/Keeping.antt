@@ -1,18 +1,17 @@
 -- A seat and a front, by the participant that they keep. (For private contracts and the models.)
 use Rattle.std.specs.Prelude.{◌≡◌, ℕ, length}
 use Rattle.atomic_table.specs.Seated.{TableId}
-use Rattle.tsc_left_right.specs.declared.table.Setup.{Setup}
-use Rattle.tsc_left_right.specs.declared.table.SeatState.{SeatState}
 use Rattle.tsc_left_right.specs.Rule.{at_rest}
 use Rattle.tsc_left_right.specs.Steps.{number_of, seen_of, count_of}
-use Rattle.tsc_left_right.specs.Participating.{Participant, IsAtRest, IsSized}
+use Rattle.tsc_left_right.specs.Participating.{IsAtRest, IsSized}
+use Rattle.tsc_shared.specs.Caches.{Setup, SeatState, Participant}
 use Rattle.tsc_shared.specs.Seats.{SharedView, SeatView, FrontView, IsSeat}
 
 -- the cache of a table that was made with this setup
 abbrev pub shared_view : TableId → Setup → SharedView
 shared_view table setup = record {
   table = table;
-  config = setup.config;
+  config = setup.settings;
   seats = setup.seats;
   limit = setup.limit;
 }

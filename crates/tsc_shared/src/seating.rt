@@ -2,14 +2,42 @@
 ghost use Rattle.std.specs.Prelude.{◌≡◌, [], ◌<◌, length, map, All, IfOk, IfSome, IfNone};
 ghost use Rattle.tsc_left_right.specs.Rule.{first_knowledge, keeping};
 ghost use Rattle.tsc_left_right.specs.Steps.{seen_of};
-ghost use Rattle.tsc_left_right.specs.Participating.{IsOf, IsAtRest};
+ghost use Rattle.tsc_left_right.specs.Participating.{IsOf, IsAtRest, IsSized};
+ghost use Rattle.std.specs.Arc.{arc_value};
+ghost use Rattle.tsc_cache.specs.History.{state_of};
+ghost use Rattle.tsc_cache.specs.CacheView.{RepresentsState};
 ghost use Rattle.tsc_shared.specs.Seats.{SharedView, IsFront, new_seats};
 ghost use Rattle.tsc_shared.specs.Keeping.{cache_of, shared_view, state_of_seat};
 
+use crate::caches::{Participant, Replicas, Setup, SharedReplicas};
 use crate::seat::{Front, Seat};
 use std::alloc::Global;
-use tsc_left_right::{Participant, Setup, SharedReplicas, merge, new_front, split_off};
+use std::sync::Arc;
+use tsc_cache::{Cache, TimestampCache};
+use tsc_left_right::{merge, new_front, new_replicas, split_off};
 use tsc_time::NoMemory;
+
+/// A cache to which nothing was added, and a handle on it.
+fn empty_cache(alloc: Global, setup: &Setup) -> Result<Arc<Cache>, NoMemory>
+    ensures { IfOk result (λ cache. RepresentsState (arc_value cache) setup.now.settings
+        (state_of setup.now.settings [])) }
+{
+    let cache = Cache::new(alloc, setup.settings)?;
+    Ok(Arc::new(alloc, cache)?)
+}
+
+/// A table with two copies of a cache to which nothing was added, and its first participant, which
+/// keeps the states of all seats.
+pub(crate) fn open_table(alloc: Global, setup: &Setup) -> Result<(Replicas, Participant), NoMemory>
+    ensures replicas { IfOk result (λ made. IsSized made.0.shared.table_id setup.now.seats
+        × (made.0.shared.key ≡ setup.now)) }
+    ensures all { IfOk result (λ made. (made.1.table_id ≡ made.0.shared.table_id)
+        × (made.1.me ≡ (first_knowledge setup.now, []))) }
+{
+    let active = empty_cache(alloc, setup)?;
+    let standby = empty_cache(alloc, setup)?;
+    Ok(new_replicas(alloc, setup, active, standby)?)
+}
 
 /// A seat for each state that this participant keeps, in the order of their numbers.
 pub(crate) fn seat_all(
@@ -24,7 +52,7 @@ pub(crate) fn seat_all(
         new_seats (shared_view shared.now.table_id setup.now) 0 setup.now.seats) }
 {
     let count = setup.seats;
-    let _first = setup.config.page_first();
+    let _first = setup.settings.page_first();
     let mut seats = Vec::with_capacity(alloc, count as usize)?;
     for number in 0..count {
         let participant = split_off(shared, &mut all);

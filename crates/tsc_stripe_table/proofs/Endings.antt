@@ -15,6 +15,7 @@ use Rattle.std.proofs.lemmas.Bool.Decides.{nat_tests}
 use Rattle.atomic_table.proofs.Lists.{at_snoc}
 use Rattle.tsc_cache.specs.CacheView.{CacheView}
 use Rattle.tsc_cache.specs.History.{History, IsLegal}
+use Rattle.tsc_left_right.proofs.Plain.{some_part}
 use Rattle.tsc_stripe_table.specs.declared.table.SeatState.{SeatState}
 use Rattle.tsc_stripe_table.specs.declared.table.Knowledge.{Knowledge}
 use Rattle.tsc_stripe_table.specs.Stripes.{Terms, stripe_count, IsStateOn}
@@ -98,20 +99,6 @@ all_there n ps low one long k lt none = omega (
   counts_all n ps low,
   long,
 )
-
--- If a sum is not 0, some part is not.
-some_part : {X : Type 0} (f : X → ℕ) (xs : List X) → sum_by f xs ≢ 0 → (i : ℕ) × (x : X)
-    × (get_elem? xs i ≡ maybe.some x) × (f x ≢ 0)
-some_part f [] some = absurd (some refl)
-some_part f (x ∷ xs) some = elim (same_or_not (f x) 0) [
-  | inl is ↦ (let rest = some_part f xs (λ none. some (omega (
-    arith,
-    sum_by-cons f x xs,
-    is,
-    none,
-  ))) in (suc rest.0, rest.1, rest.2, rest.3))
-  | inr is ↦ (0, x, refl, is)
-]
 
 -- If a participant keeps as many states as there are seats, it keeps each seat's once.
 each_there : (setup : Terms) (s : Board) (k : StripesRule setup s) (id : ℕ) (v : Knowledge)

@@ -69,7 +69,7 @@ fresh_among from (suc n) number high low = let cons =
       )
     ]
 
-nobody_fresh : (stripe from n : ℕ)
+pub nobody_fresh : (stripe from n : ℕ)
     → sum_by (λ (p : SeatState). times_held stripe p.holds) (fresh_states from n) ≡ 0
 nobody_fresh stripe from zero = refl
 nobody_fresh stripe from (suc n) = omega (

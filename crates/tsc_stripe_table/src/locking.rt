@@ -26,7 +26,8 @@ pub fn try_acquire(shared: &SharedStripes, who: &mut Participant, stripe: u32) -
     shared.compare_exchange::<Acquire>(who, lock_word(stripe), 0, 1) == 0
 }
 
-/// Whether the lock of a stripe is free. It may be held again by now.
+/// Whether the lock of a stripe is free, for a caller who waits. It promises nothing, since the
+/// lock may be held again by now: only [`try_acquire`] says that it was free.
 pub fn is_free(shared: &SharedStripes, stripe: u32) -> bool
     requires { lock_word stripe < shared.now.table_id.words }
 {

@@ -1,5 +1,5 @@
 //! A stripe: a cache, and what was added last on it.
-ghost use Rattle.std.specs.Prelude.{◌≡◌, ◌≢◌, true, false, IsOk, IfOk, IfSome, OnOk, OnErr};
+ghost use Rattle.std.specs.Prelude.{◌≡◌, true, false, IsOk, IfOk, IfSome, OnOk, OnErr};
 ghost use Rattle.tsc_cache.specs.Settings.{fits};
 ghost use Rattle.tsc_cache.specs.Batch.{all_fit};
 ghost use Rattle.tsc_cache.specs.State.{opening, is_kept};
@@ -9,7 +9,7 @@ ghost use Rattle.tsc_cache.specs.CacheView.{StandsAfterAll, TellsAddedAll};
 use std::alloc::Global;
 use std::mem;
 use std::snapshot::Snapshot;
-use tsc_cache::{Added, Cache, CacheFault, Config, Mark, TimestampCache};
+use tsc_cache::{Added, Cache, Config, Mark, TimestampCache};
 use tsc_span::{Key, Span};
 use tsc_time::{NoMemory, Timestamp, Value};
 
@@ -71,14 +71,6 @@ pub struct StripeAdd {
     pub replaced: Option<Cache>,
 }
 
-/// Why an Add of what fits was refused: memory was.
-fn of_fitting(fault: CacheFault) -> NoMemory
-    requires { fault ≢ CacheFault.TooLarge }
-{
-    let _refused = fault;
-    NoMemory
-}
-
 /// The version after an Add of a span that fits.
 fn next_version(
     cache: &Cache,
@@ -92,13 +84,8 @@ fn next_version(
     ensures added { IfOk result (λ next. TellsAdded cache.now
         (record { span = span.now; value = value }) now next.added) }
 {
-    match cache.next(span, value, now) {
-        Ok(made) => Ok(Version {
-            cache: made.0,
-            added: made.1,
-        }),
-        Err(fault) => Err(of_fitting(fault)),
-    }
+    let (next, added) = cache.next_one_fitting(span, value, now)?;
+    Ok(Version { cache: next, added })
 }
 
 /// The cache of a stripe. What lies before and after it keeps it on lines of its own.
@@ -184,7 +171,7 @@ impl Stripe {
         })
     }
 
-    /// The next version of the cache after marks that fit, as [`Cache::next_all`] gives it. The
+    /// The next version of the cache after marks that fit, as [`Cache::next_fitting`] gives it. The
     /// stripe stays as it is.
     pub fn next_all(&self, marks: &[Mark], now: Timestamp) -> Result<Version, NoMemory>
         requires fits { all_fit self.now.cache.settings marks.now ≡ true }
@@ -193,13 +180,8 @@ impl Stripe {
         ensures added { IfOk result
             (λ next. TellsAddedAll self.now.cache marks.now now next.added) }
     {
-        match self.cache.next_all(marks, now) {
-            Ok(made) => Ok(Version {
-                cache: made.0,
-                added: made.1,
-            }),
-            Err(fault) => Err(of_fitting(fault)),
-        }
+        let (next, added) = self.cache.next_fitting(marks, now)?;
+        Ok(Version { cache: next, added })
     }
 
     /// Replaces the cache by its next version, and gives the one before.

@@ -16,20 +16,20 @@ use Rattle.tsc_cache.proofs.Steps.{answer_alone}
 use Rattle.tsc_time.specs.declared.memory.NoMemory.{NoMemory}
 use Rattle.tsc_stripe_table.specs.declared.stripe.Version.{Version}
 use Rattle.tsc_stripe_table.specs.declared.table.Knowledge.{Knowledge}
-use Rattle.tsc_stripe_table.specs.Stripes.{Terms, stripe_count, marks_in, entry_with, entry_in}
+use Rattle.tsc_stripe_table.specs.Stripes.{Terms, marks_in, entry_with, entry_in}
 use Rattle.tsc_stripe_table.specs.Stripes.{part_of, state_on, IsStateOn}
 use Rattle.tsc_stripe_table.specs.Rule.{LaidStripe, times_held, Descends}
-use Rattle.tsc_stripe_table.specs.Steps.{At, state_in, with_state, number_of, count_of, holds_of}
-use Rattle.tsc_stripe_table.specs.Steps.{reached_of, reached_with, acquired, released, seated}
+use Rattle.tsc_stripe_table.specs.Steps.{At, state_in, with_state, holds_of}
+use Rattle.tsc_stripe_table.specs.Steps.{reached_of, reached_with, released}
 use Rattle.tsc_stripe_table.specs.Steps.{Acquires, Commits, IsCovered}
 use Rattle.tsc_stripe_table.specs.Participating.{IsAtRest, IsStripe, CanAcquire, HasStripe, CanRelease}
 use Rattle.tsc_stripe_table.proofs.Parts.{same_or_not}
 use Rattle.tsc_striped.specs.declared.batch.Batch.{Batch}
 use Rattle.tsc_striped.specs.declared.wide_adds.Stop.{Stop}
-use Rattle.tsc_striped.specs.Looks.{added_on, added_from, added_over, counted}
+use Rattle.tsc_striped.specs.Looks.{added_on, added_from, counted}
 use Rattle.tsc_striped.specs.Limits.{least_page_max}
 use Rattle.tsc_striped.specs.Cutting.{LieWithin, SkipsTo, IsCut, CanAddBatch}
-use Rattle.tsc_striped.specs.Batches.{entry_of_marks, entry_for, with_added, CanAddFrom, AddsFrom}
+use Rattle.tsc_striped.specs.Batches.{entry_for, with_added, CanAddFrom, AddsFrom}
 use Rattle.tsc_striped.specs.Batches.{StaysOn, AddsAll, IsVersion}
 use Rattle.tsc_striped.proofs.InStripes.{state_on_push, held_itself}
 use Rattle.tsc_striped.proofs.Holding.{holding, acquired_is, can_acquire, can_release}

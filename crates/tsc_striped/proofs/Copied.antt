@@ -1,12 +1,12 @@
 -- A seat that copies the caches of several stripes under their locks.
 use Rattle.std.proofs.Common.{◌≡◌, ◌∙◌, refl, sym, ap, subst, ℕ, suc, ◌+◌, ◌-◌, ◌<◌, ◌≤◌, List, []}
-use Rattle.std.proofs.Common.{◌∷◌, ◌++◌, length, arith}
+use Rattle.std.proofs.Common.{◌∷◌, ◌++◌, arith}
 use Rattle.std.proofs.lemmas.List.{append_assoc}
 use Rattle.atomic_table.specs.Table.{rest}
 use Rattle.tsc_span.specs.Span.{KeyBytes, Interval}
 use Rattle.tsc_cache.specs.CacheView.{CacheView}
 use Rattle.tsc_cache.specs.History.{History}
-use Rattle.tsc_stripe_table.specs.Stripes.{Terms, state_on, IsStateOn}
+use Rattle.tsc_stripe_table.specs.Stripes.{state_on, IsStateOn}
 use Rattle.tsc_stripe_table.specs.Rule.{LaidStripe}
 use Rattle.tsc_stripe_table.specs.Steps.{At, state_in, with_state, holds_of, reached_of, reached_with}
 use Rattle.tsc_stripe_table.specs.Steps.{released, released_seen, Acquires}

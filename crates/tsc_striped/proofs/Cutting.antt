@@ -1,5 +1,5 @@
 -- What lies of marks in a stripe.
-use Rattle.std.proofs.Common.{◌≡◌, ◌∙◌, refl, sym, ap, subst, Bool, true, false, ℕ, zero, suc, ◌+◌}
+use Rattle.std.proofs.Common.{◌≡◌, ◌∙◌, refl, sym, ap, Bool, true, false, ℕ, zero, suc, ◌+◌}
 use Rattle.std.proofs.Common.{◌<◌, ◌≤◌, List, [], ◌∷◌, ◌++◌, length, take, get_or, arith, append-nil}
 use Rattle.std.specs.Prelude.{slice_index_or, slice_get, Some}
 use Rattle.std.specs.List.{All}
@@ -10,7 +10,7 @@ use mathlib.Core.Bool.{true≢false}
 use Rattle.std.proofs.lemmas.Bool.Decides.{nat_tests}
 use Rattle.std.proofs.lemmas.Grind.{flat_map-append}
 use Rattle.std.proofs.lemmas.List.{take_more}
-use Rattle.tsc_span.specs.Span.{KeyBytes, key_cmp, Cut, before, after, is_below, start_cut, end_cut}
+use Rattle.tsc_span.specs.Span.{KeyBytes, key_cmp, before, after, is_below, start_cut, end_cut}
 use Rattle.tsc_span.specs.Span.{range, between, longest_key}
 use Rattle.tsc_span.specs.MadeSpan.{IsKey}
 use Rattle.tsc_span.proofs.CutOrder.{key_cmp-same}

@@ -85,24 +85,6 @@ pub taken_keeps : (all : At) (taken : List SeatView) (others : List SeatState)
     → all ≡ (keeping all.0.setup (map state_of_seat taken ++ others), []) → KeepsStates all.0
 taken_keeps all taken others is = subst (λ (m : At). KeepsStates m.0) (sym is) refl
 
-get_middle : {X : Type 0} (xs ys : List X) (x : X)
-    → slice_index_or ((xs ++ x ∷ []) ++ ys) (length xs) x ≡ x
-get_middle [] ys x = refl
-get_middle (y ∷ xs) ys x = get_middle xs ys x
-
--- what holds of all holds of one among them
-pub all_middle : {X : Type 0} (P : X → Type 0) (xs ys zs ws : List X) (x : X) → zs ≡ ws ++ ys
-    → ws ≡ xs ++ x ∷ [] → All P zs → P x
-all_middle P xs ys zs ws x is whole all =
-    let same : zs ≡ (xs ++ x ∷ []) ++ ys = is ∙ ap (λ v. v ++ ys) whole in
-    subst P (ap (λ v. slice_index_or v (length xs) x) same ∙ get_middle xs ys x)
-    (all (length xs) x (omega (
-      arith,
-      ap length same,
-      length-append (xs ++ x ∷ []) ys,
-      length_push xs x,
-    )))
-
 -- the state of a seat comes to the others
 pub gathered_then : (me me' all : At) (seat : SeatView) (taken : List SeatView)
     (others : List SeatState) → IsAtRest me

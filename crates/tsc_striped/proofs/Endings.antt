@@ -17,6 +17,8 @@ use Rattle.tsc_stripe_table.specs.Rule.{at_rest, one_if, keeping, fresh_states, 
 use Rattle.tsc_stripe_table.specs.Steps.{At}
 use Rattle.tsc_stripe_table.specs.Closing.{EndFits, IsEnd}
 use Rattle.tsc_stripe_table.proofs.Prefixes.{own_append, own_of_one}
+use Rattle.tsc_left_right.proofs.Plain.{at_left, at_right}
+use Rattle.tsc_stripe_table.proofs.Openings.{nobody_fresh}
 use Rattle.tsc_striped.specs.declared.answers.Closed.{Closed}
 use Rattle.tsc_striped.specs.Seats.{DealerView, SeatView}
 use Rattle.tsc_striped.specs.Keeping.{state_of_seat}
@@ -40,17 +42,6 @@ states_length seats dealt others = omega (
   fresh_length dealt others,
 )
 
--- none of them holds a stripe
-fresh_hold_none : (stripe from n : ℕ)
-    → sum_by (λ (p : SeatState). times_held stripe p.holds) (fresh_states from n) ≡ 0
-fresh_hold_none stripe from zero = refl
-fresh_hold_none stripe from (suc n) = omega (
-  arith,
-  sum_by-cons (λ (p : SeatState). times_held stripe p.holds) (at_rest from [] 0)
-      (fresh_states (suc from) n),
-  fresh_hold_none stripe (suc from) n,
-)
-
 seats_hold_none : (stripe : ℕ) (seats : List SeatView)
     → sum_by (λ (p : SeatState). times_held stripe p.holds) (map state_of_seat seats) ≡ 0
 seats_hold_none stripe [] = refl
@@ -68,7 +59,7 @@ nobody_holds stripe seats dealt others = omega (
   sum_by-append (λ (p : SeatState). times_held stripe p.holds) (map state_of_seat seats)
       (fresh_states dealt others),
   seats_hold_none stripe seats,
-  fresh_hold_none stripe dealt others,
+  nobody_fresh stripe dealt others,
 )
 
 other_number : (a b : ℕ) → a < b → one_if (b == a) ≡ 0
@@ -102,22 +93,6 @@ count_in number (s ∷ seats) =
           (state_of_seat s) (map state_of_seat seats),
       count_in number seats,
     )
-
--- what stands in two lists
-at_left : {X : Type 0} (xs ys : List X) (i : ℕ) (x : X) → get_elem? xs i ≡ maybe.some x
-    → get_elem? (xs ++ ys) i ≡ maybe.some x
-at_left [] ys i x e = absurd (maybe.some-ne-none x (sym e))
-at_left (y ∷ xs) ys zero x e = e
-at_left (y ∷ xs) ys (suc i) x e = at_left xs ys i x e
-
-at_right : {X : Type 0} (xs ys : List X) (i : ℕ)
-    → get_elem? (xs ++ ys) (length xs + i) ≡ get_elem? ys i
-at_right [] ys i =
-    let same : 0 + i ≡ i = omega arith in
-    ap (get_elem? ys) same
-at_right (x ∷ xs) ys i =
-    let same : suc (length xs) + i ≡ suc (length xs + i) = omega arith in
-    ap (get_elem? (x ∷ (xs ++ ys))) same ∙ at_right xs ys i
 
 at_fresh : (from n j : ℕ) → j < n
     → get_elem? (fresh_states from n) j ≡ maybe.some (at_rest (from + j) [] 0)

@@ -1,6 +1,6 @@
 -- The laws of a cache in stripes, from those of a cache.
-use Rattle.std.proofs.Common.{◌≡◌, ◌≢◌, ◌⊎◌, ◌∙◌, inl, inr, refl, sym, ap, subst, true, false, ℕ, zero}
-use Rattle.std.proofs.Common.{suc, ◌+◌, ◌-◌, ◌<◌, ◌≤◌, List, [], ◌∷◌, ◌++◌, length, arith}
+use Rattle.std.proofs.Common.{◌≡◌, ◌≢◌, ◌⊎◌, ◌∙◌, inl, inr, refl, sym, ap, subst, true, ℕ, zero}
+use Rattle.std.proofs.Common.{suc, ◌+◌, ◌-◌, ◌≤◌, List, [], ◌∷◌, ◌++◌, length, arith}
 use Rattle.std.specs.List.{Contains}
 use mathlib.Core.Bool.{true≢false}
 use Rattle.std.proofs.lemmas.Bool.{cases_Bool}
@@ -8,22 +8,20 @@ use Rattle.std.proofs.lemmas.Grind.{flat_map-append}
 use Rattle.std.proofs.lemmas.List.Elements.{Contains-append_left, Contains-append_right}
 use Rattle.std.specs.List.{flat_map}
 use Rattle.tsc_time.specs.Time.{Time, time_minus, is_before}
-use Rattle.tsc_time.specs.OwnedTime.{Owner, OwnedTime, unowned, is_same_owner}
+use Rattle.tsc_time.specs.OwnedTime.{OwnedTime, unowned, is_same_owner}
 use Rattle.tsc_time.specs.Joint.{IsAtMost, ratcheted}
 use Rattle.tsc_time.proofs.TimeOrder.{same_from_neither_before}
 use Rattle.tsc_time.proofs.SharedOwner.{is_same_owner-Decides}
 use Rattle.tsc_time.proofs.RatchetOrder.{IsAtMost-itself, IsAtMost-transitive}
 use Rattle.tsc_time.proofs.Members.{IsIn, IsIn-from_Contains, Contains-from_IsIn}
-use Rattle.tsc_span.specs.Span.{KeyBytes, Interval, between, overlaps}
+use Rattle.tsc_span.specs.Span.{KeyBytes, Interval, between}
 use Rattle.tsc_page_nodes.specs.Page.{Mark}
-use Rattle.tsc_cache.specs.Settings.{Settings}
 use Rattle.tsc_cache.specs.declared.history.Entry.{Entry}
-use Rattle.tsc_cache.specs.History.{History, state_of, BeginsWith}
-use Rattle.tsc_cache.specs.Laws.{IsClearOf}
+use Rattle.tsc_cache.specs.History.{History, BeginsWith}
 use Rattle.tsc_cache.proofs.Histories.{kept_up, rising, floor_behind, clear_below}
 use Rattle.tsc_stripe_table.specs.Stripes.{Terms, piece_of, mark_on, marks_in, entry_with, entry_in}
-use Rattle.tsc_stripe_table.specs.Stripes.{part_of, state_on}
-use Rattle.tsc_striped.specs.Touching.{are_in_order, first_touched, last_touched}
+use Rattle.tsc_stripe_table.specs.Stripes.{part_of}
+use Rattle.tsc_striped.specs.Touching.{first_touched, last_touched}
 use Rattle.tsc_striped.specs.Looks.{look_on, look_from, look_over}
 use Rattle.tsc_striped.specs.Laws.{KeptUp, Rising, FloorBehind, NoWriteBelowARead}
 use Rattle.tsc_striped.proofs.Overlaps.{MeetsIn, meets_in}
@@ -74,7 +72,7 @@ joined v w = elim (cases_Bool (is_before v.time w.time)) [
 ]
 
 -- it is above both, and below what is above both
-first_below : (v w : OwnedTime) → IsAtMost v (ratcheted v w)
+pub first_below : (v w : OwnedTime) → IsAtMost v (ratcheted v w)
 first_below v w = elim (joined v w) [
   | one_later c ↦ subst (IsAtMost v) (sym c.is) (inl c.early)
   | other_later c ↦ subst (IsAtMost v) (sym c.is) (IsAtMost-itself v)
@@ -82,7 +80,7 @@ first_below v w = elim (joined v w) [
   | owners_differ c ↦ subst (IsAtMost v) (sym c.is) (inr (refl, inl refl))
 ]
 
-second_below : (v w : OwnedTime) → IsAtMost w (ratcheted v w)
+pub second_below : (v w : OwnedTime) → IsAtMost w (ratcheted v w)
 second_below v w = elim (joined v w) [
   | one_later c ↦ subst (IsAtMost w) (sym c.is) (IsAtMost-itself w)
   | other_later c ↦ subst (IsAtMost w) (sym c.is) (inl c.early)
@@ -90,7 +88,7 @@ second_below v w = elim (joined v w) [
   | owners_differ c ↦ subst (IsAtMost w) (sym c.is) (inr (sym c.time, inl refl))
 ]
 
-both_below : (v w u : OwnedTime) → IsAtMost v u → IsAtMost w u → IsAtMost (ratcheted v w) u
+pub both_below : (v w u : OwnedTime) → IsAtMost v u → IsAtMost w u → IsAtMost (ratcheted v w) u
 both_below v w u p q = elim (joined v w) [
   | one_later c ↦ subst (λ (x : OwnedTime). IsAtMost x u) (sym c.is) q
   | other_later c ↦ subst (λ (x : OwnedTime). IsAtMost x u) (sym c.is) p
@@ -111,7 +109,7 @@ both_below v w u p q = elim (joined v w) [
 ]
 
 -- what a stripe answers is at most what some answer among which it is
-among_answers : (terms : Terms) (h : History) (s : Interval) (more from stripe : ℕ)
+pub among_answers : (terms : Terms) (h : History) (s : Interval) (more from stripe : ℕ)
     → from ≤ stripe → stripe ≤ from + more
     → IsAtMost (look_on terms h s stripe) (look_from terms h s from more)
 among_answers terms h s zero from stripe low high =

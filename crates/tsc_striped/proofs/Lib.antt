@@ -13,6 +13,8 @@ pub mod Sizes
 pub mod Outside
 pub mod Overlaps
 pub mod Histories
+pub mod Reals
+pub mod Answering
 pub mod OneStripe
 pub mod Batches
 pub mod Meeting

@@ -1,9 +1,9 @@
 -- Nothing of marks lies in the stripes that they do not touch.
-use Rattle.std.proofs.Common.{◌≡◌, ◌⊎◌, ◌∙◌, inl, inr, refl, ap, true, ℕ, zero, suc, ◌+◌, ◌<◌, ◌≤◌}
-use Rattle.std.proofs.Common.{List, [], length, take, get_or, arith, min, max}
+use Rattle.std.proofs.Common.{◌≡◌, ◌⊎◌, inl, inr, refl, ap, true, ℕ, zero, suc, ◌+◌, ◌<◌}
+use Rattle.std.proofs.Common.{List, length, take, get_or, arith, min, max}
 use Rattle.tsc_span.specs.Span.{KeyBytes, Interval, nothing, between}
 use Rattle.tsc_page_nodes.specs.Page.{Mark}
-use Rattle.tsc_stripe_table.specs.Stripes.{stripe_start, stripe_end, piece_of, mark_on, marks_in}
+use Rattle.tsc_stripe_table.specs.Stripes.{stripe_start, stripe_end, piece_of, mark_on}
 use Rattle.tsc_striped.specs.Touching.{are_in_order, first_touched, last_touched}
 use Rattle.tsc_striped.specs.Cutting.{LieWithin}
 use Rattle.tsc_striped.proofs.Touches.{low_bound, high_bound, piece_below, piece_above}

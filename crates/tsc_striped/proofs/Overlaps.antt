@@ -1,7 +1,7 @@
 -- Two spans that overlap do so in a stripe that both touch.
-use Rattle.std.proofs.Common.{◌≡◌, ◌⊎◌, ◌∙◌, inl, inr, refl, sym, ap, subst, Bool, true, false, not}
-use Rattle.std.proofs.Common.{ℕ, zero, suc, ◌+◌, ◌<◌, ◌≤◌, List, [], ◌∷◌, length, arith}
-use Rattle.std.specs.Prelude.{count_by, cond, slice_index_or, slice_get}
+use Rattle.std.proofs.Common.{◌≡◌, ◌∙◌, inl, inr, refl, sym, ap, subst, Bool, true, false, not}
+use Rattle.std.proofs.Common.{ℕ, ◌+◌, ◌≤◌, List, [], ◌∷◌, length, arith}
+use Rattle.std.specs.Prelude.{count_by, cond, slice_index_or}
 use mathlib.Core.Bool.{true≢false}
 use Rattle.std.proofs.lemmas.Bool.{cases_Bool}
 use Rattle.std.proofs.lemmas.List.Sums.{sum_by-cons}
@@ -10,7 +10,7 @@ use Rattle.tsc_span.specs.Span.{Interval, nothing, between, overlaps}
 use Rattle.tsc_page_nodes.proofs.CutOrder.{Lt, Le, Lt-or_Le, Le-itself, Le-from_Lt, Le-chain}
 use Rattle.tsc_page_nodes.proofs.CutOrder.{Le_Lt-chain, Lt_Le-chain, none_above_last, overlaps-from}
 use Rattle.tsc_page_nodes.proofs.CutOrder.{overlaps-tells}
-use Rattle.tsc_stripe_table.specs.Stripes.{at_bound, stripe_start, stripe_end, piece_between, piece_of}
+use Rattle.tsc_stripe_table.specs.Stripes.{stripe_start, stripe_end, piece_of}
 use Rattle.tsc_striped.specs.Touching.{are_in_order, stripe_above, stripe_below, first_touched}
 use Rattle.tsc_striped.specs.Touching.{last_touched}
 use Rattle.tsc_striped.proofs.Counting.{above_falls, is_high}
@@ -88,6 +88,12 @@ pub smaller_most : (a b c : Cut) → Lt c a → Lt c b → Lt c (smaller_cut a b
 smaller_most a b c p q = elim (Lt-or_Le a b) [
   | inl lt ↦ rw lt p
   | inr ge ↦ rw ge q
+]
+
+pub smaller_first_ : (a b : Cut) → Le (smaller_cut a b) a
+smaller_first_ a b = elim (Lt-or_Le a b) [
+  | inl lt ↦ rw lt (Le-itself a)
+  | inr ge ↦ rw ge ge
 ]
 
 pub greater_first : (a b : Cut) → Le a (greater_cut a b)

@@ -19,11 +19,13 @@ use Rattle.tsc_stripe_table.proofs.Prefixes.{begins_more, legal_empty}
 use Rattle.tsc_striped.specs.declared.answers.Receipt.{Receipt}
 use Rattle.tsc_striped.specs.Touching.{first_touched, last_touched}
 use Rattle.tsc_striped.specs.Looks.{look_on, look_from, look_over}
-use Rattle.tsc_striped.specs.Seats.{SeatView, IsSeat, IsFront, IsSettled, new_seat}
+use Rattle.tsc_striped.specs.Seats.{StripedView, SeatView, IsSeat, IsFront, IsSettled, new_seat}
 use Rattle.tsc_striped.specs.Keeping.{cache_of, striped_view, seat_view, front_view, KeepsSeat}
 use Rattle.tsc_striped.specs.Moves.{HasLooked}
 use Rattle.tsc_striped.specs.Batches.{AddsAll, entry_of_marks}
-use Rattle.tsc_striped.specs.Answers.{GoesOn, Accepts, AnswersLookup, ReadsFloor, ReadsFigures}
+use Rattle.tsc_striped.specs.Answers.{GoesOn, Accepts, IsAbove, AnswersLookup, ReadsFloor}
+use Rattle.tsc_striped.specs.Answers.{ReadsFigures}
+use Rattle.tsc_striped.proofs.Answering.{is_above, tells_no_part}
 
 -- the seat of a participant that has seen a history then, with so many Adds of its own
 abbrev pub seat_after : Participant → History → ℕ → SeatView
@@ -152,10 +154,20 @@ pub answers_lookup : (old new : Participant) (span : Interval) (value : OwnedTim
     → HasLooked old.me new.me (λ h. value ≡ look_over old.me.0.setup h span)
     → AnswersLookup (seat_view old) (seat_view new) span value
 answers_lookup old new span value was table l =
-    let holds : History → Type 0 = λ h. value ≡ look_over old.me.0.setup h span in record {
-      goes_on = looked_on old new holds table l was;
+    let holds : History → Type 0 = λ h. value ≡ look_over old.me.0.setup h span in
+    let on : GoesOn (seat_view old) (seat_view new) = looked_on old new holds table l was in
+    let found : value ≡ look_over old.me.0.setup (seat_view new).seen span =
+    looked_found old new holds table l in
+    let above : IsAbove (seat_view new) span value =
+    is_above (seat_view new) span value on.is_seat
+    (found ∙ ap (λ (c : StripedView). look_over c.terms (seat_view new).seen span)
+    (sym on.cache)) in
+    record {
+      goes_on = on;
       count = looked_count old new holds table l;
-      value_is = looked_found old new holds table l;
+      value_is = found;
+      above = above;
+      whole = tells_no_part (seat_view new) span value above;
     }
 
 -- in several stripes

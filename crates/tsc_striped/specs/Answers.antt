@@ -1,16 +1,20 @@
 -- What each call of a striped cache answers, and what its seat has seen then.
 use Rattle.std.specs.Prelude.{◌≡◌, ◌≢◌, ℕ, suc, ◌-◌, ◌<◌, List, [], ◌∷◌, ◌++◌, length}
-use Rattle.std.specs.Prelude.{All, count_by, ◌==◌, nat_lt, not, Option, Some}
-use Rattle.std.specs.Prelude.{None, Result, IfOk, IfErr, OnOk, OnErr, IsErrOf, if◌then◌else◌}
+use Rattle.std.specs.Prelude.{◌⊎◌, All, count_by, ◌==◌, nat_lt, not, true, false, Option}
+use Rattle.std.specs.Prelude.{Some, None, Result, IfOk, IfErr, OnOk, OnErr, IsErr, IsErrOf}
+use Rattle.std.specs.Prelude.{if◌then◌else◌}
+use Rattle.std.specs.List.{Contains}
 use mathlib.Core.Option as maybe
 use lib.ListN.{get_elem?}
-use Rattle.tsc_time.specs.Time.{Time}
-use Rattle.tsc_time.specs.OwnedTime.{OwnedTime}
-use Rattle.tsc_span.specs.Span.{KeyBytes, Interval}
+use Rattle.tsc_time.specs.Time.{Time, is_before}
+use Rattle.tsc_time.specs.OwnedTime.{Owner, OwnedTime}
+use Rattle.tsc_time.specs.Joint.{IsAtMost}
+use Rattle.tsc_span.specs.Span.{KeyBytes, Interval, overlaps}
 use Rattle.tsc_page_nodes.specs.Page.{Mark}
 use Rattle.tsc_cache.specs.Settings.{Settings}
 use Rattle.tsc_cache.specs.Counts.{figures_of}
 use Rattle.tsc_cache.specs.CacheView.{CacheView}
+use Rattle.tsc_cache.specs.Laws.{IsClearOf}
 use Rattle.tsc_cache.specs.declared.figures.Figures.{Figures}
 use Rattle.tsc_cache.specs.declared.history.Entry.{Entry}
 use Rattle.tsc_cache.specs.History.{History, own_count, BeginsWith, IsLegal}
@@ -26,7 +30,7 @@ use Rattle.tsc_striped.specs.declared.answers.Receipt.{Receipt}
 use Rattle.tsc_striped.specs.declared.answers.Closed.{Closed}
 use Rattle.tsc_striped.specs.declared.answers.Snapshot.{Snapshot}
 use Rattle.tsc_striped.specs.Limits.{most_stripes, least_page_max, most_adds}
-use Rattle.tsc_striped.specs.Touching.{are_in_order, first_touched, last_touched}
+use Rattle.tsc_striped.specs.Touching.{are_in_order, first_touched, last_touched, IsTouched}
 use Rattle.tsc_striped.specs.Looks.{look_over, added_over, StandFrom}
 use Rattle.tsc_striped.specs.Seats.{StripedView, SeatView, FrontView, DealerView, IsSettled}
 use Rattle.tsc_striped.specs.Seats.{IsSeat, new_seat}
@@ -128,18 +132,46 @@ pub record AnswersTriedAdd (old new : SeatView) (ms : List Mark) (now : Time)
   pub why : IfErr result (λ fault. TryRefusedFor old fault)
   pub no_tries : IsNoTry tries → CanCount old → IsErrOf result Busy
 
--- A lookup answers from the states of all that the seat has seen then.
+-- What a lookup answers is no less than any mark on the span of an entry that its seat has seen,
+-- and no earlier than the floor of any stripe that the span touches. So a write that is clear of
+-- the answer is clear of each read on the span that the seat has seen.
+pub record IsAbove (seat : SeatView) (span : Interval) (value : OwnedTime) : Type 0 where
+  pub adds : (e : Entry) (m : Mark) → Contains seat.seen e → Contains e.marks m
+      → overlaps m.span span ≡ true → IsAtMost m.value value
+  pub floors : (stripe : ℕ) → IsTouched seat.cache.terms.bounds span stripe
+      → is_before value.time (state_on seat.cache.terms stripe seat.seen).floor ≡ false
+  pub clear : (writer : Owner) (time : Time) → IsClearOf value writer time
+      → (e : Entry) (m : Mark) → Contains seat.seen e → Contains e.marks m
+      → overlaps m.span span ≡ true → IsClearOf m.value writer time
+
+-- What a lookup answers tells no part of an entry, in however many stripes that lies. Whatever
+-- history goes on from what its seat has seen, as the one at closing does: each of its entries
+-- either stands behind all that was seen, or was seen with all of its marks, and then the answer is
+-- no less than any of them on the span.
+abbrev pub TellsNoPart : SeatView → Interval → OwnedTime → Type 0
+TellsNoPart seat span value =
+    (before after : History) (e : Entry) → BeginsWith (before ++ e ∷ after) seat.seen
+    → BeginsWith before seat.seen
+    ⊎ (BeginsWith seat.seen (before ++ e ∷ [])
+    × ((m : Mark) → Contains e.marks m → overlaps m.span span ≡ true → IsAtMost m.value value))
+
+-- A lookup answers from the states of all that the seat has seen then. It is above all of that, and
+-- tells no part of an entry.
 pub record AnswersLookup (old new : SeatView) (span : Interval) (value : OwnedTime) : Type 0 where
   pub goes_on : GoesOn old new
   pub count : new.count ≡ old.count
   pub value_is : value ≡ look_over old.cache.terms new.seen span
+  pub above : IsAbove new span value
+  pub whole : TellsNoPart new span value
 
--- A lookup that does not wait answers so, or else the seat is as it was: another one held a lock at
--- each try.
-pub record TriesLookup (old new : SeatView) (span : Interval) (result : Result OwnedTime LockBusy)
-    : Type 0 where
-  pub answered : IfOk result (λ value. AnswersLookup old new span value)
+-- What a call answers at a seat that gives it up after `tries` tries: what it answers else, or that
+-- another seat held a lock at each of them, and then the seat is as it was. Without any try that is
+-- always so.
+pub record Tries {A : Type 0} (old new : SeatView) (tries : ℕ) (Answers : A → Type 0)
+    (result : Result A LockBusy) : Type 0 where
+  pub answered : IfOk result Answers
   pub busy : OnErr result (new ≡ old)
+  pub no_tries : tries ≡ 0 → IsErr result
 
 -- The floor of a stripe is that of its state after all that the seat has seen then.
 pub record ReadsFloor (old new : SeatView) (stripe : ℕ) (time : Time) : Type 0 where
@@ -163,17 +195,6 @@ pub record TakesSnapshot (old new : SeatView) (span : Interval) (snapshot : Snap
     pub all : length snapshot.caches.items
         ≡ suc (last_touched old.cache.terms.bounds span - snapshot.first)
     pub stand : StandFrom old.cache.terms new.seen snapshot.first snapshot.caches.items
-
--- A call for a floor or for figures that does not wait answers so, or else the seat is as it was.
-pub record TriesFloor (old new : SeatView) (stripe : ℕ) (result : Result Time LockBusy) : Type 0
-  where
-    pub answered : IfOk result (λ time. ReadsFloor old new stripe time)
-    pub busy : OnErr result (new ≡ old)
-
-pub record TriesFigures (old new : SeatView) (stripe : ℕ) (result : Result Figures LockBusy)
-    : Type 0 where
-  pub answered : IfOk result (λ figures. ReadsFigures old new stripe figures)
-  pub busy : OnErr result (new ≡ old)
 
 -- Two seats meet: both have seen one history then, which begins with what each had seen.
 pub record Meets (a b a' b' : SeatView) : Type 0 where

@@ -1,6 +1,5 @@
 -- What becomes of the participant of a seat that adds a batch. (For private contracts.)
 use Rattle.std.specs.Prelude.{◌≡◌, ◌⊎◌, ℕ, suc, ◌-◌, ◌<◌, ◌≤◌, List, [], ◌∷◌, ◌++◌}
-use Rattle.std.specs.Prelude.{vec_capacity, length}
 use Rattle.tsc_page_nodes.specs.Page.{Mark}
 use Rattle.tsc_time.specs.Time.{Time}
 use Rattle.tsc_cache.specs.declared.added.Added.{Added}
@@ -9,10 +8,10 @@ use Rattle.tsc_cache.specs.History.{History, own_count, BeginsWith, IsLegal, Can
 use Rattle.tsc_cache.specs.CacheView.{CacheView, StandsAfterAll, TellsAddedAll}
 use Rattle.tsc_stripe_table.specs.declared.table.SeatState.{SeatState}
 use Rattle.tsc_stripe_table.specs.Stripes.{Terms, marks_in, stripe_count}
-use Rattle.tsc_stripe_table.specs.Rule.{LaidStripe, times_held}
+use Rattle.tsc_stripe_table.specs.Rule.{times_held}
 use Rattle.tsc_stripe_table.specs.Steps.{At, seated, number_of, seen_of, count_of, reached_of}
 use Rattle.tsc_stripe_table.specs.Steps.{holds_of, state_in, with_state, reached_with, AgreeOn}
-use Rattle.tsc_stripe_table.specs.Participating.{CanAcquire, HasStripe}
+use Rattle.tsc_stripe_table.specs.Participating.{CanAcquire}
 use Rattle.tsc_striped.specs.declared.batch.Batch.{Batch}
 use Rattle.tsc_striped.specs.declared.wide_adds.Stop.{Stop}
 use Rattle.tsc_striped.specs.declared.wide_adds.Stop.TheVariants.{Busy, NoMemory}

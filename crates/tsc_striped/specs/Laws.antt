@@ -2,16 +2,16 @@
 use Rattle.std.specs.Prelude.{◌≡◌, ◌≢◌, ◌⊎◌, ℕ, [], true, false, Contains, Some}
 use Rattle.tsc_time.specs.Time.{Time, is_before, time_minus}
 use Rattle.tsc_time.specs.OwnedTime.{Owner}
-use Rattle.tsc_time.specs.Joint.{IsAtMost}
+use Rattle.tsc_time.specs.Joint.{joint_above, IsAtMost}
 use Rattle.tsc_span.specs.Span.{Interval, overlaps}
 use Rattle.tsc_page_nodes.specs.Page.{Mark}
 use Rattle.tsc_cache.specs.Settings.{Settings}
 use Rattle.tsc_cache.specs.declared.history.Entry.{Entry}
-use Rattle.tsc_cache.specs.History.{History, state_of, BeginsWith, IsLegal}
+use Rattle.tsc_cache.specs.History.{History, state_of, marks_on, BeginsWith, IsLegal}
 use Rattle.tsc_cache.specs.Laws.{IsClearOf}
 use Rattle.tsc_stripe_table.specs.Stripes.{Terms, marks_in, state_on}
 use Rattle.tsc_striped.specs.Touching.{are_in_order}
-use Rattle.tsc_striped.specs.Looks.{look_over}
+use Rattle.tsc_striped.specs.Looks.{look_over, floor_over}
 
 -- A mark of an entry is at most what a lookup of a span that it overlaps answers, in the ratchet
 -- order, whichever stripes the two touch.
@@ -36,6 +36,12 @@ FloorBehind = (terms : Terms) (h : History) (stripe : ℕ)
     × (marks_in terms.bounds stripe e.marks ≢ [])
     × (time_minus e.now terms.config.retention ≡ Some limit)
     × (is_before (state_on terms stripe h).floor limit ≡ true))
+
+-- A lookup answers what the greatest floor of the stripes that it touches, and all marks of entries
+-- on the span, come to together. The marks are those that were added, whole, kept or not.
+abbrev pub Real : Type 0
+Real = (terms : Terms) (h : History) (s : Interval) → are_in_order terms.bounds ≡ true
+    → look_over terms h s ≡ joint_above (floor_over terms h s) (marks_on s h)
 
 -- A write that is clear of what a lookup of its span answers is clear of each read of the history
 -- that overlaps the span, whichever stripes the two touch.

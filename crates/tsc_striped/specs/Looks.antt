@@ -1,6 +1,6 @@
 -- What all stripes together answer, and what an Add does in them.
 use Rattle.std.specs.Prelude.{ℕ, zero, suc, ◌-◌, ◌^◌, min, List, [], ◌∷◌, length}
-use Rattle.tsc_time.specs.Time.{Time}
+use Rattle.tsc_time.specs.Time.{Time, later}
 use Rattle.tsc_time.specs.OwnedTime.{OwnedTime}
 use Rattle.tsc_time.specs.Joint.{ratcheted}
 use Rattle.tsc_span.specs.Span.{Interval}
@@ -26,6 +26,17 @@ look_from terms h span stripe (suc more) =
 -- to together.
 abbrev pub look_over : Terms → History → Interval → OwnedTime
 look_over terms h span = look_from terms h span (first_touched terms.bounds span)
+    (last_touched terms.bounds span - first_touched terms.bounds span)
+
+-- The greatest floor of some stripes after a history: one from a number on, and so many more.
+abbrev pub floor_from : Terms → History → ℕ → ℕ → Time
+floor_from terms h stripe zero = (state_on terms stripe h).floor
+floor_from terms h stripe (suc more) =
+    later (state_on terms stripe h).floor (floor_from terms h (suc stripe) more)
+
+-- the greatest floor of all stripes that a span touches, after a history
+abbrev pub floor_over : Terms → History → Interval → Time
+floor_over terms h span = floor_from terms h (first_touched terms.bounds span)
     (last_touched terms.bounds span - first_touched terms.bounds span)
 
 -- What an Add of some marks does in one stripe after a history: it is that of what lies there.

@@ -1,5 +1,5 @@
 -- Which stripes a span touches.
-use Rattle.std.specs.Prelude.{ℕ, List, [], ◌∷◌, ◌&&◌, count_by, not, Bool, true}
+use Rattle.std.specs.Prelude.{ℕ, ◌+◌, ◌-◌, ◌≤◌, List, [], ◌∷◌, ◌&&◌, count_by, not, Bool, true}
 use Rattle.tsc_span.specs.Span.{KeyBytes, Cut, before, is_below, Interval, nothing, between}
 
 -- whether each bound lies above the one before it, and the first one above a key
@@ -28,3 +28,9 @@ first_touched bounds (between from to) = stripe_above bounds from
 abbrev pub last_touched : List KeyBytes → Interval → ℕ
 last_touched bounds nothing = 0
 last_touched bounds (between from to) = stripe_below bounds to
+
+-- A span touches a stripe: it is the first one that it touches, or one from there to the last.
+pub record IsTouched (bounds : List KeyBytes) (span : Interval) (stripe : ℕ) : Type 0 where
+  pub from : first_touched bounds span ≤ stripe
+  pub to : stripe ≤ first_touched bounds span
+      + (last_touched bounds span - first_touched bounds span)

@@ -3,7 +3,7 @@
 //!
 //! No program needs to call these functions: their contracts are the laws. Each is a law of
 //! [`tsc_cache::laws`] for all stripes together.
-ghost use Rattle.tsc_striped.specs.Laws.{KeptUp, Rising, FloorBehind, NoWriteBelowARead};
+ghost use Rattle.tsc_striped.specs.Laws.{KeptUp, Rising, FloorBehind, Real, NoWriteBelowARead};
 ghost use Rattle.tsc_striped.specs.Laws.{OneStripe};
 
 /// A lookup answers no less than any Add that overlaps its span, whichever stripes the two touch.
@@ -21,6 +21,12 @@ pub fn rising()
 /// floor of another.
 pub fn floor_behind()
     ensures { FloorBehind }
+{}
+
+/// A lookup answers no more than the Adds and the floors of its stripes ask for: what the greatest
+/// of these floors, and each Add that overlaps its span, come to together.
+pub fn real()
+    ensures { Real }
 {}
 
 /// A write that is clear of what a lookup of its span answers is clear of each read that was added

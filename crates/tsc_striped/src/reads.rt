@@ -1,10 +1,9 @@
 //! What a seat reads: lookups, the floors of stripes, and their figures.
-ghost use Rattle.std.specs.Prelude.{◌≡◌, ◌<◌, IfSome, IfNone, option_map};
+ghost use Rattle.std.specs.Prelude.{◌≡◌, ◌<◌, Some, IfSome, IfNone, IsNone, option_map};
 ghost use Rattle.tsc_span.specs.LookupSpan.{span_for_lookup};
 ghost use Rattle.tsc_stripe_table.specs.Stripes.{stripe_count};
 ghost use Rattle.tsc_striped.specs.Waiting.{HasEnd};
-ghost use Rattle.tsc_striped.specs.Answers.{AnswersLookup, TriesLookup, ReadsFloor, TriesFloor};
-ghost use Rattle.tsc_striped.specs.Answers.{ReadsFigures, TriesFigures};
+ghost use Rattle.tsc_striped.specs.Answers.{AnswersLookup, ReadsFloor, ReadsFigures, Tries};
 
 use crate::answers::Busy;
 use crate::bounds::find_touched;
@@ -41,7 +40,7 @@ impl StripedCache {
     /// each try, the answer is `Busy`, and all is as it was. With no tries that is always so.
     pub fn try_get_max(&self, seat: &mut Seat, span: &Span, tries: u32) -> Result<Value, Busy>
         requires cache { seat.old.cache ≡ self.now }
-        ensures { TriesLookup seat.old seat.new span.now result }
+        ensures { Tries seat.old seat.new tries (AnswersLookup seat.old seat.new span.now) result }
     {
         self.try_get_max_ref(seat, &span.borrowed(), tries)
     }
@@ -75,9 +74,9 @@ impl StripedCache {
         tries: u32,
     ) -> Result<Value, Busy>
         requires cache { seat.old.cache ≡ self.now }
-        ensures { TriesLookup seat.old seat.new
+        ensures { Tries seat.old seat.new tries (AnswersLookup seat.old seat.new
             (span_for_lookup start.now (option_map (λ k. k.now) end.entry) ends.exclude_from
-            ends.exclude_to) result }
+            ends.exclude_to)) result }
     {
         self.try_get_max_ref(seat, &SpanRef::between(start, end, ends), tries)
     }
@@ -101,7 +100,7 @@ impl StripedCache {
         tries: u32,
     ) -> Result<Value, Busy>
         requires cache { seat.old.cache ≡ self.now }
-        ensures { TriesLookup seat.old seat.new span.now result }
+        ensures { Tries seat.old seat.new tries (AnswersLookup seat.old seat.new span.now) result }
     {
         self.look(&Bounded(tries), seat, span).ok_or(Busy)
     }
@@ -111,6 +110,7 @@ impl StripedCache {
         requires cache { seat.old.cache ≡ self.now }
         ensures looked { IfSome result (λ value. AnswersLookup seat.old seat.new span.now value) }
         ensures busy { IfNone result ((seat.new ≡ seat.old) × HasEnd (P.tries policy.now)) }
+        ensures no_try { P.tries policy.now ≡ Some 0 → IsNone result }
     {
         let touched = find_touched(self.bounds.as_slice(), span);
         let shared = &self.table.shared;
@@ -141,7 +141,7 @@ impl StripedCache {
     pub fn try_low_water(&self, seat: &mut Seat, stripe: u32, tries: u32) -> Result<Timestamp, Busy>
         requires cache { seat.old.cache ≡ self.now }
         requires stripe { stripe < stripe_count self.now.terms.bounds }
-        ensures { TriesFloor seat.old seat.new stripe result }
+        ensures { Tries seat.old seat.new tries (ReadsFloor seat.old seat.new stripe) result }
     {
         self.floor(&Bounded(tries), seat, stripe).ok_or(Busy)
     }
@@ -152,6 +152,7 @@ impl StripedCache {
         requires stripe { stripe < stripe_count self.now.terms.bounds }
         ensures read { IfSome result (λ time. ReadsFloor seat.old seat.new stripe time) }
         ensures busy { IfNone result ((seat.new ≡ seat.old) × HasEnd (P.tries policy.now)) }
+        ensures no_try { P.tries policy.now ≡ Some 0 → IsNone result }
     {
         floor_in(policy, &self.table.shared, &mut seat.participant, stripe)
     }
@@ -178,7 +179,7 @@ impl StripedCache {
     pub fn try_figures(&self, seat: &mut Seat, stripe: u32, tries: u32) -> Result<Figures, Busy>
         requires cache { seat.old.cache ≡ self.now }
         requires stripe { stripe < stripe_count self.now.terms.bounds }
-        ensures { TriesFigures seat.old seat.new stripe result }
+        ensures { Tries seat.old seat.new tries (ReadsFigures seat.old seat.new stripe) result }
     {
         self.counts(&Bounded(tries), seat, stripe).ok_or(Busy)
     }
@@ -189,6 +190,7 @@ impl StripedCache {
         requires stripe { stripe < stripe_count self.now.terms.bounds }
         ensures read { IfSome result (λ figures. ReadsFigures seat.old seat.new stripe figures) }
         ensures busy { IfNone result ((seat.new ≡ seat.old) × HasEnd (P.tries policy.now)) }
+        ensures no_try { P.tries policy.now ≡ Some 0 → IsNone result }
     {
         figures_in(policy, &self.table.shared, &mut seat.participant, stripe)
     }

@@ -1,5 +1,5 @@
 //! Snapshots: copies of caches, from one moment.
-ghost use Rattle.std.specs.Prelude.{◌≡◌, IfOk, OnErr, IsErrOf};
+ghost use Rattle.std.specs.Prelude.{◌≡◌, Some, IfOk, OnErr, IsErrOf};
 ghost use Rattle.tsc_striped.specs.Waiting.{HasEnd};
 ghost use Rattle.tsc_striped.specs.Answers.{TakesSnapshot};
 
@@ -41,7 +41,7 @@ impl StripedCache {
     }
 
     /// As [`snapshot`](StripedCache::snapshot), where the caller has no leave to wait, as in
-    /// [`try_get_max`](StripedCache::try_get_max).
+    /// [`try_get_max`](StripedCache::try_get_max). With no tries it takes no memory.
     pub fn try_snapshot(
         &self,
         seat: &mut Seat,
@@ -52,6 +52,7 @@ impl StripedCache {
         ensures taken { IfOk result
             (λ snapshot. TakesSnapshot seat.old seat.new span.now snapshot) }
         ensures refused { OnErr result (seat.new ≡ seat.old) }
+        ensures no_tries { tries ≡ 0 → IsErrOf result SnapshotFault.Busy }
     {
         match self.take(&Bounded(tries), seat, span) {
             Ok(snapshot) => Ok(snapshot),
@@ -72,6 +73,7 @@ impl StripedCache {
             (λ snapshot. TakesSnapshot seat.old seat.new span.now snapshot) }
         ensures refused { OnErr result (seat.new ≡ seat.old) }
         ensures ended { IsErrOf result StripeFault.Busy → HasEnd (P.tries policy.now) }
+        ensures no_try { P.tries policy.now ≡ Some 0 → IsErrOf result StripeFault.Busy }
     {
         let touched = find_touched(self.bounds.as_slice(), &span.borrowed());
         let first = touched.first;

@@ -147,6 +147,13 @@ impl StripedCache {
         })
     }
 
+    /// How the cache was set up.
+    pub fn config(&self) -> Config
+        ensures { result ≡ self.now.terms.config }
+    {
+        self.setup.config
+    }
+
     /// How many stripes there are. Whoever has a cache also learns here what was settled.
     pub fn stripes(&self) -> u32
         ensures value { result ≡ stripe_count self.now.terms.bounds }

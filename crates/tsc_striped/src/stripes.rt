@@ -1,5 +1,6 @@
 //! What a seat does with the stripe of one lock.
-ghost use Rattle.std.specs.Prelude.{◌≡◌, IfOk, IfErr, OnErr, IsErrOf, IfSome, IfNone, Some, true};
+ghost use Rattle.std.specs.Prelude.{◌≡◌, IfOk, IfErr, OnErr, IsErrOf, IfSome, IfNone, IsNone};
+ghost use Rattle.std.specs.Prelude.{Some, true};
 ghost use Rattle.tsc_cache.specs.Counts.{figures_of};
 ghost use Rattle.tsc_cache.specs.History.{CanBeAdded};
 ghost use Rattle.tsc_cache.specs.Settings.{fits};
@@ -78,6 +79,7 @@ pub(crate) fn look_in<P: WaitPolicy>(
     ensures looked { IfSome result (λ value. HasLooked who.old.me who.new.me
         (λ h. value ≡ look_on who.old.me.0.setup h span.now stripe)) }
     ensures busy { IfNone result ((who.new.me ≡ who.old.me) × HasEnd (P.tries policy.now)) }
+    ensures no_try { P.tries policy.now ≡ Some 0 → IsNone result }
 {
     if !policy.acquire(shared, who, stripe) {
         return None;
@@ -101,6 +103,7 @@ pub(crate) fn figures_in<P: WaitPolicy>(
     ensures looked { IfSome result (λ figures. HasLooked who.old.me who.new.me
         (λ h. figures ≡ figures_of (state_on who.old.me.0.setup stripe h))) }
     ensures busy { IfNone result ((who.new.me ≡ who.old.me) × HasEnd (P.tries policy.now)) }
+    ensures no_try { P.tries policy.now ≡ Some 0 → IsNone result }
 {
     if !policy.acquire(shared, who, stripe) {
         return None;
@@ -124,6 +127,7 @@ pub(crate) fn floor_in<P: WaitPolicy>(
     ensures looked { IfSome result (λ time. HasLooked who.old.me who.new.me
         (λ h. time ≡ (state_on who.old.me.0.setup stripe h).floor)) }
     ensures busy { IfNone result ((who.new.me ≡ who.old.me) × HasEnd (P.tries policy.now)) }
+    ensures no_try { P.tries policy.now ≡ Some 0 → IsNone result }
 {
     if !policy.acquire(shared, who, stripe) {
         return None;

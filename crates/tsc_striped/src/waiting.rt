@@ -4,7 +4,7 @@
 //! it releases those that it has, waits for that one, and begins anew. So it holds up nobody while
 //! it waits.
 ghost use Rattle.std.specs.Prelude.{◌≡◌, ◌∷◌, ◌-◌, ◌<◌, ◌≤◌, ℕ, Option, Some, None, true, false};
-ghost use Rattle.std.specs.Prelude.{IfOk, IfErr, IfSome, IfNone, IsErrOf, OnErr};
+ghost use Rattle.std.specs.Prelude.{IfOk, IfErr, IfSome, IfNone, IsNone, IsErrOf, OnErr};
 ghost use Rattle.tsc_stripe_table.specs.Rule.{LaidStripe, lock_word};
 ghost use Rattle.tsc_stripe_table.specs.Steps.{Acquires};
 ghost use Rattle.tsc_stripe_table.specs.Participating.{IsOf, IsAtRest, IsStripe, CanAcquire};
@@ -61,7 +61,8 @@ pub(crate) trait WaitPolicy {
         ensures table { who.new.table_id ≡ who.old.table_id }
         ensures looked { IfSome result (λ value. HasLooked who.old.me who.new.me
             (λ h. value ≡ look_from who.old.me.0.setup h span.now first (last - first))) }
-        ensures busy { IfNone result ((who.new.me ≡ who.old.me) × HasEnd (tries self.now)) };
+        ensures busy { IfNone result ((who.new.me ≡ who.old.me) × HasEnd (tries self.now)) }
+        ensures no_try { tries self.now ≡ Some 0 → IsNone result };
 
     /// Adds a batch under the locks of all stripes on which it lies. Where it is refused, nothing
     /// changes.
@@ -98,7 +99,8 @@ pub(crate) trait WaitPolicy {
         ensures shared { IfOk result (λ copies. HasLooked who.old.me who.new.me
             (λ h. AreCopies who.old.me.0.setup h first last copies.items)) }
         ensures refused { OnErr result (who.new.me ≡ who.old.me) }
-        ensures why { IfErr result (λ fault. IsStripeFault (tries self.now) fault) };
+        ensures why { IfErr result (λ fault. IsStripeFault (tries self.now) fault)
+            × (tries self.now ≡ Some 0 → IsErrOf result StripeFault.Busy) };
 
     /// Whether there is not even one try.
     fn has_no_try(&self) -> bool

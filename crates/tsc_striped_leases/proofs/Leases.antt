@@ -27,6 +27,7 @@ use Rattle.tsc_striped.specs.Answers.{AnswersAdd, TakesSnapshot, entry_by}
 use Rattle.tsc_striped.proofs.Adds.{first_there, last_there}
 use Rattle.tsc_striped.proofs.Histories.{kept_in, kept_up_over}
 use Rattle.tsc_striped.proofs.Overlaps.{meets_at, above_rises, below_rises}
+use Rattle.timestamp_cache.proofs.TakingOver.{told_below}
 use Rattle.timestamp_cache.specs.HandOver.{Summary, Summarizes, IsWithin, summary_answer}
 use Rattle.timestamp_cache.specs.HandOver.{marks_told}
 use Rattle.tsc_striped_leases.specs.Leases.{TellReads, SummarizeFrom, SummarizesInStripes}
@@ -233,17 +234,6 @@ summarizes_in_stripes old new of most snapshot told is taken zip =
     }
 
 -- ---- taking over
-
--- what bounds all that a summary adds is no lower than what it tells
-told_below : (told : Summary) (inner : Interval) (u : OwnedTime) → IsWithin inner told.span
-    → IsBound inner (marks_told told) u → IsAtMost (summary_answer told inner) u
-told_below told inner u within bound =
-    let floor : Mark = record { span = told.span; value = unowned told.floor } in
-    joint_below inner told.marks told.floor u
-    (bound floor (Contains-from_IsIn (marks_told told) floor (inl refl))
-    (within_overlaps inner told.span within))
-    (λ m c over. bound m (Contains-from_IsIn (marks_told told) m
-    (inr (IsIn-from_Contains told.marks m c))) over)
 
 -- who has seen the entry of a summary's marks has taken it over
 takes_over_entry : (seat : SeatView) (told : Summary) (e : Entry) → IsSeat seat

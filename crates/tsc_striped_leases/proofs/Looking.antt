@@ -1,11 +1,11 @@
 -- What lookups at seats of a cache in stripes answer.
-use Rattle.std.proofs.Common.{◌≡◌}
+use Rattle.std.proofs.Common.{◌≡◌, ℕ}
 use Rattle.std.specs.Prelude.{Result, Ok, Err, IfOk, OnErr}
 use Rattle.tsc_time.specs.OwnedTime.{OwnedTime}
 use Rattle.tsc_span.specs.Span.{Interval}
 use Rattle.tsc_striped.specs.declared.answers.Busy.{Busy}
 use Rattle.tsc_striped.specs.Seats.{SeatView}
-use Rattle.tsc_striped.specs.Answers.{AnswersLookup, TriesLookup}
+use Rattle.tsc_striped.specs.Answers.{AnswersLookup, Tries}
 use Rattle.timestamp_cache.specs.SeatKinds.{LooksUp}
 use Rattle.tsc_striped_leases.specs.StripedSeats.{striped_seat}
 
@@ -19,13 +19,14 @@ looks_up old new span value looks = record {
 }
 
 -- one that may give up
-pub tries_up : (old new : SeatView) (span : Interval) (r : Result OwnedTime Busy) →
-    TriesLookup old new span r → IfOk r (λ value. LooksUp striped_seat old new span value)
-tries_up old new span (Ok value) tries = looks_up old new span value tries.answered
-tries_up old new span (Err busy) tries = tt
+pub tries_up : {tries : ℕ} (old new : SeatView) (span : Interval) (r : Result OwnedTime Busy)
+    → Tries old new tries (AnswersLookup old new span) r
+    → IfOk r (λ value. LooksUp striped_seat old new span value)
+tries_up old new span (Ok value) told = looks_up old new span value told.answered
+tries_up old new span (Err busy) told = tt
 
 -- and leaves the seat then
-pub gives_up : (old new : SeatView) (span : Interval) (r : Result OwnedTime Busy) →
-    TriesLookup old new span r → OnErr r (Unit {0} × (new ≡ old))
-gives_up old new span (Ok value) tries = tt
-gives_up old new span (Err busy) tries = (tt, tries.busy)
+pub gives_up : {tries : ℕ} (old new : SeatView) (span : Interval) (r : Result OwnedTime Busy)
+    → Tries old new tries (AnswersLookup old new span) r → OnErr r (Unit {0} × (new ≡ old))
+gives_up old new span (Ok value) told = tt
+gives_up old new span (Err busy) told = (tt, told.busy)

@@ -7,15 +7,10 @@ use Rattle.tsc_page_nodes.proofs.CutOrder.{Lt, Le, Lt-or_Le, Le-itself, Le-chain
 use Rattle.tsc_page_nodes.proofs.CutOrder.{Lt_Le-chain, Le-from_Lt}
 use Rattle.tsc_stripe_table.specs.Stripes.{stripe_start, stripe_end, piece_between, piece_of}
 use Rattle.tsc_striped.proofs.Overlaps.{greater_least, greater_first, greater_second_}
+use Rattle.tsc_striped.proofs.Overlaps.{smaller_first_}
 use Rattle.timestamp_cache.specs.HandOver.{IsWithin}
 
--- the lower one of two places is not above the first
-smaller_first_ : (a b : Cut) → Le (smaller_cut a b) a
-smaller_first_ a b = elim (Lt-or_Le a b) [
-  | inl lt ↦ rw lt (Le-itself a)
-  | inr ge ↦ rw ge ge
-]
-
+-- the lower one of two places is not above the second
 smaller_second_ : (a b : Cut) → Le (smaller_cut a b) b
 smaller_second_ a b = elim (Lt-or_Le a b) [
   | inl lt ↦ rw lt (Le-from_Lt a b lt)

@@ -1,13 +1,17 @@
 -- The order of timestamps as facts about their numbers.
-use Rattle.std.proofs.Common.{◌≡◌, ℕ, ◌<◌, ◌≤◌, ◌⊎◌, ◌∙◌, ap, true, false, arith, Decides}
+use Rattle.std.proofs.Common.{◌≡◌, ℕ, ◌<◌, ◌≤◌, ◌^◌, ◌⊎◌, ◌∙◌, ap, true, false, arith, Decides}
 use Rattle.std.proofs.lemmas.Bool.Decides.{nat_tests, Decides-like, Decides-and, Decides-eqb}
-use Rattle.tsc_time.specs.Time.{Time, is_before, is_same_time, later}
+use Rattle.tsc_time.specs.Time.{Time, is_before, is_in_range, is_same_time, later}
 
 -- two times of the same parts are the same
 pub same_parts : (a b : Time) → a.wall ≡ b.wall → a.logical ≡ b.logical → a ≡ b
 same_parts a b e f =
     let at : ℕ → ℕ → Time = λ wall logical. record { wall = wall; logical = logical } in
     ap (λ n. at n a.logical) e ∙ ap (at b.wall) f
+
+-- the parts of a time in range are below the limits of their types
+pub parts_below : (t : Time) → is_in_range t ≡ true → (t.wall < 2 ^ 64) × (t.logical < 2 ^ 32)
+parts_below t in_range = grind (arith, nat_tests)
 
 -- the test of equal times decides whether they are the same
 pub is_same_time-Decides : (a b : Time) → Decides (is_same_time a b) (a ≡ b)

@@ -14,6 +14,7 @@ use Rattle.uuid.specs.Text.{hyphenated_text, lower, parsed, parsed_simple, parse
 use Rattle.uuid.specs.Parts.{is_nil_bytes}
 use Rattle.uuid.proofs.TextLemmas.{by_index_length, by_index_at}
 use Rattle.uuid.proofs.RoundTrips.{parses_hyphenated}
+use Rattle.tsc_time.proofs.TimeOrder.{parts_below}
 use Rattle.tsc_time.specs.Time.{Time, is_in_range}
 use Rattle.tsc_time.specs.OwnedTime.{OwnedTime, Owner, IsMadeOwner, IsMadeValue, owner_of}
 use Rattle.tsc_trace.specs.declared.log.CallAnswer.{CallAnswer}
@@ -22,7 +23,7 @@ use Rattle.tsc_trace.specs.LogText.{space, dot, time_text, owner_text, answer_te
 use Rattle.tsc_trace.specs.LogReading.{IsWritable, IsWritableAnswer}
 use Rattle.tsc_trace.specs.ReadingBack.{IsWithout, ReadsBack, ReadsField}
 use Rattle.tsc_trace.proofs.Cuts.{cut_same, no_cut}
-use Rattle.tsc_trace.proofs.LineTexts.{decimal_without, line_ascii, parts_below, uuid_length, time_without_space, without_by_test}
+use Rattle.tsc_trace.proofs.LineTexts.{decimal_without, line_ascii, uuid_length, time_without_space, without_by_test}
 
 -- what `split_once` gives at a mark
 pub cut_parts : (mark : ℕ) (text : List ℕ) (r : Option (Bor (List ℕ) × Bor (List ℕ))) →

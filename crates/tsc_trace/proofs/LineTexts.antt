@@ -10,6 +10,7 @@ use Rattle.std.specs.List.{list_all}
 use Rattle.std.proofs.lemmas.Bool.{and_parts}
 use Rattle.uuid.specs.Text.{hex_digit, nibble, hyphenated_text, lower, is_hyphen_place, digit_place}
 use Rattle.uuid.proofs.TextLemmas.{by_index_length, by_index_at, nibble_small}
+use Rattle.tsc_time.proofs.TimeOrder.{parts_below}
 use Rattle.tsc_time.specs.Time.{Time, is_in_range}
 use Rattle.tsc_time.specs.OwnedTime.{Owner}
 use Rattle.tsc_trace.specs.declared.log.Line.{Line}
@@ -77,10 +78,6 @@ word_plain text h = record { bytes = plain_by_test text h }
 bit_plain : (b : Bool) → IsPlainText (bit_text b)
 bit_plain true = word_plain (codes "1") refl
 bit_plain false = word_plain (codes "0") refl
-
--- the parts of a time in range are below the limits of their types
-pub parts_below : (t : Time) → is_in_range t ≡ true → (t.wall < 2 ^ 64) × (t.logical < 2 ^ 32)
-parts_below t in_range = grind (arith, nat_tests)
 
 time_plain : (t : Time) → is_in_range t ≡ true → IsPlainText (time_text t)
 time_plain t in_range =

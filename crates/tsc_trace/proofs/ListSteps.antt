@@ -12,7 +12,7 @@ use Rattle.tsc_trace.specs.declared.player.Player.{Player}
 use Rattle.tsc_trace.specs.PlayerParts.{StandsAt}
 
 -- what is left from a place on begins with what stands there
-left_from : {X : Type 0} (xs : List X) (i : ℕ) (x : X) → slice_get xs i ≡ Some x →
+pub left_from : {X : Type 0} (xs : List X) (i : ℕ) (x : X) → slice_get xs i ≡ Some x →
     drop i xs ≡ x ∷ drop (i + 1) xs
 left_from xs i x at =
     drop-cons xs i x (slice_get_within xs i x at) ∙

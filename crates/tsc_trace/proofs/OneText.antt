@@ -3,6 +3,7 @@ use Rattle.std.proofs.Common.{◌≡◌, ℕ, ◌<◌, ◌^◌, List, ◌∷◌,
 use Rattle.std.proofs.lemmas.Fmt.{decimal_injective}
 use Rattle.uuid.specs.Text.{hyphenated_text, lower}
 use Rattle.tsc_cache.specs.declared.added.Added.{Added}
+use Rattle.tsc_time.proofs.TimeOrder.{parts_below}
 use Rattle.tsc_time.specs.Time.{Time, is_in_range}
 use Rattle.tsc_time.specs.OwnedTime.{OwnedTime, Owner, IsMadeOwner, IsMadeValue}
 use Rattle.tsc_trace.specs.declared.log.Line.{Line}
@@ -11,7 +12,7 @@ use Rattle.tsc_trace.specs.declared.log.CallAnswer.TheVariants as said
 use Rattle.tsc_trace.specs.LogText.{space, dot, line_feed, bit_text, time_text, owner_text, answer_text, line_text}
 use Rattle.tsc_trace.specs.LogReading.{IsWritable, IsWritableAnswer}
 use Rattle.tsc_trace.proofs.Cuts.{cut_same}
-use Rattle.tsc_trace.proofs.LineTexts.{decimal_without, parts_below, time_without_space, bit_without_space, line_without_feed}
+use Rattle.tsc_trace.proofs.LineTexts.{decimal_without, time_without_space, bit_without_space, line_without_feed}
 use Rattle.tsc_trace.proofs.FieldReading.{none_is_no_uuid, parsed_owner}
 
 -- a number, and what follows the space behind it

@@ -11,7 +11,7 @@ ghost use Rattle.tsc_trace.specs.Play.{Standing, said_at, played};
 
 use crate::log::{CallAnswer, Line, Lines, Log};
 use std::alloc::Global;
-use tsc_cache::{Added, Cache, CacheFault, Mark, TimestampCache};
+use tsc_cache::{Added, Cache, Mark, TimestampCache};
 use tsc_span::Span;
 use tsc_stream::{NoProgress, Progress};
 use tsc_time::{NoMemory, Timestamp, Value};
@@ -36,11 +36,7 @@ pub fn add_fitting(
     ensures settings { OnOk result (cache.new.settings ≡ cache.old.settings) }
     ensures unchanged { OnErr result (cache.new ≡ cache.old) }
 {
-    match cache.add(span, value, now) {
-        Ok(added) => Ok(added),
-        Err(CacheFault::NoMemory) => Err(NoMemory),
-        Err(CacheFault::TooLarge) => unreachable!(),
-    }
+    cache.add_one_fitting(span, value, now)
 }
 
 /// Adds marks that fit the cache's pages, one after another, as each batch of a [`Trace`] does. So
@@ -57,11 +53,7 @@ pub fn add_all_fitting(cache: &mut Cache, marks: &[Mark], now: Timestamp) -> Res
     ensures settings { OnOk result (cache.new.settings ≡ cache.old.settings) }
     ensures unchanged { OnErr result (cache.new ≡ cache.old) }
 {
-    match cache.add_all(marks, now) {
-        Ok(all) => Ok(all),
-        Err(CacheFault::NoMemory) => Err(NoMemory),
-        Err(CacheFault::TooLarge) => unreachable!(),
-    }
+    cache.add_all_fitting(marks, now)
 }
 
 /// A replay under way: the cache, how many Adds there were, and the lines so far.

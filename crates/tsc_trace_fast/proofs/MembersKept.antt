@@ -12,6 +12,7 @@ use Rattle.serde_json.specs.Data.{Data, Members, no_members, member, put}
 use Rattle.serde_json.specs.Find.{get_member}
 use Rattle.serde_json.proofs.Views.{get_member-put, get_member-put_other}
 use Rattle.tsc_page_nodes.proofs.DistinctKeys.{bytes_eq-itself}
+use Rattle.tsc_trace_format.proofs.AnyOrder.{named_itself}
 use Rattle.tsc_trace_format.specs.TraceText.{names_only}
 use Rattle.tsc_trace_fast.specs.TokenReads.{Keeps}
 
@@ -80,9 +81,6 @@ kept_none {A} {F} f name found kept h is = by (get_member name found) (h ∙ ap 
 abbrev pub without : List ℕ → List (List ℕ) → List (List ℕ)
 without k [] = []
 without k (l ∷ ls) = cond (bytes_eq l k) (without k ls) (l ∷ without k ls)
-
-named_itself : (l : List ℕ) (e : Data) (ms : Members) → get_member l (member l e ms) ≡ Some e
-named_itself l e ms = rw (tied_itself nat_list_cmp_total l) refl
 
 -- what finds nothing in the whole finds nothing in the rest
 none_later : (k l : List ℕ) (d : Data) (ms : Members) → get_member k (member l d ms) ≡ None →

@@ -69,7 +69,7 @@ still_found k l e d ms found = by (slice_cmp nat_cmp k l)
     by Equal = (e, refl)
     by Greater = (d, found)
 
-named_itself : (l : List ℕ) (e : Data) (ms : Members) → get_member l (member l e ms) ≡ Some e
+pub named_itself : (l : List ℕ) (e : Data) (ms : Members) → get_member l (member l e ms) ≡ Some e
 named_itself l e ms = rw (tied_itself nat_list_cmp_total l) refl
 
 names_only-from : (names : List (List ℕ)) (ms : Members) → FindsOnly names ms →

@@ -142,7 +142,7 @@ def built(top, facts):
     lines = [
         f"{facts[0]} for {PLATFORM}",
         *facts[1:],
-        f"gate: {gate.minutes} minutes on two processors when last measured (docs/PROOFS.md)",
+        f"gate: {gate.minutes} minutes on {gate.processors} processors when last measured (docs/PROOFS.md)",
         "",
         "SHA-256 of each file:",
     ]

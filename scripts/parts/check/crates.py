@@ -2,8 +2,8 @@
 
 - Each crate names each library that `crates.txt` says it stands on: where a source says `NAME::`, or
   a source or a proof `Rattle.NAME.`. Each crate of `crates/` has a line.
-- The table of the gate's time in docs/PROOFS.md has a row for each crate and no other.
-  `scripts/measure gate` writes it, with the day.
+- The table of the gate's time in docs/PROOFS.md has a row for each crate and no other, in the order
+  of `crates.txt`. `scripts/measure gate` writes it, with the day.
 - Each test that `scripts/tests.txt` names is there.
 """
 import os
@@ -52,6 +52,7 @@ def run(cases, _):
         cases.expect(f"docs/PROOFS.md has no time of {crate}: call scripts/measure gate", crate in in_table)
     for crate in in_table:
         cases.expect(f"docs/PROOFS.md has a time of {crate}, which is no crate", crate in known)
+    cases.expect("docs/PROOFS.md has the times in another order than crates.txt", in_table, list(known))
     cases.expect("docs/PROOFS.md doesn't say when the gate was measured", measured(text) is not None)
 
     for crate, file, function in cases.looked_at(list(tests()), "tests that scripts name"):

@@ -1,14 +1,15 @@
 """Runs the gate, and measures the processor minutes of each crate: its proof, its tests, its edits.
 
-The command is `taskset -c 0,1 rt ci --anew` where none is given: what the gate takes from nothing on
-two processors. `rt all check` or `rt must-fail NAME` can be measured too. What it prints goes to
-standard error, so that standard output has the table alone, in Markdown. With --edits a list of the
-edits follows, with the processor seconds of each.
+The command is `taskset -c 0,1 rt ci` where none is given: what the gate takes on two processors.
+`rt ci` on all of them, `rt all check` or `rt must-fail NAME` can be measured too. The command runs in
+a fresh clone of the commit that is checked out, so from nothing. What it prints goes to standard
+error, so that standard output has the table alone, in Markdown. With --edits a list of the edits
+follows, with the processor seconds of each.
 
-Where the command is `rt ci --anew` and ends well, the table takes the place of the one between the
+Where the command is a whole `rt ci` and ends well, the table takes the place of the one between the
 marks of docs/PROOFS.md, with the day and the commit; --into names another file, and --no-write none.
-With --table the table goes to a file alone, and what the command prints stays as it is: so the gate
-watches its own run.
+With --table the command runs here, the table goes to a file alone, and what the command prints stays
+as it is: so the gate watches its own run.
 
 Four times a second it looks at the processes below the command, of which one belongs to a crate by
 its words and to an edit by its folder. What a process spends after the last look is in no column but
@@ -28,18 +29,20 @@ import threading
 import time
 from collections import namedtuple
 
-from parts.frame import MISSING, ROOT, Fault, needs_rt, outcome, say, write
+from parts.frame import MISSING, ROOT, Fault, call, needs_rt, say, temporary, told_by, write
 from parts.repository import crates, edits_of
 
 TICK = os.sysconf("SC_CLK_TCK")
 PERIOD = 0.25
 KINDS = ("proof", "tests", "edits")
-GATE = ["taskset", "-c", "0,1", "rt", "ci", "--anew"]
-COLUMNS = ["Crate", "Proof", "Tests", "Edits", "Number of edits", "Together"]
+GATE = ["taskset", "-c", "0,1", "rt", "ci"]
+COLUMNS = ["Crate", "Proof", "Tests", "Edits", "Together"]
 BEGIN, END = "<!-- gate: begin -->\n", "<!-- gate: end -->"
-Measured = namedtuple("Measured", "day commit minutes")
+Measured = namedtuple("Measured", "day commit minutes processors")
 MEASURED = re.compile(
-    r"^Measured on (\d{4}-\d\d-\d\d) at commit `(\w+)` by `[^`]*`:\n(\d+) minutes by the clock", re.M
+    r"^Measured on (\d{4}-\d\d-\d\d) at commit `(\w+)` by `[^`]*`:\n"
+    r"(\d+) minutes by the clock on (\d+) processors",
+    re.M,
 )
 # The parent of all threads of the kernel, which there may be many of and which are never looked at
 # again.
@@ -47,8 +50,8 @@ KERNEL = 2
 
 
 def measured(text):
-    """Returns when the table of a document was measured, of which commit, and how long that took.
-    """
+    """Returns when the table of a document was measured, of which commit, and how long that took on
+    how many processors."""
     found = MEASURED.search(text.partition(BEGIN)[2].partition(END)[0])
     return Measured(*found.groups()) if found else None
 
@@ -90,8 +93,8 @@ def below(top, running):
 
 
 def edit_in(folder, crate):
-    """Returns the edit that was made in this copy of a crate, or that there is none: all edits of a
-    crate begin with what such a copy proved."""
+    """Returns the edit that was made in this copy of a crate, or that there is none: among its edits
+    the crate itself is proved once more."""
     for edit in edits_of(crate):
         lines = [line.partition(": ") for line in content(f"{ROOT}/{edit}").splitlines()]
         file = next((text for word, _, text in lines if word == "file"), "")
@@ -149,22 +152,20 @@ def spent_on(seen, key):
     return spent
 
 
-def row_of(name, minutes, edits):
-    cells = [name, *(f"{it:.1f}" for it in minutes), str(edits), f"{sum(minutes):.1f}"]
-    return f"| {' | '.join(cells)} |"
+def row_of(name, minutes):
+    return f"| {' | '.join([name, *(f'{it:.1f}' for it in minutes), f'{sum(minutes):.1f}'])} |"
 
 
 def table(seen):
     spent = spent_on(seen, lambda work: (work.crate, work.kind))
     yield f"| {' | '.join(COLUMNS)} |"
     yield "|---" * len(COLUMNS) + "|"
-    sums, number = [0.0, 0.0, 0.0], 0
+    sums = [0.0 for _ in KINDS]
     for crate in crates():
         minutes = [spent.get((crate, kind), 0) / 60 for kind in KINDS]
         sums = [a + b for a, b in zip(sums, minutes)]
-        number += len(edits_of(crate))
-        yield row_of(f"`{crate}`", minutes, len(edits_of(crate)))
-    yield row_of("all", sums, number)
+        yield row_of(f"`{crate}`", minutes)
+    yield row_of("all", sums)
 
 
 def edit_lines(seen):
@@ -194,15 +195,29 @@ def arguments(parser):
     parser.add_argument("command", nargs=argparse.REMAINDER, help="what is measured")
 
 
+def processors_of(words):
+    """Returns how many processors the command may run on, by what `taskset` before it leaves."""
+    before = words[: words.index("rt")] if "rt" in words else []
+    return int(told_by(*before, "nproc"))
+
+
 def main(given):
     words = given.command or GATE
     needs_rt()
     if not shutil.which(words[0]):
         raise Fault(f"the command {words[0]} is not on the PATH", MISSING)
+    with temporary() as room:
+        folder = ROOT if given.table else f"{room}/clone"
+        if not given.table:
+            call("git", "clone", "-q", ROOT, folder)
+        return measure(words, folder, given)
+
+
+def measure(words, folder, given):
     say(f"watching {' '.join(words)}")
     begun, taken = time.monotonic(), stolen()
     to = None if given.table else sys.stderr
-    started = subprocess.Popen(words, cwd=ROOT, stdin=subprocess.DEVNULL, stdout=to)
+    started = subprocess.Popen(words, cwd=folder, stdin=subprocess.DEVNULL, stdout=to)
     signal.signal(signal.SIGTERM, lambda *_: started.terminate())
     seen, ended = {}, threading.Event()
     watcher = threading.Thread(target=watch, args=(started.pid, seen, ended))
@@ -216,10 +231,11 @@ def main(given):
     usage = resource.getrusage(resource.RUSAGE_CHILDREN)
     total, minutes = (usage.ru_utime + usage.ru_stime) / 60, (time.monotonic() - begun) / 60
     lost = ", ".join(f"{cpu} {now - taken.get(cpu, 0):.1f}" for cpu, now in stolen().items())
-    commit = outcome("git", "rev-parse", "--short", "HEAD", cwd=ROOT)[1].strip()
+    commit = told_by("git", "rev-parse", "--short", "HEAD", cwd=folder)
+    by_clock = f"{minutes:.0f} minutes by the clock on {processors_of(words)} processors"
     lines = [
         f"Measured on {datetime.date.today()} at commit `{commit}` by `{' '.join(words)}`:",
-        f"{minutes:.0f} minutes by the clock, {total:.0f} processor minutes.",
+        f"{by_clock}, {total:.0f} processor minutes.",
         "",
         *table(seen),
     ]
@@ -229,6 +245,6 @@ def main(given):
         write(given.table, f"{told}\n")
         return status
     print(told)
-    if not status and {"ci", "--anew"} <= set(words) and not given.no_write:
+    if not status and words[-2:] == GATE[-2:] and not given.no_write:
         put_into(given.into, lines)
     return status

@@ -18,26 +18,24 @@ from parts.repository import files, named
 # What is changed: each of these lines, in the one file of the crates that has all of a group.
 CHANGES = [
     {
-        "fn handle_on(active: &Arc<Cache>, length: u64) -> (bool, Slot)": (
-            "fn handle_on(active: &Arc<Cache>, length: u64, refused: bool) -> (bool, Slot)"
+        "fn handle_on<C, O>(active: &Arc<C>, length: u64) -> (bool, Slot<C, O>)": (
+            "fn handle_on<C: Drop, O>(active: &Arc<C>, length: u64, refused: bool) -> (bool, Slot<C, O>)"
         ),
-        "        Ok(cache) => (true, Slot::Handle(ReadHandle { cache, length })),": (
-            "        Ok(cache) => if refused { (false, Slot::Empty) }"
-            " else { (true, Slot::Handle(ReadHandle { cache, length })) },"
+        "        Ok(copy) => (true, Slot::Handle(ReadHandle { copy, length })),": (
+            "        Ok(copy) => if refused { (false, Slot::Empty) }"
+            " else { (true, Slot::Handle(ReadHandle { copy, length })) },"
         ),
-        "    adds: u64,": "    adds: u64,\n    refused: bool,",
-        "        let (laid, handle) = handle_on(active, adds);": (
-            "        let (laid, handle) = handle_on(active, adds, refused && seat == 1);"
+        "    length: u64,": "    length: u64,\n    refused: bool,",
+        "        let (laid, handle) = handle_on(active, length);": (
+            "        let (laid, handle) = handle_on(active, length, refused && seat == 1);"
         ),
     },
     {
-        "    let next = match take_next(context.alloc, state, &add) {": (
-            "    let refused = state.standby.is_some() && state.length % 3 == 1;\n"
-            "    let next = match take_next(context.alloc, state, &add) {"
+        "    let Next {": (
+            "    let refused = state.copies.standby.is_some() && state.length % 3 == 1;\n"
+            "    let Next {"
         ),
-        "    if !install_handles(context.shared, who, &next.cache, adds, seats, standby) {": (
-            "    if !install_handles(context.shared, who, &next.cache, adds, refused, seats, standby) {"
-        ),
+        "        length,": "        length,\n        refused,",
     },
 ]
 

@@ -1,4 +1,4 @@
-/* Stops threads of a shared cache where the system may stop them, as scripts/refuse stop says. */
+/* Stops threads where the system may stop them, as scripts/refuse stop says. STOP_SCENE names the scene. */
 #define _GNU_SOURCE
 #include <dlfcn.h>
 #include <fcntl.h>
@@ -6,12 +6,13 @@
 #include <stdatomic.h>
 #include <stdio.h>
 #include <stdlib.h>
+#include <string.h>
 #include <time.h>
 #include <unistd.h>
 
 enum { SEATS = 3, WAITS = 1000, LIMIT = 60000 };
 
-// How many threads were started, how many seats have ended, whether the second one has stopped, and how often the third one has waited.
+// How many threads were started, how many seats have ended, whether one has stopped, and how often one has waited.
 static atomic_int started, ended, stopped, waited;
 // Which thread this is: 1 or 2, or 0 for the one that starts these and has the third seat. And whether it has stopped or ended.
 static _Thread_local int number, has_stopped, has_ended;
@@ -62,7 +63,8 @@ static void stop(atomic_int *count, int least, const char *what) {
     }
 }
 
-int sched_yield(void) {
+// At a cache with two copies: the first seat has the writer lock, and the second one waits for it.
+static void stop_at_copies(void) {
     if (number == 1 && !has_stopped) {
         stop(&stopped, 1, "the second seat has stopped");
         stop(&waited, WAITS, "the third seat has waited for the first one");
@@ -72,6 +74,24 @@ int sched_yield(void) {
     } else if (number == 0 && atomic_load(&started) > 0) {
         atomic_fetch_add(&waited, 1);
     }
+}
+
+// In stripes: the first seat has the lock of one, and the second one waits for that in a call over all.
+static void stop_in_stripes(void) {
+    if (number == 1 && !has_stopped) {
+        atomic_store(&stopped, 1);
+        stop(&ended, 1, "the third seat has ended");
+    } else if (number == 2 && atomic_load(&stopped)) {
+        atomic_fetch_add(&waited, 1);
+    } else if (number == 0 && atomic_load(&started) == SEATS - 1 && !has_stopped) {
+        stop(&stopped, 1, "the first seat has stopped");
+        stop(&waited, WAITS, "the second seat has waited for the first one");
+    }
+}
+
+int sched_yield(void) {
+    if (strcmp(getenv("STOP_SCENE"), "stripes") == 0) stop_in_stripes();
+    else stop_at_copies();
     static int (*real)(void);
     if (!real) real = (int (*)(void))dlsym(RTLD_NEXT, "sched_yield");
     return real();

@@ -11,6 +11,7 @@ import re
 import shutil
 import subprocess
 import sys
+import time
 
 from parts.check.definitions import GROUPS
 from parts.draw.documents import drawn
@@ -81,7 +82,7 @@ test*) printf '%b' "$CARGO"; exit "$CARGO_ENDS" ;;
 fmt*) exit "$FORMATS" ;;
 clippy*) exit "$LINTS" ;;
 package*) printf '%b' "$PACKED"; exit 0 ;;
-*lease_holder*) cat "{ROOT}/crates/example_lease_holder/stdout"; printf '%b' "$EXAMPLE"; exit "$EXAMPLE_ENDS" ;;
+*lease_holder*) sed '1,/^In stripes:$/d' "{ROOT}/crates/example_lease_holder/stdout"; printf '%b' "$EXAMPLE"; exit "$EXAMPLE_ENDS" ;;
 *figures*) yes "$FIGURES" | head -n 40; exit "$EXAMPLE_ENDS" ;;
 *leased_store*) exit "$EXAMPLE_ENDS" ;;
 run*)
@@ -371,6 +372,15 @@ def try_measure(cases, room):
     cases.expect("measure gate leaves a table", is_table, told=text)
 
 
+def is_gone(pid):
+    """Says whether a process ends within a second."""
+    for _ in range(100):
+        if not os.path.exists(f"/proc/{pid}") or " Z " in text_at(f"/proc/{pid}/stat"):
+            return True
+        time.sleep(0.01)
+    return False
+
+
 def try_frame(cases, room):
     """What the frame makes of cases, of words, and of parts that fail."""
     def counted(judge):
@@ -384,8 +394,10 @@ def try_frame(cases, room):
         cases.expect(f"a program of cases ends with {what}", got, wanted)
     cases.expect("nothing is looked at", counted(lambda own: own.looked_at([], "things")), (0, 1))
     cases.expect("another value than is wanted", counted(lambda own: own.expect("it", 1, 2)), (0, 1))
-    slow = outcome("sleep", "60", seconds=0.1)
+    write(f"{room}/child", "")
+    slow = outcome("sh", "-c", f"sleep 60 & echo $! >{room}/child; wait", seconds=1)
     cases.expect("a command that takes too long has no status", slow[0], None)
+    cases.expect("nor does what it started run on", is_gone(int(text_at(f"{room}/child"))))
     scripts = f"{ROOT}/scripts"
     for kind in ("check", "build", "test", "refuse", "measure", "draw"):
         cases.expect(f"{kind} --help", outcome(f"{scripts}/{kind}", "--help")[0], 0)
@@ -472,15 +484,24 @@ CRATES = {
     "crates/tsc_cache/src/lib.rt": "use low::it;\n",
     "docs/PROOFS.md": """<!-- gate: begin -->
 Measured on 2026-01-02 at commit `abc` by `rt ci`:
-60 minutes by the clock, 120 processor minutes.
+60 minutes by the clock on 2 processors, 120 processor minutes.
 
-| Crate | Proof | Tests | Edits | Number of edits | Together |
-|---|---|---|---|---|---|
-| `low` | 1.0 | 0.0 | 0.0 | 0 | 1.0 |
-| `tsc_cache` | 1.0 | 0.0 | 0.0 | 0 | 1.0 |
-| all | 2.0 | 0.0 | 0.0 | 0 | 2.0 |
+| Crate | Proof | Tests | Edits | Together |
+|---|---|---|---|---|
+| `low` | 1.0 | 0.0 | 0.0 | 1.0 |
+| `tsc_cache` | 1.0 | 0.0 | 0.0 | 1.0 |
+| all | 2.0 | 0.0 | 0.0 | 2.0 |
 <!-- gate: end -->
 """,
+}
+# Two lemmas of which the first one has the words of the third, in another sense.
+CHAIN = "one : (a b c d e : ℕ) → a ≡ b → b ≡ c → c ≡ d → d ≡ e → a ≡ e → a ≡ d\none = chain\n"
+OF_KEYS = " : (a b c d e : Key) → a ≡ b → b ≡ c → c ≡ d → d ≡ e → a ≡ e → d ≡ a\n"
+LEMMAS = {
+    "crates.txt": "low:\n",
+    "crates/low/src/lib.rt": "",
+    "crates/low/proofs/One.antt": f"use Rattle.low.specs.One.{{Key}}\n\n{CHAIN}three{OF_KEYS}",
+    "crates/low/proofs/Two.antt": f"use Rattle.low.specs.Two.{{Key}}\n\n{CHAIN.replace('a ≡ d', 'a ≡ c', 1)}three{OF_KEYS}",
 }
 # A public call whose comment has an example.
 SHOWN_CALL = "/// It is.\n///\n/// ```\n/// assert!(rt; is_it());\n/// ```\npub fn is_it() -> bool"
@@ -580,8 +601,9 @@ CHECKS = {
         "there is no crate": ("crates.txt", "low:\ntsc_cache: low", "# none"),
         "a crate has no line": ("crates.txt", "low:\n", ""),
         "a line has no crate": ("crates.txt", "low:\n", "low:\nhigh:\n"),
-        "the table of the gate lacks a crate": ("docs/PROOFS.md", "| `low` | 1.0 | 0.0 | 0.0 | 0 | 1.0 |\n", ""),
-        "the table of the gate has another crate": ("docs/PROOFS.md", "| all", "| `old` | 1.0 | 0.0 | 0.0 | 0 | 1.0 |\n| all"),
+        "the table of the gate lacks a crate": ("docs/PROOFS.md", "| `low` | 1.0 | 0.0 | 0.0 | 1.0 |\n", ""),
+        "the table of the gate has another crate": ("docs/PROOFS.md", "| all", "| `old` | 1.0 | 0.0 | 0.0 | 1.0 |\n| all"),
+        "the table of the gate has another order": ("crates.txt", "low:\ntsc_cache: low", "tsc_cache: low\nlow:"),
         "the table of the gate has no day": ("docs/PROOFS.md", "Measured on", "Measured at"),
         "a test that a script calls is not there": ("crates/low/src/one.rt", "shows", "showed"),
     }),
@@ -596,6 +618,12 @@ CHECKS = {
         "README has other code": ("README.md", "1", "2"),
         "EMBEDDING has no code": ("docs/EMBEDDING.md", CODE, ""),
         "EMBEDDING has other code": ("docs/EMBEDDING.md", "1", "2"),
+    }),
+    "lemmas": (LEMMAS, {
+        "a lemma is stated twice": ("crates/low/proofs/Two.antt", "a ≡ c", "a ≡ d"),
+        "a lemma is stated twice in one file": ("crates/low/proofs/One.antt", "\n\n", f"\n\n{CHAIN.replace('one', 'other')}"),
+        "a lemma is stated twice by other imports": ("crates/low/proofs/Two.antt", "low.specs.Two.{Key}", "low.specs.One.{Key}"),
+        "there are no lemmas": ("crates.txt", "low:\n", "test_low:\n"),
     }),
     "rules": (RULES, {
         "a definition is not there": ("crates/tsc_cache/specs/Rule.antt", "holds", "held"),
@@ -717,7 +745,7 @@ def try_programs(cases, room):
     command_of(f"{room}/no kit/rt", "#!/bin/sh\nexit 1\n")
     no_kit = {"PATH": f"{room}/no kit:{os.environ['PATH']}"}
     for kind, text in kinds.items():
-        for crate in ("tscache", "test_caches", "test_ranges", "test_shared", "test_traces") if text else ():
+        for crate in ("tscache", "test_caches", "test_ranges", "test_shared", "test_striped", "test_traces") if text else ():
             command_of(f"{room}/{kind}/{crate}", text)
         for command, part, *words in parts if kind != "fails" else parts[:-1]:
             words = [f"{ROOT}/scripts/{command}", part, "--unproved", "--built", f"{room}/{kind}", *words]

@@ -9,7 +9,7 @@ use std::alloc::Global;
 use std::marker::Model;
 use std::sync::Arc;
 use timestamp_cache::SeatSummary;
-use tsc_cache::Mark;
+use tsc_cache::{Config, Mark};
 use tsc_shared::{Answer, LowWater};
 use tsc_span::{Span, SpanRef};
 use tsc_time::{Timestamp, Value};
@@ -39,9 +39,36 @@ impl SeatHandle {
     ghost use Rattle.std.specs.Prelude.{◌≡◌, []};
     ghost use Rattle.tsc_cache.specs.Settings.{fits};
     ghost use Rattle.tsc_cache.specs.Batch.{all_fit};
-    ghost use Rattle.tsc_ffi_store.specs.Kinds.{ByKind, front_of, IsAnySeat};
+    ghost use Rattle.tsc_ffi_store.specs.Kinds.{ByKind, config_of, front_of, IsAnySeat};
     ghost use Rattle.tsc_ffi_store.specs.ReturnSlots.{came};
-    ghost use Rattle.tsc_ffi_store.specs.Asking.{LooksShared, LooksStriped, TellsFloor, TellsFloorStriped, CountsShared, CountsStriped, SumsUpShared, SumsUpStriped, AddsShared, AddsStriped, one_mark};
+    ghost use Rattle.tsc_ffi_store.specs.Asking.{LooksShared, LooksStriped, TellsFloor, TellsFloorStriped, CountsShared, CountsStriped, SumsUpShared, SumsUpStriped, AddsShared, AddsStriped, LacksShared, LacksStriped, one_mark};
+
+    /// How the cache was set up.
+    pub fn config(&self) -> Config
+        ensures { result ≡ config_of self.now.seat }
+    {
+        match &self.shared.cache {
+            AnyCache::Shared(cache) => cache.config(),
+            AnyCache::Striped(cache) => cache.config(),
+        }
+    }
+
+    /// Why an Add is refused that fits, and for which there is no memory: there is no place left
+    /// for it, or there is none for want of memory alone.
+    pub fn without_memory(&mut self) -> Refusal
+        ensures lacks { ByKind LacksShared LacksStriped self.old.seat self.new.seat result }
+        ensures same { self.new.returns ≡ self.old.returns }
+    {
+        match &mut self.seat {
+            AnySeat::Shared(seat) => {
+                let AnyCache::Shared(cache) = &self.shared.cache else {
+                    unreachable!()
+                };
+                shared_calls::without_memory(cache, seat)
+            }
+            AnySeat::Striped(seat) => striped_calls::without_memory(seat),
+        }
+    }
 
     /// How many Adds the seat counts: at a shared cache all that it has seen, of whichever seats,
     /// and in stripes its own.

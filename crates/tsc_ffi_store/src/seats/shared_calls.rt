@@ -1,7 +1,8 @@
 //! What a seat of a shared cache answers.
-ghost use Rattle.std.specs.Prelude.{◌≡◌};
-ghost use Rattle.tsc_shared.specs.Answers.{ReadsFigures};
+ghost use Rattle.std.specs.Prelude.{◌≡◌, ◌<◌, length, true, false};
+ghost use Rattle.tsc_shared.specs.Answers.{ReadsFigures, HasLookedOn};
 ghost use Rattle.tsc_ffi_store.specs.Asking.{SumsUpShared, IsPlaced};
+ghost use Rattle.tsc_ffi_store.specs.SeatCalls.{RefusesTried, IsSpared};
 
 use crate::refusal::Refusal;
 use crate::seats::placed::{Counted, Placed};
@@ -61,5 +62,32 @@ pub(crate) fn placed(did: Result<Receipt, TryAddFault>) -> Result<Placed, Refusa
         Err(TryAddFault::Refused(AddFault::HistoryFull(_))) => Err(Refusal::Full),
         Err(TryAddFault::Refused(AddFault::NoMemory)) => Err(Refusal::NoMemory),
         Err(TryAddFault::Refused(AddFault::TooLarge)) => Err(Refusal::TooLarge),
+    }
+}
+
+/// Why an Add is refused that fits, and for which there is no memory: the history is full, or there
+/// is no memory.
+pub(crate) fn without_memory(cache: &SharedCache, seat: &mut Seat) -> Refusal
+    requires cache { seat.old.cache ≡ cache.now }
+    ensures tried { RefusesTried result seat.old seat.new }
+    ensures spared { IsSpared seat.old seat.new }
+{
+    if is_full(cache, seat) {
+        Refusal::Full
+    } else {
+        Refusal::NoMemory
+    }
+}
+
+/// Whether the history has as many Adds as it may have. The seat sees all of it then.
+fn is_full(cache: &SharedCache, seat: &mut Seat) -> bool
+    requires cache { seat.old.cache ≡ cache.now }
+    ensures full { result ≡ true → length seat.new.seen ≡ seat.old.cache.limit }
+    ensures below { result ≡ false → length seat.new.seen < seat.old.cache.limit }
+    ensures looked { HasLookedOn seat.old seat.new }
+{
+    match cache.low_water(seat) {
+        Ok(floor) => floor.front >= cache.history_limit(),
+        Err(_) => unreachable!(),
     }
 }

@@ -4,7 +4,7 @@ ghost use Rattle.std.specs.Prelude.{◌≡◌, ◌⊎◌};
 ghost use Rattle.tsc_striped_leases.specs.Merging.{earlier};
 ghost use Rattle.tsc_ffi_store.specs.Asking.{LooksStriped, TellsFloorStriped, CountsStriped, SumsUpStriped, IsPlacedAt};
 ghost use Rattle.tsc_ffi_store.specs.declared.refusal.Refusal.TheVariants as refusal;
-ghost use Rattle.tsc_ffi_store.specs.StripedCalls.{both_figures, no_figures, LooksOn};
+ghost use Rattle.tsc_ffi_store.specs.StripedCalls.{both_figures, no_figures, LooksOn, RefusesInStripes};
 
 use crate::refusal::Refusal;
 use crate::seats::placed::{Counted, Placed};
@@ -181,5 +181,17 @@ pub(crate) fn placed(
         Err(TryAddFault::Busy) => Err(Refusal::Busy),
         Err(TryAddFault::Refused(AddFault::SeatFull)) => Err(Refusal::Full),
         Err(TryAddFault::Refused(AddFault::NoMemory)) => Err(Refusal::NoMemory),
+    }
+}
+
+/// Why an Add is refused that fits, and for which there is no memory: the seat counts as many Adds
+/// as it can, or there is no memory.
+pub(crate) fn without_memory(seat: &Seat) -> Refusal
+    ensures { RefusesInStripes result seat.now }
+{
+    if seat.count() == u64::MAX {
+        Refusal::Full
+    } else {
+        Refusal::NoMemory
     }
 }

@@ -1,7 +1,8 @@
 -- Proves the contract of `gather`. The states of all clients come to a participant.
 use Rattle.std.proofs.Common.{◌≡◌, ◌∙◌, ◌++◌, ◌∷◌, [], append_assoc, refl, ap}
+use Rattle.tsc_left_right.proofs.Plain.{all_middle}
 use Rattle.mvcc_shared.specs.Keeping.{state_of_client}
-use Rattle.mvcc_shared.proofs.Dealing.{all_middle, rest_keeps, taken_keeps, gathered_then}
+use Rattle.mvcc_shared.proofs.Dealing.{rest_keeps, taken_keeps, gathered_then}
 use Rattle.mvcc_shared.proofs.closing.gather.Goals as goal
 
 pub merge-requires-clause-table : goal.merge-requires-clause-table

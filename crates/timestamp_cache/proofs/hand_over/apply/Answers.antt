@@ -4,9 +4,10 @@ use Rattle.tsc_page_nodes.specs.Page.{Mark}
 use Rattle.tsc_cache.specs.declared.added.Added.{Added}
 use Rattle.tsc_cache.specs.Settings.{Settings}
 use Rattle.tsc_cache.specs.State.{CacheState, step_all, not_kept}
-use Rattle.tsc_cache.specs.CacheView.{RepresentsState}
+use Rattle.tsc_cache.specs.CacheView.{RepresentsState, StandsAfterAll, TellsAddedAll}
 use Rattle.tsc_cache.specs.Batch.{is_any_kept}
 use Rattle.tsc_cache.proofs.Batches.{none_adds, adds_all_stands}
+use Rattle.tsc_cache.proofs.AddsSeen.{all_stand, all_added}
 use Rattle.timestamp_cache.specs.HandOver.{marks_told}
 use Rattle.timestamp_cache.proofs.TakingOver.{takes_over, where_ok}
 use Rattle.timestamp_cache.proofs.hand_over.apply.Goals as goal
@@ -40,15 +41,14 @@ pub returns-clause-stands : goal.returns-clause-stands
 returns-clause-stands c =
     let all : c.deref.result.now ≡ marks_told c.args.summary.now = search rules in
     subst (λ (ms : List Mark). OnOk c.add_all.result
-    ((settings : Settings) (s : CacheState) → RepresentsState c.args.cache.now settings s →
-    RepresentsState c.add_all.new.self settings (step_all settings s ms c.args.now).state)) all
-    c.add_all.ensures.stands
+    (StandsAfterAll c.args.cache.now c.add_all.new.self ms c.args.now)) all
+    (all_stand c.args.cache.now c.add_all.new.self c.args.now c.deref.result.now c.add_all.result
+    c.add_all.ensures.seen)
 
 pub returns-clause-added : goal.returns-clause-added
 returns-clause-added c =
     let all : c.deref.result.now ≡ marks_told c.args.summary.now = search rules in
     subst (λ (ms : List Mark). IfOk c.add_all.result
-    (λ (a : Added). (settings : Settings) (s : CacheState) →
-    RepresentsState c.args.cache.now settings s →
-    a ≡ (step_all settings s ms c.args.now).added)) all
-    c.add_all.ensures.added
+    (TellsAddedAll c.args.cache.now ms c.args.now)) all
+    (all_added c.args.cache.now c.add_all.new.self c.args.now c.deref.result.now c.add_all.result
+    c.add_all.ensures.seen)

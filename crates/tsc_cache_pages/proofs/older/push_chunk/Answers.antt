@@ -2,8 +2,9 @@
 use Rattle.std.proofs.Common.{◌≡◌, ◌∷◌, inl, inr, ◌∙◌, sym, ap, map, rules}
 use Rattle.std.specs.Prelude.{Ok, Err}
 use Rattle.std.specs.Arc.{arc_value}
+use Rattle.tsc_page.proofs.Refusals.{on_refusal}
 use Rattle.tsc_cache_pages.specs.Chunks.{in_chunk, in_chunks}
-use Rattle.tsc_cache_pages.proofs.FullChunks.{clones_same, kept, unless_ok}
+use Rattle.tsc_cache_pages.proofs.FullChunks.{clones_same, unless_ok}
 use Rattle.tsc_cache_pages.proofs.older.push_chunk.Goals as goal
 
 pub returns-in_err-chunks-clause-unchanged : goal.returns-in_err-chunks-clause-unchanged
@@ -12,7 +13,7 @@ returns-in_err-chunks-clause-unchanged c =
     let left = unless_ok c.make_mut.result _
     (λ x is. absurd (err_is_not_ok (sym c.in_err-chunks.was ∙ is)))
     c.make_mut.follows.holds-at-none in
-    kept c.from_residual-in_err-chunks.result _
+    on_refusal c.from_residual-in_err-chunks.result _
     (elim left [
       | inl h ↦ ap in_chunks h
       | inr h ↦ clones_same (λ k. arc_value k) in_chunk
@@ -34,7 +35,7 @@ returns-in_err-push_front-clause-unchanged c =
     ] in
     let held = c.make_mut.follows.holds c.push_front.new.self (search rules) in
     let items : c.push_front.new.self.items ≡ own.items = search rules in
-    kept c.from_residual-in_err-push_front.result _
+    on_refusal c.from_residual-in_err-push_front.result _
     (ap in_chunks held ∙ ap (map (λ k. in_chunk (arc_value k))) items ∙ same)
 
 pub returns-clause-pushed : goal.returns-clause-pushed

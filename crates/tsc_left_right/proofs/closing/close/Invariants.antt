@@ -6,8 +6,8 @@ use Rattle.std.specs.Mem.Slots.Ownership.{Filled}
 use Rattle.tsc_left_right.proofs.closing.close.Given as goal
 
 abbrev pub invariant-loop-slot : goal.invariant-loop-slot
-invariant-loop-slot l = Filled (slots_filled l.closed.slots) l.slot (slots_len l.closed.slots)
+invariant-loop-slot g l = Filled (slots_filled l.closed.slots) l.slot (slots_len l.closed.slots)
     × ((k : ℕ) → k < l.slot → get_or (slots_filled l.closed.slots) k false ≡ false)
 
 abbrev pub decreases-loop-slot : goal.decreases-loop-slot
-decreases-loop-slot l = slots_len l.closed.slots - l.slot
+decreases-loop-slot g l = slots_len l.closed.slots - l.slot

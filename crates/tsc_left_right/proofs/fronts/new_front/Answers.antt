@@ -4,9 +4,9 @@ use Rattle.tsc_left_right.proofs.FrontCalls.{front_at}
 use Rattle.tsc_left_right.proofs.fronts.new_front.Goals as goal
 
 pub split_seat-requires : goal.split_seat-requires
-split_seat-requires c = (
+split_seat-requires g c = (
   c.requires.of.table,
   omega (arith, c.requires.of.sized.words),
-  front_at c.args.shared.now.key c.args.who.now.id c.args.who.now.me
+  front_at g.P.Replicated c.args.shared.now.key c.args.who.now.id c.args.who.now.me
       c.requires.rest,
 )

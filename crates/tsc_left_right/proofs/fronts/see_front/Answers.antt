@@ -8,32 +8,34 @@ use Rattle.tsc_left_right.proofs.FrontCalls.{join_at, joined_then, catch_up_at, 
 use Rattle.tsc_left_right.proofs.fronts.see_front.Goals as goal
 
 pub join_seat-requires : goal.join_seat-requires
-join_seat-requires c = (
+join_seat-requires g c = (
   c.requires.of.table,
   c.requires.table,
   ap (λ m. m.1) c.requires.front,
   omega (arith, c.requires.of.sized.words),
-  join_at c.args.shared.now.key c.args.who.now.id c.args.who.now.me c.args.front.id
+  join_at g.P.Replicated c.args.shared.now.key c.args.who.now.id c.args.who.now.me c.args.front.id
       c.args.front.me c.requires.rest c.requires.front,
 )
 
 pub load-requires : goal.load-requires
-load-requires c =
+load-requires g c =
     let me = c.args.who.now.me in (
       c.join_seat.ensures.0 ∙ c.requires.of.table,
       omega (arith, c.requires.of.sized.words),
-      catch_up_at c.args.shared.now.key c.args.shared.now.table_id.slots
+      catch_up_at g.P.Replicated c.args.shared.now.key c.args.shared.now.table_id.slots
           (step c.args.shared.now.table_id.slots 0 0 0 maybe.none) c.join_seat.new.seat.id
           c.join_seat.new.seat.me
           me.0.setup (number_of me.0) (seen_of me.0) (count_of me.0) c.args.front.me.0.front
-          (joined_then me c.join_seat.new.seat.me c.args.front.me c.requires.rest
+          (joined_then g.P.Replicated me c.join_seat.new.seat.me c.args.front.me c.requires.rest
           c.join_seat.ensures.2),
     )
 
 pub returns-clause-seen : goal.returns-clause-seen
-returns-clause-seen c =
+returns-clause-seen g c =
     let me = c.args.who.now.me in
-    caught_up_then (step c.args.shared.now.table_id.slots 0 0 0 maybe.none) c.load.result me
+    caught_up_then g.P.Replicated (step c.args.shared.now.table_id.slots 0 0 0 maybe.none)
+    c.load.result me
     c.join_seat.new.seat.me c.load.new.seat.me c.args.front.me.0.front
-    (joined_then me c.join_seat.new.seat.me c.args.front.me c.requires.rest c.join_seat.ensures.2)
+    (joined_then g.P.Replicated me c.join_seat.new.seat.me c.args.front.me c.requires.rest
+    c.join_seat.ensures.2)
     c.requires.rest c.load.ensures.2

@@ -8,10 +8,10 @@ use Rattle.tsc_left_right.proofs.ClearCalls.{clear_at, cleared_then, watched_the
 use Rattle.tsc_left_right.proofs.lock.clear.Goals as goal
 
 pub load-epoch-requires : goal.load-epoch-requires
-load-epoch-requires c = (
+load-epoch-requires g c = (
   c.requires.of.table,
   omega (arith, c.requires.of.sized.words, c.epoch_word.ensures.value, c.requires.next.0),
-  clear_at c.args.shared.now.key c.args.shared.now.table_id.slots
+  clear_at g.P.Replicated c.args.shared.now.key c.args.shared.now.table_id.slots
       (step c.args.shared.now.table_id.slots c.epoch_word.result 0 0 maybe.none)
       c.args.who.now.id c.epoch_word.result c.args.who.now.me.0
       c.args.who.now.me c.args.seat c.args.watched
@@ -19,10 +19,10 @@ load-epoch-requires c = (
 )
 
 pub exchange-requires : goal.exchange-requires
-exchange-requires c = search rules
+exchange-requires g c = search rules
 
 pub returns-clause-cleared : goal.returns-clause-cleared
-returns-clause-cleared c =
+returns-clause-cleared g c =
     let t = cleared_then (step c.args.shared.now.table_id.slots c.epoch_word.result 0 0 maybe.none)
     c.load-epoch.result c.args.who.now.me.0 c.args.who.now.me
     c.load-epoch.new.seat.me c.args.seat c.args.watched c.requires.watched
@@ -34,7 +34,7 @@ returns-clause-cleared c =
     c.turn.ensures.2
 
 pub returns-then-not-has_left-clause-pinned : goal.returns-then-not-has_left-clause-pinned
-returns-then-not-has_left-clause-pinned c =
+returns-then-not-has_left-clause-pinned g c =
     watched_then (step c.args.shared.now.table_id.slots c.epoch_word.result 0 0 maybe.none)
     c.load-epoch.result c.args.who.now.me.0 c.args.who.now.me
     c.load-epoch.new.seat.me c.args.seat c.args.watched c.requires.watched

@@ -6,7 +6,7 @@ use Rattle.tsc_left_right.proofs.InstallCalls.{Installs}
 use Rattle.tsc_left_right.proofs.lock.install_handles.Given as goal
 
 abbrev pub invariant-loop-seat : goal.invariant-loop-seat
-invariant-loop-seat l =
+invariant-loop-seat g l =
     (l.who.table_id ≡ l.fn.who.table_id)
-    × Installs l.fn.who.me.0 l.who.me (arc_value l.fn.active) l.fn.adds l.seat
+    × Installs l.fn.who.me.0 l.who.me (arc_value l.fn.active) l.fn.length l.seat
     l.fn.seats l.all

@@ -10,7 +10,7 @@ use Rattle.tsc_left_right.proofs.WriterCalls.{released_then}
 use Rattle.tsc_left_right.proofs.lock.release.Goals as goal
 
 pub exchange-requires : goal.exchange-requires
-exchange-requires c =
+exchange-requires g c =
     let me = c.args.who.now.me in
     let lock = c.requires.may.lock in (
       c.requires.of.table,
@@ -20,12 +20,12 @@ exchange-requires c =
     )
 
 pub store-requires : goal.store-requires
-store-requires c =
+store-requires g c =
     let me = c.args.who.now.me in
     let lock = c.requires.may.lock in (
       c.turn.ensures.0 ∙ c.exchange.ensures.0 ∙ c.requires.of.table,
       omega (arith, c.requires.of.sized.words),
-      release_at c.args.shared.now.key c.args.shared.now.table_id.slots
+      release_at g.P.Replicated c.args.shared.now.key c.args.shared.now.table_id.slots
           (step c.args.shared.now.table_id.slots 0 0 0 maybe.none) c.turn.new.self.id me.0
           c.turn.new.self.me lock.0 lock.1 lock.2.slots c.args.state
           (laid_back (cleared_in me.0 lock.0 lock.1) me c.exchange.new.seat.me c.turn.new.self.me
@@ -36,7 +36,7 @@ store-requires c =
     )
 
 pub returns-clause-released : goal.returns-clause-released
-returns-clause-released c =
+returns-clause-released g c =
     let me = c.args.who.now.me in
     let lock = c.requires.may.lock in
     released_then c.turn.new.self.me c.store.new.seat.me (cleared_in me.0 lock.0 lock.1)

@@ -6,9 +6,10 @@ use Rattle.tsc_left_right.proofs.Moves.{line_allowed}
 use Rattle.tsc_left_right.proofs.lock.set_first.Goals as goal
 
 pub store-requires : goal.store-requires
-store-requires c = (
+store-requires g c = (
   c.requires.of.table,
   omega (arith, c.requires.of.sized.words),
-  line_allowed c.args.shared.now.key c.args.shared.now.table_id.slots
-      (step c.args.shared.now.table_id.slots 1 c.args.first 0 maybe.none) c.args.who.now.id c.args.who.now.me (λ _. c.args.first),
+  line_allowed g.P.Replicated c.args.shared.now.key c.args.shared.now.table_id.slots
+      (step c.args.shared.now.table_id.slots 1 c.args.first 0 maybe.none) c.args.who.now.id
+      c.args.who.now.me (λ _. c.args.first),
 )

@@ -3,4 +3,4 @@ use Rattle.tsc_left_right.specs.Opening.{IsLaidOut}
 use Rattle.tsc_left_right.proofs.opening.first_slots.Given as goal
 
 abbrev pub invariant-loop-seat : goal.invariant-loop-seat
-invariant-loop-seat l = IsLaidOut l.fn.state l.seat l.slots.items
+invariant-loop-seat g l = IsLaidOut l.fn.state l.seat l.slots.items

@@ -4,15 +4,15 @@ use Rattle.tsc_left_right.proofs.Laying.{line_more, line_full}
 use Rattle.tsc_left_right.proofs.opening.lay.Goals as goal
 
 pub loop-beside-init : goal.loop-beside-init
-loop-beside-init c = c.in_ok-push.ensures.items
+loop-beside-init g c = c.in_ok-push.ensures.items
 
 pub loop-beside-preserved : goal.loop-beside-preserved
-loop-beside-preserved c = line_more c.args.slots.now.items c.loop-beside.slots.items
+loop-beside-preserved g c = line_more c.args.slots.now.items c.loop-beside.slots.items
     c.push-in-loop-beside.new.self.items c.args.slot c.loop-beside._beside c.loop-beside.invariant
     c.in_ok-push-2.ensures.items
 
 pub returns : goal.returns
-returns c = line_full c.args.slots.now.items c.loop-beside.slots.items c.args.slot
+returns g c = line_full c.args.slots.now.items c.loop-beside.slots.items c.args.slot
     c.loop-beside._beside c.loop-beside.invariant (omega (
       arith,
       c.loop-beside.auto._beside-end,

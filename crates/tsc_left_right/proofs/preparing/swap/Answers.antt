@@ -4,4 +4,4 @@ use Rattle.std.proofs.Common.{rules}
 use Rattle.tsc_left_right.proofs.preparing.swap.Goals as goal
 
 pub returns : goal.returns
-returns c = search rules
+returns g c = search rules

@@ -6,20 +6,20 @@ use Rattle.tsc_left_right.proofs.Calls.{pin_at, pinned_then, read_head_at, seen_
 use Rattle.tsc_left_right.proofs.reader.pin.Goals as goal
 
 pub fetch_add-requires : goal.fetch_add-requires
-fetch_add-requires c = (
+fetch_add-requires g c = (
   c.requires.of.table,
   omega (arith, c.requires.of.sized.words, c.epoch_word.ensures.value, c.requires.number.1),
-  pin_at c.args.shared.now.key c.args.shared.now.table_id.slots
+  pin_at g.P.Replicated c.args.shared.now.key c.args.shared.now.table_id.slots
       (step c.args.shared.now.table_id.slots c.epoch_word.result 1 0 maybe.none)
       c.args.who.now.id c.args.number c.epoch_word.result c.args.who.now.me
       c.requires.rest c.requires.number.0 c.epoch_word.ensures.value,
 )
 
 pub load-requires : goal.load-requires
-load-requires c = (
+load-requires g c = (
   c.fetch_add.ensures.0 ∙ c.requires.of.table,
   omega (arith, c.requires.of.sized.words),
-  read_head_at c.args.shared.now.key c.args.shared.now.table_id.slots
+  read_head_at g.P.Replicated c.args.shared.now.key c.args.shared.now.table_id.slots
       (step c.args.shared.now.table_id.slots 16 0 0 maybe.none) c.fetch_add.new.seat.id
       c.args.who.now.me.0 c.fetch_add.new.seat.me
       (pinned_then c.args.who.now.me c.fetch_add.new.seat.me c.requires.rest
@@ -27,8 +27,9 @@ load-requires c = (
 )
 
 pub returns-clause-sees : goal.returns-clause-sees
-returns-clause-sees c =
-    seen_at (step c.args.shared.now.table_id.slots 16 0 0 maybe.none) c.load.result c.args.number
+returns-clause-sees g c =
+    seen_at g.P.Replicated (step c.args.shared.now.table_id.slots 16 0 0 maybe.none) c.load.result
+    c.args.number
     c.args.who.now.me.0 c.fetch_add.new.seat.me c.load.new.seat.me
     (pinned_then c.args.who.now.me c.fetch_add.new.seat.me c.requires.rest
     c.fetch_add.ensures.2) c.requires.number.0 c.load.ensures.2

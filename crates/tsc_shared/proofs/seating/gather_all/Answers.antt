@@ -1,8 +1,9 @@
 -- Proves the contract of `gather_all`. All seats at one shared seat, or `None` where there are
 -- none.
 use Rattle.std.proofs.Common.{rules, ◌≡◌, ◌∙◌, ◌++◌, ◌∷◌, [], append_assoc, refl, ap}
+use Rattle.tsc_left_right.proofs.Plain.{all_middle}
 use Rattle.tsc_shared.specs.Keeping.{state_of_seat}
-use Rattle.tsc_shared.proofs.Dealing.{all_middle, rest_keeps, taken_keeps, gathered_then}
+use Rattle.tsc_shared.proofs.Dealing.{rest_keeps, taken_keeps, gathered_then}
 use Rattle.tsc_shared.proofs.seating.gather_all.Goals as goal
 
 pub merge-requires-clause-table : goal.merge-requires-clause-table

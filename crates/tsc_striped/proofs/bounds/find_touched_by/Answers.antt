@@ -1,5 +1,5 @@
 -- Proves the contract of `find_touched_by`.
-use Rattle.std.proofs.Common.{◌≡◌, ◌⊎◌, ◌∙◌, ◌+◌, ◌<◌, inl, inr, sym, ap, subst, arith, min, max, ℕ}
+use Rattle.std.proofs.Common.{◌∙◌, ◌+◌, inl, inr, sym, ap, subst, arith, min, max, ℕ}
 use Rattle.std.proofs.Common.{List, take}
 use Rattle.std.proofs.lemmas.List.{take_all}
 use Rattle.tsc_page_nodes.specs.Page.{Mark}

@@ -1,5 +1,5 @@
 -- Proves the contract of `range_between`. Two keys between whose ends some place lies are in order.
-use Rattle.std.proofs.Common.{◌≡◌, ◌∙◌, ap}
+use Rattle.std.proofs.Common.{◌∙◌, ap}
 use Rattle.std.specs.Prelude.{Option, unwrap_or}
 use Rattle.tsc_span.specs.Span.{Interval, nothing}
 use Rattle.tsc_striped.proofs.Cutting.{in_order}

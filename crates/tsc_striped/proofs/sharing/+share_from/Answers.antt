@@ -1,5 +1,5 @@
 -- Proves the contract of `share_from`. Copies the caches of the stripes from one to the last.
-use Rattle.std.proofs.Common.{◌≡◌, ◌∙◌, ◌<◌, ◌+◌, refl, sym, ap, subst, arith}
+use Rattle.std.proofs.Common.{◌∙◌, ◌<◌, refl, sym, subst, arith}
 use Rattle.tsc_stripe_table.specs.Stripes.{Terms}
 use Rattle.tsc_stripe_table.specs.Participating.{IsSized}
 use Rattle.tsc_striped.proofs.Copied.{stays_put, has_taken, setup_same, has_it, copy_is}

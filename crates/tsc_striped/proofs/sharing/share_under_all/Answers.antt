@@ -1,5 +1,5 @@
 -- Proves the contract of `share_under_all`. Copies the caches of some stripes.
-use Rattle.std.proofs.Common.{◌≡◌, ap, arith, List, length}
+use Rattle.std.proofs.Common.{ap, arith, List, length}
 use Rattle.tsc_cache.specs.CacheView.{CacheView}
 use Rattle.tsc_striped.proofs.Batches.{stays_at_rest}
 use Rattle.tsc_striped.proofs.Copied.{can_share, all_shared}

@@ -1,5 +1,5 @@
 -- Proves the contract of `add_from`. Adds a batch in the stripes from one on.
-use Rattle.std.proofs.Common.{◌≡◌, ◌∙◌, ◌<◌, ◌≤◌, ◌+◌, refl, sym, ap, subst, arith}
+use Rattle.std.proofs.Common.{◌∙◌, ◌<◌, refl, sym, subst, arith}
 use Rattle.tsc_stripe_table.specs.Stripes.{Terms}
 use Rattle.tsc_stripe_table.specs.Participating.{IsSized}
 use Rattle.tsc_striped.proofs.Batches.{has_acquired, can_acquire_above, has_it, version_is, setup_same}

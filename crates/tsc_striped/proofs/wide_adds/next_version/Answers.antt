@@ -1,14 +1,10 @@
 -- Proves the contract of `next_version`. The cache in hand after what lies of a batch there.
-use Rattle.std.proofs.Common.{◌≡◌, ◌∙◌, ◌∷◌, ◌≤◌, sym, ap, subst, List}
-use Rattle.std.specs.Prelude.{IfOk}
-use Rattle.atomic_table.specs.Table.{rest}
-use Rattle.tsc_page_nodes.specs.Page.{Mark}
+use Rattle.std.proofs.Common.{◌≡◌, ◌∙◌, ◌≤◌, sym, ap, subst}
 use Rattle.tsc_cache.specs.CacheView.{CacheView}
 use Rattle.tsc_stripe_table.specs.declared.stripe.Stripe.{Stripe}
 use Rattle.tsc_stripe_table.specs.Stripes.{marks_in}
 use Rattle.tsc_stripe_table.specs.Rule.{LaidStripe}
 use Rattle.tsc_striped.specs.Limits.{least_page_max}
-use Rattle.tsc_striped.specs.Batches.{IsVersion}
 use Rattle.tsc_striped.proofs.Holding.{same_in_hand}
 use Rattle.tsc_striped.proofs.Sizes.{small_fit}
 use Rattle.tsc_striped.proofs.Batches.{is_version_of}

@@ -1,5 +1,5 @@
 -- Proves the contract of `put`. The next version takes the place of the cache in hand.
-use Rattle.std.proofs.Common.{◌∷◌, refl, sym, subst}
+use Rattle.std.proofs.Common.{refl, sym, subst}
 use Rattle.std.specs.Box.{with_value}
 use Rattle.tsc_cache.specs.CacheView.{CacheView}
 use Rattle.tsc_stripe_table.specs.Stripes.{IsStateOn}

@@ -1,11 +1,22 @@
--- What the marks did is told as it was, and the settings stay through each of them.
-use Rattle.std.proofs.Common.{rules}
+-- What the marks make of the cache are steps of its states, and the settings stay through each.
 use Rattle.tsc_cache.proofs.Batches.{settings_stay}
+use Rattle.tsc_cache.proofs.AddsSeen.{all_stand, all_added}
+use Rattle.tsc_cache.proofs.StatesSeen.{on_ok}
+use Rattle.tsc_cache.specs.declared.added.Added.{Added}
+use Rattle.tsc_cache.specs.Batch.{AddsAll}
 use Rattle.tsc_trace.proofs.player.add_all_fitting.Goals as goal
 
-pub returns-in-Ok-clause-settings : goal.returns-in-Ok-clause-settings
-returns-in-Ok-clause-settings c = settings_stay c.args.cache.now c.add_all.new.self c.args.marks.now
-    c.args.now c.in-Ok.all c.in-Ok.ensures.seen
+pub returns-clause-settings : goal.returns-clause-settings
+returns-clause-settings c = on_ok c.add_all_fitting.result
+    (λ (added : Added). AddsAll c.args.cache.now c.add_all_fitting.new.self c.args.marks.now
+    c.args.now added) _ c.add_all_fitting.ensures.seen
+    (λ added adds. settings_stay c.args.cache.now c.add_all_fitting.new.self c.args.marks.now
+    c.args.now added adds)
 
-pub returns-in-Ok-clause-added : goal.returns-in-Ok-clause-added
-returns-in-Ok-clause-added c = search rules
+pub returns-clause-stands : goal.returns-clause-stands
+returns-clause-stands c = all_stand c.args.cache.now c.add_all_fitting.new.self c.args.now
+    c.args.marks.now c.add_all_fitting.result c.add_all_fitting.ensures.seen
+
+pub returns-clause-added : goal.returns-clause-added
+returns-clause-added c = all_added c.args.cache.now c.add_all_fitting.new.self c.args.now
+    c.args.marks.now c.add_all_fitting.result c.add_all_fitting.ensures.seen

@@ -2,14 +2,15 @@
 use Rattle.std.proofs.Common.{List, subst}
 use Rattle.timestamp_cache.specs.Words.{Interval}
 use Rattle.timestamp_cache.specs.Clear.{AsksInTurn}
-use Rattle.timestamp_cache.specs.SeatKinds.{shared_seat}
 use Rattle.timestamp_cache.proofs.AskingAll.{asked_of_one}
+use Rattle.example_lease_holder.specs.ReadSeats.{read_seat}
 use Rattle.example_lease_holder.proofs.lease.Lease.earliest.Goals as goal
 
 pub returns : goal.returns
 returns g c =
     let me = c.args.me.now.seat in
+    let new = c.earliest_write_at.new.seat in
     let span = c.args.held.now.span in
-    asked_of_one shared_seat me c.earliest_write_at.new.seat span c.args.by c.args.wanted c.in-Ok.told
-    (subst (λ (spans : List Interval). AsksInTurn shared_seat c.args.by me c.earliest_write_at.new.seat spans
+    asked_of_one read_seat me new span c.args.by c.args.wanted c.in-Ok.told
+    (subst (λ (spans : List Interval). AsksInTurn read_seat c.args.by me new spans
     c.args.wanted c.in-Ok.told) c.from_ref-spans.ensures.value c.in-Ok.ensures.asked.in_turn)

@@ -5,6 +5,8 @@ use Rattle.std.specs.Prelude.{Option, IfSome}
 use Rattle.tsc_cache.proofs.Beginnings.{begins_on}
 use Rattle.timestamp_cache.specs.Words.{Time}
 use Rattle.example_lease_holder.specs.Reads.{IsClearFor}
+use Rattle.example_lease_holder.specs.ReadSeats.{seen_by}
+use Rattle.example_lease_holder.specs.ReadSeatLaws.{read_seat_laws}
 use Rattle.example_lease_holder.proofs.Carried.{clear_of_handed}
 use Rattle.example_lease_holder.proofs.lease.Lease.write.Goals as goal
 use Rattle.example_lease_holder.proofs.lease.Lease.write.Goals.{in-Some+in_ok-push, in_default}
@@ -13,10 +15,10 @@ pub returns-clause-clear : goal.returns-clause-clear
 returns-clause-clear g c =
     let held = c.args.held.now in
     let P = λ (told : Option Time). IfSome told
-    (λ (at : Time). IsClearFor held.answered.items c.earliest-told.new.me.seat.seen held.span
+    (λ (at : Time). IsClearFor held.answered.items (seen_by c.earliest-told.new.me.seat) held.span
     c.args.wanted.by at) in
     let clear : P c.earliest-told.result =
-    clear_of_handed held.span c.take_over.new.held.span held.handed.seat.seen
+    clear_of_handed held.span c.take_over.new.held.span (seen_by held.handed.seat)
     c.take_over.new.me.seat c.earliest-told.new.me.seat c.args.wanted.by c.args.wanted.at
     c.earliest-told.result held.answered.items
     c.take_over.ensures.same.0 c.take_over.ensures.seen c.earliest-told.ensures held.added in
@@ -32,9 +34,9 @@ pub returns-clause-pushed : goal.returns-clause-pushed
 returns-clause-pushed g c = search rules
 
 pub returns-clause-seat : goal.returns-clause-seat
-returns-clause-seat g c = begins_on _ _ _ c.earliest-told.ensures.goes_on.begins
+returns-clause-seat g c = begins_on _ _ _ (read_seat_laws.begins _ _ c.earliest-told.ensures.goes_on)
     c.take_over.ensures.kept
 
 pub returns-in_err-push-clause-seat : goal.returns-in_err-push-clause-seat
 returns-in_err-push-clause-seat g c =
-    begins_on _ _ _ c.earliest-told.ensures.goes_on.begins c.take_over.ensures.kept
+    begins_on _ _ _ (read_seat_laws.begins _ _ c.earliest-told.ensures.goes_on) c.take_over.ensures.kept

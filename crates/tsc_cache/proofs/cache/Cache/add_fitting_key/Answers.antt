@@ -1,5 +1,5 @@
--- What can be seen afterwards stands for the next state, in place or by an Add of a copy.
-use Rattle.std.proofs.Common.{◌≡◌, ◌∙◌, sym, ap, subst, true, false}
+-- What the mark makes of all that can be seen.
+use Rattle.std.proofs.Common.{◌≡◌, ◌∙◌, sym, ap, subst, true}
 use Rattle.tsc_span.specs.Span.{point}
 use Rattle.tsc_page_nodes.specs.Page.{Mark}
 use Rattle.tsc_cache.specs.contracts.cache.Cache.{the_view}
@@ -7,7 +7,7 @@ use Rattle.tsc_cache.specs.State.{is_kept}
 use Rattle.tsc_cache.specs.CacheView.{CacheView, MarksFront, Adds, front_has_room_for}
 use Rattle.tsc_cache.specs.CacheParts.{pages_of}
 use Rattle.tsc_cache.specs.Stacks.{AreStacked}
-use Rattle.tsc_cache.proofs.StatesSeen.{adds_stands, marks_adds, marks_stacked}
+use Rattle.tsc_cache.proofs.StatesSeen.{marks_adds, marks_stacked}
 use Rattle.tsc_cache.proofs.cache.Cache.add_fitting_key.Goals as goal
 use Rattle.tsc_cache.proofs.cache.Cache.add_fitting_key.Goals.{After-without_rotation}
 
@@ -48,17 +48,9 @@ in_place c =
     (ap (λ (v : CacheView). v.floor) c.self.view_is)
     (ap (λ (v : CacheView). v.rotations) c.self.view_is) c.without_rotation.ensures
 
-pub returns-then-branch-clause-stands : goal.returns-then-branch-clause-stands
-returns-then-branch-clause-stands c settings s stands =
-    (adds_stands c.args.self.now _ _ c.args.now c.without_rotation.result
-    (in_place (goal.at.returns-then-branch-clause-stands c).After-without_rotation) settings s
-    stands).0
-
-pub returns-then-branch-clause-added : goal.returns-then-branch-clause-added
-returns-then-branch-clause-added c settings s stands =
-    (adds_stands c.args.self.now _ _ c.args.now c.without_rotation.result
-    (in_place (goal.at.returns-then-branch-clause-added c).After-without_rotation) settings s
-    stands).1
+pub returns-then-branch-clause-seen : goal.returns-then-branch-clause-seen
+returns-then-branch-clause-seen c = in_place
+    (goal.at.returns-then-branch-clause-seen c).After-without_rotation
 
 pub invariant_of-self-2 : goal.invariant_of-self-2
 invariant_of-self-2 c = subst AreStacked (sym (c.in_ok-mark_key.ensures.left c.if-branch.false))

@@ -2,10 +2,11 @@
 use Rattle.std.proofs.Common.{rules, ◌≡◌, ◌∙◌, sym, ap, subst, true, false}
 use Rattle.std.specs.Prelude.{IfOk}
 use Rattle.tsc_page_nodes.specs.Page.{Mark}
+use Rattle.tsc_cache.specs.Rotation.{RotatesWith}
 use Rattle.tsc_cache.specs.contracts.cache.Cache.{the_view}
 use Rattle.tsc_cache.specs.declared.added.Added.{Added}
 use Rattle.tsc_cache.specs.State.{kept_after_rotation}
-use Rattle.tsc_cache.specs.CacheView.{CacheView, RotatesWith, MarksFront, front_has_room_for}
+use Rattle.tsc_cache.specs.CacheView.{CacheView, MarksFront, front_has_room_for}
 use Rattle.tsc_cache.specs.CacheParts.{pages_of}
 use Rattle.tsc_cache.specs.Stacks.{AreStacked}
 use Rattle.tsc_cache.proofs.StatesSeen.{marks_adds, marks_stacked}

@@ -6,7 +6,7 @@ use Rattle.tsc_cache.specs.contracts.cache.Cache.{the_view}
 use Rattle.tsc_cache.specs.State.{is_kept}
 use Rattle.tsc_cache.specs.CacheView.{CacheView, MarksFront, Adds, front_has_room_for}
 use Rattle.tsc_cache.specs.CacheParts.{pages_of}
-use Rattle.tsc_cache.proofs.StatesSeen.{adds_stands, marks_adds, marks_stacked}
+use Rattle.tsc_cache.proofs.StatesSeen.{marks_adds, marks_stacked}
 use Rattle.tsc_cache.proofs.cache.Cache.add_without_rotation.Goals as goal
 use Rattle.tsc_cache.proofs.cache.Cache.add_without_rotation.Goals.{After-without_rotation}
 
@@ -45,15 +45,3 @@ in_place c now =
     (c.in_ok-mark_front.ensures.marked c.if-branch.true))
     (ap (λ (v : CacheView). v.floor) c.self.view_is)
     (ap (λ (v : CacheView). v.rotations) c.self.view_is) c.without_rotation.ensures
-
-pub returns-then-branch-clause-stands : goal.returns-then-branch-clause-stands
-returns-then-branch-clause-stands c now settings s stands =
-    (adds_stands c.args.self.now _ _ now c.without_rotation.result
-    (in_place (goal.at.returns-then-branch-clause-stands c).After-without_rotation now) settings
-    s stands).0
-
-pub returns-then-branch-clause-added : goal.returns-then-branch-clause-added
-returns-then-branch-clause-added c now settings s stands =
-    (adds_stands c.args.self.now _ _ now c.without_rotation.result
-    (in_place (goal.at.returns-then-branch-clause-added c).After-without_rotation now) settings
-    s stands).1

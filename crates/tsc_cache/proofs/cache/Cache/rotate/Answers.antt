@@ -5,10 +5,11 @@ use Rattle.tsc_time.specs.declared.memory.NoMemory.{NoMemory}
 use Rattle.tsc_span.specs.Span.{span_cost}
 use Rattle.tsc_page_nodes.specs.Page.{Mark, empty_page}
 use Rattle.tsc_page_nodes.specs.PageView.{PageView, Represents}
+use Rattle.tsc_cache.specs.Rotation.{RotatesWith, front_marked, saturating_inc}
 use Rattle.tsc_cache.specs.declared.added.Added.{Added}
 use Rattle.tsc_cache.specs.contracts.cache.Cache.{the_view}
-use Rattle.tsc_cache.specs.State.{saturating_inc, kept_after_rotation}
-use Rattle.tsc_cache.specs.CacheView.{CacheView, RotatesWith, front_marked}
+use Rattle.tsc_cache.specs.State.{kept_after_rotation}
+use Rattle.tsc_cache.specs.CacheView.{CacheView}
 use Rattle.tsc_cache.specs.CacheParts.{front_of, older_of, pages_of}
 use Rattle.tsc_cache.specs.Stacks.{Drops}
 use Rattle.tsc_cache.proofs.StatesSeen.{front_stands, rotates_with, rotates_stacked}

@@ -11,8 +11,8 @@ pub loop-mark-init : goal.loop-mark-init
 loop-mark-init c = begun c.args.self.now c.args.marks.now c.args.now c.nothing-added.result
     c.requires.fits c.nothing-added.ensures
 
-pub add_fitting-requires : goal.add_fitting-requires
-add_fitting-requires c =
+pub add_one_fitting-requires : goal.add_one_fitting-requires
+add_one_fitting-requires c =
     let next = next_fits c.args.self.now c.loop-mark.self c.args.marks.now c.args.now
     c.loop-mark.added c.loop-mark.mark-index c.mark-item.result c.loop-mark.invariant
     c.loop-mark-test.true (sym c.mark-item.is) in
@@ -20,10 +20,10 @@ add_fitting-requires c =
 
 pub with-added-requires : goal.with-added-requires
 with-added-requires c =
-    let adds = subst (λ (m : Mark). Adds c.loop-mark.self c.add_fitting.new.self m c.args.now
-    c.in_ok-add_fitting.field-0) c.mark.view_is c.in_ok-add_fitting.ensures.seen in
-    let dropped = few_dropped c.args.self.now c.loop-mark.self c.add_fitting.new.self
-    c.args.marks.now c.args.now c.loop-mark.added c.in_ok-add_fitting.field-0
+    let adds = subst (λ (m : Mark). Adds c.loop-mark.self c.add_one_fitting.new.self m c.args.now
+    c.in_ok-add_one_fitting.field-0) c.mark.view_is c.in_ok-add_one_fitting.ensures.seen in
+    let dropped = few_dropped c.args.self.now c.loop-mark.self c.add_one_fitting.new.self
+    c.args.marks.now c.args.now c.loop-mark.added c.in_ok-add_one_fitting.field-0
     c.loop-mark.mark-index c.mark-item.result c.loop-mark.invariant c.loop-mark-test.true
     adds in
     let few = c.requires.few in
@@ -31,12 +31,12 @@ with-added-requires c =
 
 pub loop-mark-preserved : goal.loop-mark-preserved
 loop-mark-preserved c =
-    let adds = subst (λ (m : Mark). Adds c.loop-mark.self c.add_fitting.new.self m c.args.now
-    c.in_ok-add_fitting.field-0) c.mark.view_is c.in_ok-add_fitting.ensures.seen in
-    subst (λ (a : Added). IsUnderWay c.args.self.now c.add_fitting.new.self c.args.marks.now
+    let adds = subst (λ (m : Mark). Adds c.loop-mark.self c.add_one_fitting.new.self m c.args.now
+    c.in_ok-add_one_fitting.field-0) c.mark.view_is c.in_ok-add_one_fitting.ensures.seen in
+    subst (λ (a : Added). IsUnderWay c.args.self.now c.add_one_fitting.new.self c.args.marks.now
     c.args.now a (c.loop-mark.mark-index + 1)) (sym c.with-added.ensures)
-    (one_more c.args.self.now c.loop-mark.self c.add_fitting.new.self c.args.marks.now c.args.now
-    c.loop-mark.added c.in_ok-add_fitting.field-0 c.loop-mark.mark-index c.mark-item.result
+    (one_more c.args.self.now c.loop-mark.self c.add_one_fitting.new.self c.args.marks.now c.args.now
+    c.loop-mark.added c.in_ok-add_one_fitting.field-0 c.loop-mark.mark-index c.mark-item.result
     c.loop-mark.invariant c.loop-mark-test.true (sym c.mark-item.is) adds)
 
 pub returns : goal.returns

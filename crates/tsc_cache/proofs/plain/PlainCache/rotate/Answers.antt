@@ -2,10 +2,10 @@
 use Rattle.std.proofs.Common.{◌≡◌, ◌∙◌, refl, sym, ap, subst}
 use Rattle.tsc_page_nodes.specs.Page.{Mark, empty_page}
 use Rattle.tsc_page_nodes.specs.PageView.{PageView, Represents}
+use Rattle.tsc_cache.specs.Rotation.{RotatesWith, front_marked, saturating_inc}
 use Rattle.tsc_cache.specs.declared.added.Added.{Added}
 use Rattle.tsc_cache.specs.contracts.plain.PlainCache.{the_view}
-use Rattle.tsc_cache.specs.State.{saturating_inc, kept_after_rotation}
-use Rattle.tsc_cache.specs.CacheView.{RotatesWith, front_marked}
+use Rattle.tsc_cache.specs.State.{kept_after_rotation}
 use Rattle.tsc_cache.specs.CacheParts.{plain_front_of, plain_older_of, plain_pages_of}
 use Rattle.tsc_cache.specs.Stacks.{Drops}
 use Rattle.tsc_cache.proofs.StatesSeen.{front_stands, rotates_with}

@@ -1,40 +1,27 @@
--- Where no mark is kept nothing changes, and else the copy takes the cache's place.
-use Rattle.std.proofs.Common.{rules, ◌≡◌, ◌∙◌, sym, ap, subst, false}
+-- Where no mark is kept nothing changes.
+use Rattle.std.proofs.Common.{rules, ◌≡◌, ◌∙◌, ◌↔◌, refl, sym, ap, subst, false}
+use Rattle.std.specs.Prelude.{IsErrOf, Ok, Result}
 use Rattle.tsc_cache.specs.declared.added.Added.{Added}
-use Rattle.tsc_cache.specs.CacheView.{CacheView, RepresentsState}
-use Rattle.tsc_cache.specs.Batch.{is_any_kept, AddsAll}
-use Rattle.tsc_cache.proofs.Batches.{none_adds, adds_all_stands}
+use Rattle.tsc_cache.specs.declared.fault.CacheFault.{CacheFault}
+use Rattle.tsc_cache.specs.declared.fault.CacheFault.TheVariants.{TooLarge}
+use Rattle.tsc_cache.specs.CacheView.{CacheView}
+use Rattle.tsc_cache.specs.Batch.{all_fit, is_any_kept, AddsAll}
+use Rattle.tsc_cache.proofs.Batches.{none_adds}
 use Rattle.tsc_cache.proofs.plain.PlainCacheTimestampCache.add_all.Goals as goal
 
-pub returns-then-not-is_any_kept-clause-seen : goal.returns-then-not-is_any_kept-clause-seen
-returns-then-not-is_any_kept-clause-seen c =
+pub returns-then-not-is_any_kept : goal.returns-then-not-is_any_kept
+returns-then-not-is_any_kept c =
     let none : is_any_kept c.args.self.now.floor c.args.marks.now ≡ false =
     ap (λ (v : CacheView). is_any_kept v.floor c.args.marks.now) (sym c.self.view_is) ∙
     sym c.if-not-is_any_kept.ensures in
-    subst (λ (a : Added). AddsAll c.args.self.now c.args.self.now c.args.marks.now c.args.now a)
-    (sym c.nothing.ensures) (none_adds c.args.self.now c.args.marks.now c.args.now none)
-
-pub returns-then-not-is_any_kept-clause-stands : goal.returns-then-not-is_any_kept-clause-stands
-returns-then-not-is_any_kept-clause-stands c settings s stands =
-    (adds_all_stands c.args.self.now c.args.self.now c.args.marks.now c.args.now c.nothing.result
-    (returns-then-not-is_any_kept-clause-seen c) settings s stands).0
-
-pub returns-then-not-is_any_kept-clause-added : goal.returns-then-not-is_any_kept-clause-added
-returns-then-not-is_any_kept-clause-added c settings s stands =
-    (adds_all_stands c.args.self.now c.args.self.now c.args.marks.now c.args.now c.nothing.result
-    (returns-then-not-is_any_kept-clause-seen c) settings s stands).1
-
-pub returns-clause-stands : goal.returns-clause-stands
-returns-clause-stands c settings s stands =
-    (adds_all_stands c.args.self.now _ c.args.marks.now c.args.now c.in_ok-added.added
-    (search rules) settings s stands).0
-
-pub returns-clause-added : goal.returns-clause-added
-returns-clause-added c settings s stands =
-    (adds_all_stands c.in_ok-next.next _ c.args.marks.now c.args.now c.in_ok-added.added
-    c.in_ok-added.ensures settings s
-    (subst (λ (v : CacheView). RepresentsState v settings s) (sym c.in_ok-next.ensures)
-    stands)).1
-
-pub returns-in_err-added-clause-unchanged : goal.returns-in_err-added-clause-unchanged
-returns-in_err-added-clause-unchanged c = search rules
+    let made : Result Added CacheFault = Ok c.nothing.result in
+    let large : IsErrOf made TooLarge ↔
+    (all_fit c.args.self.now.settings c.args.marks.now ≡ false) = search rules in
+    record {
+      seen = subst (λ (a : Added). AddsAll c.args.self.now c.args.self.now c.args.marks.now
+          c.args.now a) (sym c.nothing.ensures)
+          (none_adds c.args.self.now c.args.marks.now c.args.now none);
+      too_large = large;
+      unchanged = tt;
+      memory = λ _ _. refl;
+    }

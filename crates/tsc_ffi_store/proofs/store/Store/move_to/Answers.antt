@@ -1,5 +1,5 @@
 -- What is moved stands behind all that there is in the other store.
-use Rattle.std.proofs.Common.{◌≡◌, ◌∙◌, refl, sym, inl, inr, length, arith}
+use Rattle.std.proofs.Common.{◌≡◌, ◌∙◌, refl, sym, inl, inr, length, true, arith, rules}
 use Rattle.tsc_ffi_store.proofs.Laying.{long_as_next, laid_open, laid_named, lays_on}
 use Rattle.tsc_ffi_store.proofs.store.Store.move_to.Goals as goal
 
@@ -9,6 +9,20 @@ returns-then-other-clause-answers c =
     c.other.inside.handles.items c.other.inside.slots.items c.other.inside.next c.args.other.now
     c.other.view_is in
     record { moved = tt; refused = inr (inl (refl, grind (arith, long, c.if-other.true))) }
+
+pub returns-then-is_err-clause-answers : goal.returns-then-is_err-clause-answers
+returns-then-is_err-clause-answers c =
+    let long : length c.args.other.now ≡ c.other.inside.next = long_as_next
+    c.other.inside.handles.items c.other.inside.slots.items c.other.inside.next c.args.other.now
+    c.other.view_is in
+    let open_ : c.names.result ≡ true = search rules in
+    record {
+      moved = tt;
+      refused = inr (inr (
+        c.names.ensures.some open_,
+        (refl, grind (arith, long, c.if-other.false)),
+      ));
+    }
 
 pub invariant_of-other-2 : goal.invariant_of-other-2
 invariant_of-other-2 c =

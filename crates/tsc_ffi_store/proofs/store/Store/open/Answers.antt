@@ -1,5 +1,5 @@
 -- The new cache stands behind all that there is.
-use Rattle.std.proofs.Common.{◌≡◌, ◌∙◌, ◌++◌, ◌∷◌, [], refl, sym, ap, inl, length, arith}
+use Rattle.std.proofs.Common.{◌≡◌, ◌∙◌, ◌++◌, ◌∷◌, [], refl, sym, ap, inl, inr, length, arith}
 use Rattle.tsc_ffi_store.specs.declared.counts.CountedCache.{CountedCache}
 use Rattle.tsc_ffi_store.specs.declared.store.Slot.TheVariants.{Own}
 use Rattle.tsc_ffi_store.specs.OpenHandles.{named_by}
@@ -13,6 +13,20 @@ returns-then-self-clause-refused c =
     c.self.inside.handles.items c.self.inside.slots.items c.self.inside.next c.args.self.now
     c.self.view_is in
     inl (refl, grind (arith, long, c.if-self.true))
+
+pub returns-in_default-clause-refused : goal.returns-in_default-clause-refused
+returns-in_default-clause-refused c =
+    let long : length c.args.self.now ≡ c.self.inside.next = long_as_next
+    c.self.inside.handles.items c.self.inside.slots.items c.self.inside.next c.args.self.now
+    c.self.view_is in
+    inr (refl, grind (arith, long, c.if-self.false))
+
+pub returns-then-is_err-clause-refused : goal.returns-then-is_err-clause-refused
+returns-then-is_err-clause-refused c =
+    let long : length c.args.self.now ≡ c.self.inside.next = long_as_next
+    c.self.inside.handles.items c.self.inside.slots.items c.self.inside.next c.args.self.now
+    c.self.view_is in
+    inr (refl, grind (arith, long, c.if-self.false))
 
 pub invariant_of-self-2 : goal.invariant_of-self-2
 invariant_of-self-2 c =

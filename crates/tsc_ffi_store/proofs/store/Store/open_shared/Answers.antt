@@ -1,10 +1,11 @@
 -- There is room for the cache and for each of its seats, and there are handles.
-use Rattle.std.proofs.Common.{◌≡◌, ◌∙◌, ◌++◌, ◌∷◌, ap, sym, inr, inl, refl, List, map, length, arith, rules}
+use Rattle.std.proofs.Common.{◌≡◌, ◌∙◌, ◌++◌, ◌∷◌, ap, sym, inr, inl, refl, List, map, length, true, arith, rules}
 use Rattle.tsc_ffi_store.specs.declared.store.Slot.{Slot}
 use Rattle.tsc_ffi_store.specs.declared.store.Slot.TheVariants.{Shared, Seat}
 use Rattle.tsc_ffi_store.specs.SeatCalls.{unasked}
 use Rattle.tsc_ffi_store.proofs.Laying.{long_as_next}
 use Rattle.tsc_ffi_store.specs.Kinds.{new_any_seats}
+use Rattle.tsc_shared.specs.Seats.{is_seat_count}
 use Rattle.tsc_ffi_store.proofs.NewSeats.{new_handles_long, slots_of_seats}
 use Rattle.tsc_ffi_store.proofs.store.Store.open_shared.Goals as goal
 
@@ -39,6 +40,22 @@ returns-then-self-seats-clause-refused c =
     c.self.inside.handles.items c.self.inside.slots.items c.self.inside.next c.args.self.now
     c.self.view_is in
     inr (inl (refl, grind (arith, long, c.if-self-seats.true)))
+
+pub returns-then-is_err-clause-refused : goal.returns-then-is_err-clause-refused
+returns-then-is_err-clause-refused c =
+    let long : length c.args.self.now ≡ c.self.inside.next = long_as_next
+    c.self.inside.handles.items c.self.inside.slots.items c.self.inside.next c.args.self.now
+    c.self.view_is in
+    let may : is_seat_count c.args.seats ≡ true = search rules in
+    inr (inr (may, (refl, grind (arith, long, c.if-self-seats.false))))
+
+pub returns-in-Err-clause-refused : goal.returns-in-Err-clause-refused
+returns-in-Err-clause-refused c =
+    let long : length c.args.self.now ≡ c.self.inside.next = long_as_next
+    c.self.inside.handles.items c.self.inside.slots.items c.self.inside.next c.args.self.now
+    c.self.view_is in
+    let may : is_seat_count c.args.seats ≡ true = search rules in
+    inr (inr (may, (refl, grind (arith, long, c.if-self-seats.false))))
 
 pub returns-in-Ok-clause-opened : goal.returns-in-Ok-clause-opened
 returns-in-Ok-clause-opened c =

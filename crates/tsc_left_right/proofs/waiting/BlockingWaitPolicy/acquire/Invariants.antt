@@ -6,6 +6,5 @@ use Rattle.tsc_left_right.proofs.waiting.BlockingWaitPolicy.acquire.Given as goa
 abbrev pub invariant-loop : goal.invariant-loop
 invariant-loop g l =
     (goal.iterator-loop g).can_next l.iterator' × (goal.iterator-loop g).is_finite l.iterator'
-    × (l.shared ≡ l.fn.shared) × (l.number ≡ l.fn.number)
-    × (l.who.table_id ≡ l.fn.who.table_id)
+    × (l.shared ≡ l.fn.shared) × (l.number ≡ l.fn.number) × (l.who.table_id ≡ l.fn.who.table_id)
     × (l.who.me ≡ l.fn.who.me)

@@ -3,4 +3,4 @@ use Rattle.std.proofs.Common.{rules}
 use Rattle.tsc_left_right.proofs.waiting.BoundedWaitPolicy.acquire.Goals as goal
 
 pub returns-clause-no_try : goal.returns-clause-no_try
-returns-clause-no_try c = search rules
+returns-clause-no_try g c = search rules

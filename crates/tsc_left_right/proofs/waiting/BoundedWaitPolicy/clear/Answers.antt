@@ -3,4 +3,4 @@
 use Rattle.tsc_left_right.proofs.waiting.BoundedWaitPolicy.clear.Goals as goal
 
 pub returns-clause-pinned : goal.returns-clause-pinned
-returns-clause-pinned c = λ _. ((c.args.seat, c.loop.watched, c.loop.invariant.6), tt)
+returns-clause-pinned g c = λ _. ((c.args.seat, c.loop.watched, c.loop.invariant.6), tt)

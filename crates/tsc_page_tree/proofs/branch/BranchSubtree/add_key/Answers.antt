@@ -13,7 +13,8 @@ use Rattle.tsc_page_tree.specs.KeyAdds.{IsKeyAddTold}
 use Rattle.tsc_page_tree.specs.Trees.{IsBranchOf}
 use Rattle.tsc_page_tree.proofs.Lazy.{sorted_without}
 use Rattle.tsc_page_tree.proofs.SubtreeLists.{AreSameAs, same_list, copies_same, copies_sorted}
-use Rattle.tsc_page_tree.proofs.Wholes.{branch_whole, branch_subtrees, branch_same, told_as, on_err}
+use Rattle.tsc_page_nodes.proofs.PairedOrder.{on_err}
+use Rattle.tsc_page_tree.proofs.Wholes.{branch_whole, branch_subtrees, branch_same, told_as}
 use Rattle.tsc_page_tree.proofs.KeyAdds.{told_lazy, told_key, refused_key}
 use Rattle.tsc_page_tree.proofs.branch.BranchSubtree.add_key.Goals as goal
 

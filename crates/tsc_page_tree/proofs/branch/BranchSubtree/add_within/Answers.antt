@@ -15,7 +15,8 @@ use Rattle.tsc_page_nodes.proofs.CutOrder.{Lt}
 use Rattle.tsc_page_nodes.specs.Prefixes.{IsCutPrefix}
 use Rattle.tsc_page_tree.proofs.SubtreeLists.{AreSameAs, same_list, copies_same, copies_sorted}
 use Rattle.tsc_page_tree.proofs.Told.{told_pushed, told_added}
-use Rattle.tsc_page_tree.proofs.Wholes.{branch_whole, branch_subtrees, branch_same, told_as, on_err, refused_told}
+use Rattle.tsc_page_nodes.proofs.PairedOrder.{on_err}
+use Rattle.tsc_page_tree.proofs.Wholes.{branch_whole, branch_subtrees, branch_same, told_as, refused_told}
 use Rattle.tsc_page_tree.proofs.branch.BranchSubtree.add_within.Goals as goal
 
 pub push_down-requires : goal.push_down-requires

@@ -1,4 +1,5 @@
--- Proves the contract of `SharedCache::add_ref`. An Add of what a caller asks for, which is given up
+-- Proves the contract of `SharedCache::add_ref`. An Add of what a caller asks for, which is given
+-- up
 -- when the policy gives up.
 use Rattle.std.proofs.Common.{rules, ◌≡◌, ◌∙◌, false, true≢false, refl, sym, ap, subst}
 use Rattle.std.specs.Prelude.{OnOk}

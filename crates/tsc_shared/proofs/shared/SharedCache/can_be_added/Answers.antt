@@ -4,8 +4,8 @@ use Rattle.tsc_page_nodes.specs.Page.{Mark}
 use Rattle.tsc_cache.specs.Settings.{fits}
 use Rattle.tsc_cache.specs.Batch.{all_fit}
 use Rattle.tsc_cache.specs.History.{CanBeAdded, CanAllBeAdded}
-use Rattle.tsc_left_right.specs.declared.copies.MarksRef.{MarksRef}
-use Rattle.tsc_left_right.specs.Copying.{marks_asked}
+use Rattle.tsc_shared.specs.declared.adds.MarksRef.{MarksRef}
+use Rattle.tsc_shared.specs.Copying.{marks_asked}
 use Rattle.tsc_shared.specs.Adding.{fits_asked}
 use Rattle.tsc_shared.specs.Seats.{SharedView}
 use Rattle.tsc_shared.proofs.shared.SharedCache.can_be_added.Goals as goal

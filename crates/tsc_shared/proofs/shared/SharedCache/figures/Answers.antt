@@ -8,18 +8,18 @@ use Rattle.tsc_shared.proofs.SeatSteps.{kept_looked, counts_now}
 use Rattle.tsc_shared.proofs.shared.SharedCache.figures.Goals as goal
 
 pub invariant_of-seat : goal.invariant_of-seat
-invariant_of-seat c = let l = c.read_figures-figures.ensures.looked in
-    kept_looked c.seat.inside.participant c.read_figures-figures.new.who
-    c.read_figures-figures.result.1 l.0 c.seat.inside.number c.seat.inside.count
-    c.seat.inside.seen c.seat.invariant l.1 c.read_figures-figures.ensures.table
+invariant_of-seat c = let l = c.read-figures.ensures.looked in
+    kept_looked c.seat.inside.participant c.read-figures.new.who
+    c.read-figures.result.1 l.0 c.seat.inside.number c.seat.inside.count
+    c.seat.inside.seen c.seat.invariant l.1 c.read-figures.ensures.table
 
 pub returns-clause-figures : goal.returns-clause-figures
-returns-clause-figures c = let l = c.read_figures-figures.ensures.looked in
-    subst (λ old. ReadsFigures old (seat_view c.read_figures-figures.new.who)
+returns-clause-figures c = let l = c.read-figures.ensures.looked in
+    subst (λ old. ReadsFigures old (seat_view c.read-figures.new.who)
     (record {
-      figures = c.read_figures-figures.result.0;
-      front = c.read_figures-figures.result.1;
+      figures = c.read-figures.result.0;
+      front = c.read-figures.result.1;
     })) c.seat.view_is
-    (counts_now c.seat.inside.participant c.read_figures-figures.new.who
-    c.read_figures-figures.result.1 l.0 c.read_figures-figures.result.0 c.seat.invariant.seat
-    l.1 c.read_figures-figures.ensures.table l.2)
+    (counts_now c.seat.inside.participant c.read-figures.new.who
+    c.read-figures.result.1 l.0 c.read-figures.result.0 c.seat.invariant.seat
+    l.1 c.read-figures.ensures.table l.2)

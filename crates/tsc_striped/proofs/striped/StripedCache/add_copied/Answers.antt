@@ -1,6 +1,6 @@
 -- Proves the contract of `StripedCache::add_copied`. An Add of a copy of marks.
-use Rattle.std.proofs.Common.{◌≡◌, ◌∙◌, ◌<◌, sym, ap, subst, ◌+◌, arith, List}
-use Rattle.std.specs.Prelude.{Ok, Some}
+use Rattle.std.proofs.Common.{◌≡◌, ◌∙◌, sym, ap, subst, ◌+◌, arith, List}
+use Rattle.std.specs.Prelude.{Ok}
 use Rattle.tsc_span.specs.Span.{KeyBytes}
 use Rattle.tsc_page_nodes.specs.Page.{Mark}
 use Rattle.tsc_time.specs.Time.{Time}

@@ -1,7 +1,6 @@
 -- Proves the contract of `StripedCache::add_mark`. An Add of one mark.
-use Rattle.std.proofs.Common.{◌≡◌, ◌∙◌, ◌<◌, sym, ap, subst, ◌+◌, arith, true, List, [], ◌∷◌}
+use Rattle.std.proofs.Common.{◌≡◌, ◌∙◌, sym, ap, subst, ◌+◌, arith, true, [], ◌∷◌}
 use Rattle.std.specs.Prelude.{Ok}
-use Rattle.tsc_span.specs.Span.{KeyBytes}
 use Rattle.tsc_page_nodes.specs.Page.{Mark}
 use Rattle.tsc_cache.specs.Settings.{Settings, fits}
 use Rattle.tsc_cache.specs.History.{CanBeAdded}

@@ -1,5 +1,5 @@
 -- Proves the contract of `StripedCache::take`. A snapshot.
-use Rattle.std.proofs.Common.{◌≡◌, ◌∙◌, ◌-◌, refl, sym, ap, subst, arith}
+use Rattle.std.proofs.Common.{◌∙◌, refl, sym, ap, subst, arith}
 use Rattle.tsc_striped.specs.declared.answers.Snapshot.{Snapshot}
 use Rattle.tsc_striped.specs.Touching.{first_touched, last_touched}
 use Rattle.tsc_striped.specs.Seats.{SeatView, StripedView}

@@ -1,5 +1,5 @@
 -- Proves the contract of `BlockingWaitPolicy::share_over`.
-use Rattle.std.proofs.Common.{◌≡◌, subst}
+use Rattle.std.proofs.Common.{subst}
 use Rattle.tsc_stripe_table.specs.Steps.{At}
 use Rattle.tsc_striped.specs.Moves.{HasLooked}
 use Rattle.tsc_striped.specs.Sharing.{AreCopies}

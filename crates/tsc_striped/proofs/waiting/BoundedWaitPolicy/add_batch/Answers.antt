@@ -1,5 +1,5 @@
 -- Proves the contract of `BoundedWaitPolicy::add_batch`.
-use Rattle.std.proofs.Common.{◌≡◌, ◌∙◌, sym, ap, subst}
+use Rattle.std.proofs.Common.{◌∙◌, sym, ap, subst}
 use Rattle.tsc_stripe_table.specs.Steps.{At}
 use Rattle.tsc_striped.specs.Cutting.{CanAddBatch}
 use Rattle.tsc_striped.specs.Batches.{AddsAll}
