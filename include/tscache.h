@@ -375,8 +375,10 @@ uint32_t tsc_open_shared(tsc_store *store, uint32_t page_first, uint32_t page_ma
  * order: as many as there is memory for. What else it takes is as with `tsc_open`, for each stripe:
  * so there may be as many pages as stripes times those of one cache.
  *
- * It is refused as `tsc_open` is, and then by TSC_SEATS, TSC_STRIPES, TSC_OUTSIDE,
- * TSC_KEY_TOO_LONG, TSC_BOUNDS, TSC_PAGE_SIZE, TSC_FULL and TSC_NO_MEMORY, in this order. */
+ * It is refused as `tsc_open` is, and then by TSC_SEATS, TSC_STRIPES, TSC_OUTSIDE, TSC_FULL,
+ * TSC_KEY_TOO_LONG, TSC_BOUNDS, TSC_PAGE_SIZE and TSC_NO_MEMORY, in this order. Where memory is
+ * refused for the store or for the copy of a bound, what is told is TSC_NO_MEMORY, and the bounds
+ * behind it, their order and the page are not looked at. */
 TSC_NODISCARD
 uint32_t tsc_open_striped(tsc_store *store, uint32_t page_first, uint32_t page_max,
                           uint32_t min_pages, uint64_t retention, const tsc_time *low_water,

@@ -1,7 +1,8 @@
 -- What a handle names can go to another thread, and what seats share can be used from several.
 use denote.Param.Send.{IsSend, IsSync, sendable}
-use denote.Param.SendFields.{declared_send, declared_sync, as_row_send, as_row_sync}
+use denote.Param.SendFields.{declared_send, declared_sync, variants_send, as_row_send, as_row_sync}
 use Rattle.std.proofs.Crossing.{crosses}
+use Rattle.std.specs.contracts.option.Option.{the_row as option}
 use Rattle.atomic_table.proofs.Sent.{seat_keyless}
 use Rattle.tsc_cache.proofs.Crossing.{cache_sends}
 use Rattle.tsc_left_right.proofs.Crossing.{table_sends, table_syncs}
@@ -21,18 +22,17 @@ use Rattle.tsc_ffi_store.specs.contracts.counts.CountedSeat.{the_row as counted_
 any_seat_sends : IsSend any_seat
 any_seat_sends = search (
   sendable,
-  declared_send,
-  as_row_send,
   seat_sends,
   striped_seat_sends,
   crosses,
 ) depth 20
 
+maybe_seat_sends : IsSend (option any_seat)
+maybe_seat_sends = search (sendable, variants_send, crosses, any_seat_sends) depth 20
+
 any_cache_sends : IsSend any_cache
 any_cache_sends = search (
   sendable,
-  declared_send,
-  as_row_send,
   shared_cache_sends,
   striped_cache_sends,
   crosses,
@@ -41,8 +41,6 @@ any_cache_sends = search (
 any_cache_syncs : IsSync any_cache
 any_cache_syncs = search (
   sendable,
-  declared_sync,
-  as_row_sync,
   shared_cache_syncs,
   striped_cache_syncs,
   crosses,
@@ -51,8 +49,6 @@ any_cache_syncs = search (
 ending_sends : IsSend ending
 ending_sends = search (
   sendable,
-  declared_send,
-  as_row_send,
   seat_sends,
   striped_seat_sends,
   dealer_sends,
@@ -90,13 +86,23 @@ owner_sends = search (
   shared_syncs,
   seat_keyless,
   any_seat_sends,
+  maybe_seat_sends,
   ending_sends,
   crosses,
 ) depth 20
 
 pub handle_sends : IsSend handle
-handle_sends = search (sendable, shared_sends, shared_syncs, seat_keyless, any_seat_sends, crosses)
-    depth 20
+handle_sends = search (
+  sendable,
+  declared_send,
+  as_row_send,
+  shared_sends,
+  shared_syncs,
+  seat_keyless,
+  any_seat_sends,
+  maybe_seat_sends,
+  crosses,
+) depth 20
 
 counts_send : IsSend counts
 counts_send = search (sendable, declared_send, as_row_send, crosses) depth 20
@@ -105,7 +111,6 @@ pub counted_cache_sends : IsSend counted_cache
 counted_cache_sends = search (
   sendable,
   declared_send,
-  as_row_send,
   cache_sends,
   counts_send,
   crosses,

@@ -10,6 +10,7 @@ mod Closing
 pub mod Crossing
 mod GoingOn
 mod Handles
+mod BoundsCut
 mod ByKinds
 mod Laying
 mod Learning

@@ -113,13 +113,13 @@ same_mark keys w a b one other =
     ap (λ (s : Interval). record { span = s; value = a.value }) spans
     ∙ ap (λ (v : OwnedTime). record { span = b.span; value = v }) (one.value ∙ sym other.value)
 
-pub same_marks : (keys : List ℕ) (words : List TscMark) (as bs : List Mark)
-    → AreMarks keys words as → AreMarks keys words bs → as ≡ bs
+pub same_marks : (keys : List ℕ) (words : List TscMark) (ms ns : List Mark)
+    → AreMarks keys words ms → AreMarks keys words ns → ms ≡ ns
 same_marks keys [] [] [] one other = refl
-same_marks keys [] [] (b ∷ bs) one other = absurd other
-same_marks keys [] (a ∷ as) bs one other = absurd one
-same_marks keys (w ∷ words) [] bs one other = absurd one
-same_marks keys (w ∷ words) (a ∷ as) [] one other = absurd other
-same_marks keys (w ∷ words) (a ∷ as) (b ∷ bs) one other =
-    ap (λ (m : Mark). m ∷ as) (same_mark keys w a b one.0 other.0)
-    ∙ ap (λ (ms : List Mark). b ∷ ms) (same_marks keys words as bs one.1 other.1)
+same_marks keys [] [] (n ∷ ns) one other = absurd other
+same_marks keys [] (m ∷ ms) ns one other = absurd one
+same_marks keys (w ∷ words) [] ns one other = absurd one
+same_marks keys (w ∷ words) (m ∷ ms) [] one other = absurd other
+same_marks keys (w ∷ words) (m ∷ ms) (n ∷ ns) one other =
+    ap (λ (x : Mark). x ∷ ms) (same_mark keys w m n one.0 other.0)
+    ∙ ap (λ (xs : List Mark). n ∷ xs) (same_marks keys words ms ns one.1 other.1)
