@@ -26,7 +26,9 @@ mod SeatsDealt
 mod SeatsOfKind
 mod SpansAsked
 mod StripesRead
+mod SummariesTold
 mod TableIds
 mod Trying
+mod WritesRefused
 mod WritesTold
 mod WrittenRanges

@@ -1,28 +1,54 @@
--- The figures of a snapshot are those of what the seat has seen then.
-use Rattle.std.proofs.Common.{◌∙◌, ap}
-use Rattle.tsc_cache.specs.Counts.{figures_of}
-use Rattle.tsc_cache.specs.History.{state_of}
-use Rattle.tsc_cache.proofs.Beginnings.{begins_on}
-use Rattle.tsc_shared.specs.declared.answers.SeatFigures.{SeatFigures}
-use Rattle.tsc_shared.specs.Seats.{SeatView}
-use Rattle.tsc_shared.specs.Answers.{GoesOn, HasLookedOn, ReadsFigures}
+-- The figures of a seat of either kind, as words tell them.
+use Rattle.std.proofs.Common.{◌≡◌, refl, sym, subst}
+use Rattle.std.specs.Prelude.{Result, Ok, IfOk}
+use Rattle.tsc_shared.specs.Answers.{ReadsFigures}
+use Rattle.tsc_ffi_store.specs.declared.counts.Counts.{Counts}
+use Rattle.tsc_ffi_store.specs.declared.ctypes.TscFigures.{TscFigures}
+use Rattle.tsc_ffi_store.specs.declared.refusal.Refusal.{Refusal}
+use Rattle.tsc_ffi_store.specs.declared.seats.kinds.AnySeat.{AnySeat}
+use Rattle.tsc_ffi_store.specs.declared.seats.placed.Counted.{Counted}
+use Rattle.tsc_ffi_store.specs.Asking.{CountsShared, CountsStriped}
+use Rattle.tsc_ffi_store.specs.Decode.{figures_told}
+use Rattle.tsc_ffi_store.specs.Kinds.{ByKind}
+use Rattle.tsc_ffi_store.specs.SeatCalls.{AnswersSeatFigures}
+use Rattle.tsc_ffi_store.specs.StripedCalls.{AnswersStripedFigures}
+use Rattle.tsc_ffi_store.proofs.ByKinds.{by_kind}
 
--- a seat that goes on twice goes on
-goes_on_twice : (old mid new : SeatView) → GoesOn old mid → GoesOn mid new → GoesOn old new
-goes_on_twice old mid new first second = record {
-  cache = second.cache ∙ first.cache;
-  number = second.number ∙ first.number;
-  begins = begins_on new.seen mid.seen old.seen second.begins first.begins;
-  is_seat = second.is_seat;
-}
+-- The words tell figures with the memory that stands in the words.
+told_with_memory : (counted : Counted) (counts : Counts) (words : TscFigures)
+    → words ≡ figures_told counted.figures.figures counted.memory counts
+    → words ≡ figures_told counted.figures.figures words.memory counts
+told_with_memory counted counts words is =
+    subst (λ (w : TscFigures). w ≡ figures_told counted.figures.figures w.memory counts) (sym is)
+    refl
 
--- figures that are read once the seat has looked on are read after that
-pub read_later : (old mid new : SeatView) (answer : SeatFigures) → HasLookedOn old mid →
-    ReadsFigures mid new answer → ReadsFigures old new answer
-read_later old mid new answer looked reads = record {
-  goes_on = goes_on_twice old mid new looked.goes_on reads.goes_on;
-  count = reads.count ∙ looked.count;
-  front = reads.front;
-  figures = reads.figures ∙
-      ap (λ cache. figures_of (state_of cache.config new.seen)) looked.goes_on.cache;
-}
+pub counted_at : (counts : Counts) (counted : Counted) (words : TscFigures) (old new : AnySeat)
+    → words ≡ figures_told counted.figures.figures counted.memory counts
+    → ByKind CountsShared CountsStriped old new (Ok counted)
+    → ByKind {A = Result (Unit {0}) Refusal}
+    (AnswersSeatFigures counts counted.figures.front words)
+    (AnswersStripedFigures counts counted.figures.front words) old new (Ok tt)
+counted_at counts counted words old new is did =
+    by_kind CountsShared CountsStriped (AnswersSeatFigures counts counted.figures.front words)
+    (AnswersStripedFigures counts counted.figures.front words) (Ok counted) (Ok tt)
+    (λ x y a. record {
+      tells = record {
+        counted = counted.figures.figures;
+        told = told_with_memory counted counts words is;
+        reads = subst (λ (r : Result Counted Refusal). IfOk r
+            (λ given. ReadsFigures x y given.figures)) (sym a.is) a.reads;
+      };
+      done = refl;
+    })
+    (λ x y a. record {
+      tells = record {
+        counted = counted.figures.figures;
+        read = a.counted.read;
+        reads = a.counted.reads;
+        on = a.counted.on;
+        told = told_with_memory counted counts words is;
+        own = a.counted.front;
+      };
+      refused = tt;
+      looked = tt;
+    }) old new did

@@ -15,7 +15,6 @@ use Rattle.tsc_cache.specs.History.{History, state_of}
 use Rattle.tsc_cache.specs.CacheView.{CacheView, RepresentsState, cache_answer}
 use Rattle.tsc_shared.specs.Seats.{SeatView}
 use Rattle.tsc_striped.specs.Seats.{SeatView as StripedSeat}
-use Rattle.tsc_striped_leases.specs.Leases.{HasLookedOn}
 use Rattle.tsc_striped_leases.specs.StripedSeats.{striped_seat, striped_seat_laws, striped_seat_rests}
 use Rattle.timestamp_cache.specs.Clear.{IsClearOf, IsClearOfAnswers, IsClearOfAllReads}
 use Rattle.timestamp_cache.specs.Clear.{AsksInTurn, all_asked, none_told, one_told}
@@ -36,6 +35,7 @@ use Rattle.tsc_ffi_store.specs.Kinds.{ByKind, IsAnySeat}
 use Rattle.tsc_ffi_store.specs.StripedCalls.{LooksOn}
 use Rattle.tsc_ffi_store.proofs.ByKinds.{by_same, by_kind_more}
 use Rattle.tsc_ffi_store.proofs.AskedAtSeat.{never}
+use Rattle.tsc_ffi_store.proofs.StripesRead.{looked_on}
 
 -- ---- one span more in front of others
 
@@ -274,12 +274,7 @@ pub looks_further : (old now next : StripedSeat) → LooksOn old now → LooksOn
     → LooksOn old next
 looks_further old now next (inl same) two =
     subst (λ (x : StripedSeat). LooksOn x next) same two
-looks_further old now next (inr one) (inl same) =
-    inr (subst (λ (x : StripedSeat). HasLookedOn old x) (sym same) one)
-looks_further old now next (inr one) (inr two) = inr (record {
-  goes_on = striped_seat_laws.onward old now next one.goes_on two.goes_on;
-  count = two.count ∙ one.count;
-})
+looks_further old now next (inr one) two = inr (looked_on old now next one two)
 
 pub asked_more_any : (old now next : AnySeat) (keys : List ℕ) (words : List TscSpan) (i : ℕ)
     (d : TscSpan) (s : Interval) (by : Owner) (from : Time) (time later : Option Time)
