@@ -164,35 +164,6 @@ TriesOne span value now tries old new did = ByKind
     (λ x y (r : Result Placed Refusal). AddsShared (one_mark span value) now
     (fits x.cache.config span) tries x y r) (AddsStriped (one_mark span value) now tries) old new did
 
-pub one_added : (asked : AskedAdd) (span : Interval) (tries : ℕ) (placed : Placed) (told : Added)
-    (old new : AnySeat) → NamesAdd asked span → fits (config_of old) span ≡ true
-    → placed.added ≡ told → TriesOne span asked.value asked.moment tries old new (Ok placed)
-    → ByKind {A = Result (Unit {0}) Refusal} (AnswersTriedAdd asked placed.place told)
-    (AnswersStripedTriedAdd asked placed.place told) old new (Ok tt)
-one_added asked span tries placed told (Shared x) (Shared y) names fit added a = record {
-  added = record {
-    span = span;
-    names = names;
-    fit = fit;
-    accepted = seat_accepts (one_mark span asked.value) asked.moment (fits x.cache.config span) tries placed
-        told x y added a;
-  };
-  refused = tt;
-  spared = tt;
-}
-one_added asked span tries placed told (Shared x) (Striped y) names fit added a = absurd a
-one_added asked span tries placed told (Striped x) (Shared y) names fit added a = absurd a
-one_added asked span tries placed told (Striped x) (Striped y) names fit added a = record {
-  added = record {
-    span = span;
-    names = names;
-    fit = fit;
-    accepted = striped_accepts (one_mark span asked.value) asked.moment tries placed told x y added a;
-  };
-  refused = tt;
-  unchanged = tt;
-}
-
 pub one_refused : (asked : AskedAdd) (span : Interval) (value : OwnedTime) (now : Time) (tries : ℕ)
     (why : Refusal) (place : ℕ) (told : Added) (old new : AnySeat) → NamesAdd asked span
     → fits (config_of old) span ≡ true → TriesOne span value now tries old new (Err why)
@@ -238,24 +209,6 @@ one_lacks asked span why place told (Striped x) (Striped y) names fit a = record
   added = tt;
   refused = inr (inr (record { span = span; names = names; fit = fit; told = a.refuses }));
   unchanged = a.same;
-}
-
-pub one_too_large : (asked : AskedAdd) (span : Interval) (place : ℕ) (told : Added) (seat : AnySeat)
-    → NamesAdd asked span → fits (config_of seat) span ≡ false
-    → ByKind {A = Result (Unit {0}) Refusal} (AnswersTriedAdd asked place told)
-    (AnswersStripedTriedAdd asked place told) seat seat (Err refusal.TooLarge)
-one_too_large asked span place told (Shared x) names large = record {
-  added = tt;
-  refused = inl (
-    inr (record { span = span; names = names; too_large = large; told = refl }),
-    refl,
-  );
-  spared = inl refl;
-}
-one_too_large asked span place told (Striped x) names large = record {
-  added = tt;
-  refused = inr (inl (record { span = span; names = names; too_large = large; told = refl }));
-  unchanged = refl;
 }
 
 -- ---- an Add of several marks
@@ -339,22 +292,4 @@ all_lacks asked ms why place told (Striped x) (Striped y) names fit a = record {
   added = tt;
   refused = inr (inr (record { marks = ms; names = names; fit = fit; told = a.refuses }));
   unchanged = a.same;
-}
-
-pub all_too_large : (asked : AskedBatch) (ms : List Mark) (place : ℕ) (told : Added) (seat : AnySeat)
-    → NamesAddAll asked ms → all_fit (config_of seat) ms ≡ false
-    → ByKind {A = Result (Unit {0}) Refusal} (AnswersTriedAddAll asked place told)
-    (AnswersStripedTriedAll asked place told) seat seat (Err refusal.TooLarge)
-all_too_large asked ms place told (Shared x) names large = record {
-  added = tt;
-  refused = inl (
-    inr (record { marks = ms; names = names; too_large = large; told = refl }),
-    refl,
-  );
-  spared = inl refl;
-}
-all_too_large asked ms place told (Striped x) names large = record {
-  added = tt;
-  refused = inr (inl (record { marks = ms; names = names; too_large = large; told = refl }));
-  unchanged = refl;
 }

@@ -62,11 +62,13 @@ pub all_shared : (c : SharedView) (seats : List AnySeat)
 all_shared c [] all = ([], record { are = refl })
 all_shared c (x ∷ xs) all =
     let first = one_shared c x (all 0 x (omega arith)) in
-    let others = all_shared c xs (λ i d lt. all (suc i) d (omega (arith, lt))) in
-    (first.seat ∷ others.0, record {
-      are = ap (λ (y : AnySeat). y ∷ xs) first.is
-          ∙ ap (λ (ys : List AnySeat). Shared first.seat ∷ ys) others.1.are;
-    })
+    let others = all_shared c xs (λ i d lt. all (suc i) d (omega (arith, lt))) in (
+      first.seat ∷ others.0,
+      record {
+        are = ap (λ (y : AnySeat). y ∷ xs) first.is
+            ∙ ap (λ (ys : List AnySeat). Shared first.seat ∷ ys) others.1.are;
+      },
+    )
 
 own_shared : (c : SharedView) (own : List SeatView)
     → All (λ (s : AnySeat). cache_of s ≡ cache.Shared c) (map Shared own)
@@ -102,11 +104,13 @@ pub all_striped : (c : StripedView) (seats : List AnySeat)
 all_striped c [] all = ([], record { are = refl })
 all_striped c (x ∷ xs) all =
     let first = one_striped c x (all 0 x (omega arith)) in
-    let others = all_striped c xs (λ i d lt. all (suc i) d (omega (arith, lt))) in
-    (first.seat ∷ others.0, record {
-      are = ap (λ (y : AnySeat). y ∷ xs) first.is
-          ∙ ap (λ (ys : List AnySeat). Striped first.seat ∷ ys) others.1.are;
-    })
+    let others = all_striped c xs (λ i d lt. all (suc i) d (omega (arith, lt))) in (
+      first.seat ∷ others.0,
+      record {
+        are = ap (λ (y : AnySeat). y ∷ xs) first.is
+            ∙ ap (λ (ys : List AnySeat). Striped first.seat ∷ ys) others.1.are;
+      },
+    )
 
 own_striped : (c : StripedView) (own : List StripedSeat)
     → All (λ (s : AnySeat). cache_of s ≡ cache.Striped c) (map Striped own)

@@ -26,8 +26,8 @@ pub use buffer::{REFUSED, put};
 pub use cache_calls::{add_all_in, add_in, figures_in, floor_in, look_in};
 pub use counts::{CountedCache, CountedSeat, Counts};
 pub use ctypes::{
-    AddArgs, ApplyArgs, BatchArgs, BoundsArgs, ConfigArgs, SpanArgs, SummaryArgs, TscAdded, TscFigures,
-    TscMark, TscSpan, TscTime, TscValue, WriteArgs,
+    AddArgs, ApplyArgs, BatchArgs, BoundsArgs, ConfigArgs, SpanArgs, SummaryArgs, TscAdded,
+    TscFigures, TscMark, TscSpan, TscTime, TscValue, WriteArgs,
 };
 pub use decode::{Form, config};
 pub use refusal::{OK, Refusal, code};

@@ -15,7 +15,9 @@ ghost use Rattle.tsc_ffi_store.specs.declared.store.Slot.TheVariants as kinds;
 use crate::bounds::{bounds, check_bounds, of_open_fault};
 use crate::cache_calls::count;
 use crate::counts::CountedSeat;
-use crate::ctypes::{AddArgs, BatchArgs, BoundsArgs, SpanArgs, TscAdded, TscFigures, TscTime, TscValue};
+use crate::ctypes::{
+    AddArgs, BatchArgs, BoundsArgs, SpanArgs, TscAdded, TscFigures, TscTime, TscValue,
+};
 use crate::decode::{
     added_span, copied_span, looked_up_span, time, value, words_of, words_of_added,
     words_of_figures, words_of_time,
@@ -323,11 +325,7 @@ pub fn look_at(
 }
 
 /// Writes where the floor of the cache of a seat stands, and how many Adds the seat has seen then.
-pub fn floor_at(
-    held: &mut CountedSeat,
-    seen: &mut u64,
-    out: &mut TscTime,
-) -> Result<(), Refusal>
+pub fn floor_at(held: &mut CountedSeat, seen: &mut u64, out: &mut TscTime) -> Result<(), Refusal>
     ensures answers { CountsNothing (ByKind (AnswersSeatLowWater seen.new (time_of out.new))
         (AnswersStripedLowWater seen.new (time_of out.new))) held.old held.new result }
     ensures kept { OnErr result ((seen.new ≡ seen.old) × (out.new ≡ out.old)) }

@@ -167,10 +167,7 @@ fn of_snapshot_fault(fault: SnapshotFault) -> Refusal
 }
 
 /// What became of an Add that would have this place among the seat's own.
-pub(crate) fn placed(
-    did: Result<Receipt, TryAddFault>,
-    place: u64,
-) -> Result<Placed, Refusal>
+pub(crate) fn placed(did: Result<Receipt, TryAddFault>, place: u64) -> Result<Placed, Refusal>
     ensures { IsPlacedAt place did result }
 {
     match did {
