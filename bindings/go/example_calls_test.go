@@ -209,6 +209,23 @@ func ExampleOpenShared() {
 	// 1 <nil>
 }
 
+func ExampleOpenStriped() {
+	bounds := [][]byte{[]byte("g"), []byte("p")}
+	shared, seats, err := tscache.OpenStriped(tscache.DefaultConfig(), bounds, 2)
+	must(err)
+	place, _, err := seats[0].Add(a, read, at20, 64)
+	must(err)
+	latest, seen, err := seats[1].GetMax(a) // ErrBusy where another seat held the lock
+	must(err)
+	fmt.Println(place, seen, latest.Time)
+	seats[0].Close()
+	seats[1].Close()
+	fmt.Println(shared.Close())
+	// Output:
+	// 0 0 {20 0}
+	// 1 <nil>
+}
+
 func ExampleShared_Close() {
 	shared, seats := openSeats()
 	seats[0].Close()

@@ -12,8 +12,9 @@ ghost use Rattle.tsc_ffi_store.specs.Store.{slots_of, DoesToSeat};
 use crate::store_ptr::{StorePtr, store_in};
 use std::alloc::Global;
 use tsc_ffi_store::{
-    AddArgs, BatchArgs, BoundsArgs, ConfigArgs, Refusal, SpanArgs, Store, TscAdded, TscFigures, TscMark,
-    TscTime, TscValue, add_all_at, add_at, code, config, figures_at, floor_at, look_at, may_seat,
+    AddArgs, BatchArgs, BoundsArgs, ConfigArgs, Refusal, SpanArgs, Store, TscAdded, TscFigures,
+    TscMark, TscTime, TscValue, add_all_at, add_at, check_bounds, code, config, figures_at,
+    floor_at, look_at, may_seat,
 };
 
 /// Opens a cache that threads share, and writes its handle. Its seats have the handles behind that,
@@ -116,11 +117,11 @@ fn open_striped(
         result }
     ensures kept { OnErr result (handle.new ≡ handle.old) }
 {
-    let config = config(args)?;
+    let settings = config(args)?;
     check_bounds(bounds, seats)?;
-    let mut held = store_in(alloc, store)?;
-    let opened = held.open_striped(alloc, config, bounds, seats);
-    store.lay(held);
+    let mut taken = store_in(alloc, store)?;
+    let opened = taken.open_striped(alloc, settings, bounds, seats);
+    store.lay(taken);
     *handle = opened?;
     Ok(())
 }

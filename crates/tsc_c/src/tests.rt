@@ -480,12 +480,32 @@ fn each_call_of_a_shared_cache_answers(rt: HostRuntime) {
 }
 
 static STRIPED_CALLS: [Row; 34] = [
-    (false, Call::OpenStriped(0, b"bd", &[1, 1]), (12, 9, 0, 0, 0, 0)),
+    (
+        false,
+        Call::OpenStriped(0, b"bd", &[1, 1]),
+        (12, 9, 0, 0, 0, 0),
+    ),
     (false, Call::OpenStriped(2, b"bd", &[1]), (7, 9, 0, 0, 0, 0)),
-    (false, Call::OpenStriped(2, b"bd", &[1, 2]), (7, 9, 0, 0, 0, 0)),
-    (false, Call::OpenStriped(2, b"db", &[1, 1]), (25, 9, 0, 0, 0, 0)),
-    (false, Call::OpenStriped(2, b"b", &[0, 1]), (25, 9, 0, 0, 0, 0)),
-    (false, Call::OpenStriped(2, b"bd", &[1, 1]), (0, 0, 0, 0, 0, 0)),
+    (
+        false,
+        Call::OpenStriped(2, b"bd", &[1, 2]),
+        (7, 9, 0, 0, 0, 0),
+    ),
+    (
+        false,
+        Call::OpenStriped(2, b"db", &[1, 1]),
+        (25, 9, 0, 0, 0, 0),
+    ),
+    (
+        false,
+        Call::OpenStriped(2, b"b", &[0, 1]),
+        (25, 9, 0, 0, 0, 0),
+    ),
+    (
+        false,
+        Call::OpenStriped(2, b"bd", &[1, 1]),
+        (0, 0, 0, 0, 0, 0),
+    ),
     (false, Call::Move(2), (0, 0, 0, 0, 0, 0)),
     (false, Call::SeatAdd(1, 0), (23, 0, 1, 9, 9, 0)),
     (false, Call::SeatAdd(1, 1), (0, 1, 0, 0, 0, 0)),

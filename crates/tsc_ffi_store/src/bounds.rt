@@ -15,7 +15,8 @@ use tsc_striped::OpenFault;
 /// How many stripes a cache may have at the most.
 const MOST_STRIPES: usize = 1024;
 
-/// Whether there may be so many seats and so many stripes, and whether the lengths use up the bytes.
+/// Whether there may be so many seats and so many stripes, and whether the lengths use up the
+/// bytes.
 /// No key is copied.
 pub fn check_bounds(args: &BoundsArgs<'_>, seats: u32) -> Result<(), Refusal>
     ensures some { IfOk result (λ _. 0 < seats) }

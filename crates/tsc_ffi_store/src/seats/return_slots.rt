@@ -191,7 +191,8 @@ pub(crate) fn collect_seats(
     requires room { IsRoomFor room.items (vec_capacity room) seats }
     ensures cache { All (λ seat. cache_of seat ≡ slots.shared.key) result.items }
     ensures all { length result.items ≡ seats }
-    ensures back { All (λ seat. slice_get result.items (number_of seat) ≡ Some seat) keeper.me.0.back }
+    ensures back { All (λ seat. slice_get result.items (number_of seat) ≡ Some seat)
+        keeper.me.0.back }
 {
     let mut closed = slots.close_with(keeper);
     for slot in 0..seats as usize {

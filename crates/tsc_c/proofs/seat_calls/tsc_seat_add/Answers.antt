@@ -5,6 +5,8 @@ use Rattle.tsc_ffi_store.specs.declared.refusal.Refusal.TheVariants as refusal
 use Rattle.tsc_ffi_store.specs.SeatCalls.{AnswersSeatAdd}
 use Rattle.tsc_ffi_store.specs.Decode.{add_asked, span_asked, added_of}
 use Rattle.tsc_ffi_store.specs.Counts.{CountsSeatAdd}
+use Rattle.tsc_ffi_store.specs.Kinds.{ByKind}
+use Rattle.tsc_ffi_store.specs.StripedCalls.{AnswersStripedAdd}
 use Rattle.tsc_ffi_store.proofs.AtHandle.{when_some}
 use Rattle.tsc_c.proofs.Held.{no_seat, works_at, works_at_none}
 use Rattle.tsc_c.proofs.seat_calls.tsc_seat_add.Goals as goal
@@ -14,9 +16,12 @@ returns-in-Some-seat_mut c = record {
   answers = record {
     did = c.add_at.result;
     code_is = c.code.ensures;
-    answers = works_at (CountsSeatAdd (AnswersSeatAdd (add_asked (span_asked c.args.from.now c.args.to.now
+    answers = works_at (CountsSeatAdd (ByKind (AnswersSeatAdd (add_asked (span_asked c.args.from.now c.args.to.now
         c.args.ends) c.args.value.now c.args.moment.now) c.args.tries c.add_at.new.place (added_of
-        c.add_at.new.out)) c.add_at.new.out.evicted) c.args.store.now.owned (Some (c.seat_mut.follows.lender
+        c.add_at.new.out))
+        (AnswersStripedAdd (add_asked (span_asked c.args.from.now c.args.to.now
+        c.args.ends) c.args.value.now c.args.moment.now) c.args.tries c.add_at.new.place (added_of
+        c.add_at.new.out))) c.add_at.new.out.evicted) c.args.store.now.owned (Some (c.seat_mut.follows.lender
         c.add_at.new.held)) c.in-Some.held.now (c.seat_mut.follows.lender c.add_at.new.held)
         c.args.handle c.in-Some-seat_mut.seat.now c.add_at.new.held (c.add_at.result) (search
         rules) (search rules) (search rules) (when_some c.seat_mut.result c.in-Some-seat_mut.seat
@@ -31,9 +36,12 @@ returns-in-None-seat_mut c = record {
   answers = record {
     did = Err refusal.Closed;
     code_is = search rules;
-    answers = works_at_none (CountsSeatAdd (AnswersSeatAdd (add_asked (span_asked c.args.from.now c.args.to.now
+    answers = works_at_none (CountsSeatAdd (ByKind (AnswersSeatAdd (add_asked (span_asked c.args.from.now c.args.to.now
         c.args.ends) c.args.value.now c.args.moment.now) c.args.tries c.args.place.now (added_of
-        c.args.out.now)) c.args.out.now.evicted) c.args.store.now.owned (Some c.seat_mut.follows.lender-at-none)
+        c.args.out.now))
+        (AnswersStripedAdd (add_asked (span_asked c.args.from.now c.args.to.now
+        c.args.ends) c.args.value.now c.args.moment.now) c.args.tries c.args.place.now (added_of
+        c.args.out.now))) c.args.out.now.evicted) c.args.store.now.owned (Some c.seat_mut.follows.lender-at-none)
         c.in-Some.held.now c.seat_mut.follows.lender-at-none c.args.handle (search rules) (search
         rules) (search rules) (c.seat_mut.follows.holds-at-none);
     kept = search rules;
@@ -45,9 +53,12 @@ returns-in-None c = record {
   answers = record {
     did = Err refusal.Closed;
     code_is = search rules;
-    answers = no_seat (CountsSeatAdd (AnswersSeatAdd (add_asked (span_asked c.args.from.now c.args.to.now
+    answers = no_seat (CountsSeatAdd (ByKind (AnswersSeatAdd (add_asked (span_asked c.args.from.now c.args.to.now
         c.args.ends) c.args.value.now c.args.moment.now) c.args.tries c.args.place.now (added_of
-        c.args.out.now)) c.args.out.now.evicted) c.args.store.now.owned c.args.store.now.owned c.args.handle (search rules)
+        c.args.out.now))
+        (AnswersStripedAdd (add_asked (span_asked c.args.from.now c.args.to.now
+        c.args.ends) c.args.value.now c.args.moment.now) c.args.tries c.args.place.now (added_of
+        c.args.out.now))) c.args.out.now.evicted) c.args.store.now.owned c.args.store.now.owned c.args.handle (search rules)
         (search rules);
     kept = search rules;
   };

@@ -5,6 +5,8 @@ use Rattle.tsc_ffi_store.specs.declared.refusal.Refusal.TheVariants as refusal
 use Rattle.tsc_ffi_store.specs.SeatCalls.{AnswersSeatAddAll}
 use Rattle.tsc_ffi_store.specs.Decode.{batch_asked, added_of}
 use Rattle.tsc_ffi_store.specs.Counts.{CountsSeatAdd}
+use Rattle.tsc_ffi_store.specs.Kinds.{ByKind}
+use Rattle.tsc_ffi_store.specs.StripedCalls.{AnswersStripedAddAll}
 use Rattle.tsc_ffi_store.proofs.AtHandle.{when_some}
 use Rattle.tsc_c.proofs.Held.{no_seat, works_at, works_at_none}
 use Rattle.tsc_c.proofs.seat_calls.tsc_seat_add_all.Goals as goal
@@ -14,8 +16,10 @@ returns-in-Some-seat_mut c = record {
   answers = record {
     did = c.add_all_at.result;
     code_is = c.code.ensures;
-    answers = works_at (CountsSeatAdd (AnswersSeatAddAll (batch_asked c.args.keys.now c.args.marks.now
-        c.args.moment.now) c.args.tries c.add_all_at.new.place (added_of c.add_all_at.new.out)) c.add_all_at.new.out.evicted)
+    answers = works_at (CountsSeatAdd (ByKind (AnswersSeatAddAll (batch_asked c.args.keys.now c.args.marks.now
+        c.args.moment.now) c.args.tries c.add_all_at.new.place (added_of c.add_all_at.new.out))
+        (AnswersStripedAddAll (batch_asked c.args.keys.now c.args.marks.now
+        c.args.moment.now) c.args.tries c.add_all_at.new.place (added_of c.add_all_at.new.out))) c.add_all_at.new.out.evicted)
         c.args.store.now.owned (Some (c.seat_mut.follows.lender c.add_all_at.new.held))
         c.in-Some.held.now (c.seat_mut.follows.lender c.add_all_at.new.held) c.args.handle
         c.in-Some-seat_mut.seat.now c.add_all_at.new.held (c.add_all_at.result) (search rules)
@@ -31,8 +35,10 @@ returns-in-None-seat_mut c = record {
   answers = record {
     did = Err refusal.Closed;
     code_is = search rules;
-    answers = works_at_none (CountsSeatAdd (AnswersSeatAddAll (batch_asked c.args.keys.now c.args.marks.now
-        c.args.moment.now) c.args.tries c.args.place.now (added_of c.args.out.now)) c.args.out.now.evicted)
+    answers = works_at_none (CountsSeatAdd (ByKind (AnswersSeatAddAll (batch_asked c.args.keys.now c.args.marks.now
+        c.args.moment.now) c.args.tries c.args.place.now (added_of c.args.out.now))
+        (AnswersStripedAddAll (batch_asked c.args.keys.now c.args.marks.now
+        c.args.moment.now) c.args.tries c.args.place.now (added_of c.args.out.now))) c.args.out.now.evicted)
         c.args.store.now.owned (Some c.seat_mut.follows.lender-at-none) c.in-Some.held.now
         c.seat_mut.follows.lender-at-none c.args.handle (search rules) (search rules) (search
         rules) (c.seat_mut.follows.holds-at-none);
@@ -45,8 +51,10 @@ returns-in-None c = record {
   answers = record {
     did = Err refusal.Closed;
     code_is = search rules;
-    answers = no_seat (CountsSeatAdd (AnswersSeatAddAll (batch_asked c.args.keys.now c.args.marks.now
-        c.args.moment.now) c.args.tries c.args.place.now (added_of c.args.out.now)) c.args.out.now.evicted)
+    answers = no_seat (CountsSeatAdd (ByKind (AnswersSeatAddAll (batch_asked c.args.keys.now c.args.marks.now
+        c.args.moment.now) c.args.tries c.args.place.now (added_of c.args.out.now))
+        (AnswersStripedAddAll (batch_asked c.args.keys.now c.args.marks.now
+        c.args.moment.now) c.args.tries c.args.place.now (added_of c.args.out.now))) c.args.out.now.evicted)
         c.args.store.now.owned c.args.store.now.owned c.args.handle (search rules) (search rules);
     kept = search rules;
   };

@@ -1,8 +1,8 @@
 -- The number tells what was done to what the handle names, or that it names nothing.
-use Rattle.std.proofs.Common.{refl, rules}
-use Rattle.std.specs.Prelude.{Ok, Err, Some}
+use Rattle.std.proofs.Common.{rules}
+use Rattle.std.specs.Prelude.{Err, Some}
 use Rattle.tsc_ffi_store.specs.declared.refusal.Refusal.TheVariants as refusal
-use Rattle.tsc_ffi_store.specs.SeatCalls.{AnswersSeatFigures}
+use Rattle.tsc_ffi_store.specs.StripedCalls.{AnswersFigures}
 use Rattle.tsc_ffi_store.proofs.AtHandle.{when_some}
 use Rattle.tsc_c.proofs.Held.{no_seat, works_at, works_at_none}
 use Rattle.tsc_c.proofs.seat_calls.tsc_seat_figures_of.Goals as goal
@@ -10,18 +10,15 @@ use Rattle.tsc_c.proofs.seat_calls.tsc_seat_figures_of.Goals as goal
 pub returns-in-Some-seat_mut : goal.returns-in-Some-seat_mut
 returns-in-Some-seat_mut c = record {
   answers = record {
-    did = Ok tt;
-    code_is = search rules;
-    answers = works_at (AnswersSeatFigures c.figures_at.new.seen c.figures_at.new.out)
+    did = c.figures_at.result;
+    code_is = c.code.ensures;
+    answers = works_at (AnswersFigures c.figures_at.new.seen c.figures_at.new.out)
         c.args.store.now.owned (Some (c.seat_mut.follows.lender c.figures_at.new.held))
         c.in-Some.held.now (c.seat_mut.follows.lender c.figures_at.new.held) c.args.handle
-        c.in-Some-seat_mut.seat.now c.figures_at.new.held (Ok tt) (search rules) (search rules)
+        c.in-Some-seat_mut.seat.now c.figures_at.new.held c.figures_at.result (search rules) (search rules)
         (search rules) (when_some c.seat_mut.result c.in-Some-seat_mut.seat c.in-Some-seat_mut.is
-        (c.seat_mut.follows.holds c.figures_at.new.held)) (record {
-          tells = c.figures_at.ensures;
-          done = refl;
-        });
-    kept = tt;
+        (c.seat_mut.follows.holds c.figures_at.new.held)) c.figures_at.ensures.answers;
+    kept = c.figures_at.ensures.kept;
   };
 }
 
@@ -30,7 +27,7 @@ returns-in-None-seat_mut c = record {
   answers = record {
     did = Err refusal.Closed;
     code_is = search rules;
-    answers = works_at_none (AnswersSeatFigures c.args.seen.now c.args.out.now)
+    answers = works_at_none (AnswersFigures c.args.seen.now c.args.out.now)
         c.args.store.now.owned (Some c.seat_mut.follows.lender-at-none) c.in-Some.held.now
         c.seat_mut.follows.lender-at-none c.args.handle (search rules) (search rules) (search
         rules) (c.seat_mut.follows.holds-at-none);
@@ -43,7 +40,7 @@ returns-in-None c = record {
   answers = record {
     did = Err refusal.Closed;
     code_is = search rules;
-    answers = no_seat (AnswersSeatFigures c.args.seen.now c.args.out.now) c.args.store.now.owned
+    answers = no_seat (AnswersFigures c.args.seen.now c.args.out.now) c.args.store.now.owned
         c.args.store.now.owned c.args.handle (search rules) (search rules);
     kept = search rules;
   };
