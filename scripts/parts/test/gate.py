@@ -16,7 +16,7 @@ import time
 from parts.check.definitions import GROUPS
 from parts.draw.documents import drawn
 from parts.frame import ROOT, Cases, command_of, outcome, temporary, text_at, text_of, write
-from parts.test.library import DROPPED
+from parts.test.library import ANSWERS as LOOKED_AT, DROPPED
 
 # The parts of the gate, in their order, which stand in `scripts/`. The first one runs `rt ci`.
 PARTS = [
@@ -130,13 +130,13 @@ SOUND = {
     "SHOWN": "tsc_one@@TSCACHE_0.1",
     "DYNAMIC": "(NEEDED) [libc.so.6]\\n(SONAME) [libtscache.so.0]\\n",
     "FINDS_FAULTS": "heap-buffer-overflow, detected memory leaks, signed integer overflow",
-    "TELLS_OF_DROPPED": " ".join(str(line) for line in range(4, 40)),
+    "TELLS_OF_DROPPED": " ".join(str(4 + it) for it in range(LOOKED_AT)),
     "WARNS_OF_DROPPED": " ".join(map(str, DROPPED_LINES)),
     "FINDS_RACES": "data race",
     "SAYS": "tscache: the handle names nothing of this kind",
 }
-# A header with one call, and 36 functions whose answers have to be looked at.
-HEADER = "uint32_t tsc_one(void);\n" + "".join(f"TSC_NODISCARD\nstatic inline uint32_t tsc_{it}(int a)\n{{\n}}\n" for it in range(36))
+# A header with one call, and the functions whose answers have to be looked at.
+HEADER = "uint32_t tsc_one(void);\n" + "".join(f"TSC_NODISCARD\nstatic inline uint32_t tsc_{it}(int a)\n{{\n}}\n" for it in range(LOOKED_AT))
 LIBRARY = {
     "no program in C or C++ compiles": {"COMPILES": "1"},
     "the programs in C print nothing": {"PRINTS": ""},
