@@ -74,7 +74,7 @@ def built(cases, top, commit, is_proved):
     cases.expect("BUILT: the kit", lines["kit"], run("rt", "version")[1].strip())
     proved = "yes" if is_proved else "no: built without proofs, for tests alone"
     cases.expect("BUILT: whether it is proved", lines["proved"], proved)
-    gate = re.compile(r"\d+ minutes on two processors when last measured .*")
+    gate = re.compile(r"\d+ minutes on \d+ processors when last measured .*")
     cases.expect("BUILT: the gate", lines["gate"], gate)
     gate = measured(text_of(f"{HERE}/docs/PROOFS.md"))
     cases.expect("docs/PROOFS.md says so", lines["gate"].split()[0], gate.minutes)
