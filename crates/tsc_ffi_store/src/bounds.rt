@@ -1,5 +1,4 @@
 //! The bounds of stripes that a call names.
-
 ghost use Rattle.tsc_span.specs.Span.{longest_key};
 ghost use Rattle.tsc_ffi_store.specs.declared.refusal.Refusal.TheVariants as refusal;
 ghost use Rattle.std.specs.Prelude.{◌≡◌, ◌≢◌, ◌⊎◌, ◌<◌, IfOk, IfErr, IsTrue, false, length};
@@ -16,8 +15,7 @@ use tsc_striped::OpenFault;
 const MOST_STRIPES: usize = 1024;
 
 /// Whether there may be so many seats and so many stripes, and whether the lengths use up the
-/// bytes.
-/// No key is copied.
+/// bytes. No key is copied.
 pub fn check_bounds(args: &BoundsArgs<'_>, seats: u32) -> Result<(), Refusal>
     ensures some { IfOk result (λ _. 0 < seats) }
     ensures use_up { IfOk result (λ _. UseUp args.now.keys.now args.now.lens.now) }
