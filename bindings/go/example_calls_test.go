@@ -215,7 +215,7 @@ func ExampleOpenStriped() {
 	must(err)
 	place, _, err := seats[0].Add(a, read, at20, 64)
 	must(err)
-	latest, seen, err := seats[1].GetMax(a) // ErrBusy where another seat held the lock
+	latest, seen, err := seats[1].GetMax(a)
 	must(err)
 	fmt.Println(place, seen, latest.Time)
 	seats[0].Close()
