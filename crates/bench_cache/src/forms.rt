@@ -61,7 +61,7 @@ pub fn print_forms<R: Threads + Wait + Sync>(host: &HostRuntime, rt: &R, nodes: 
             print_adds(host, name, trial, &times)?;
         }
     }
-    Some(())
+    print_wide(host, rt, nodes)
 }
 
 /// Makes calls to each form in turns, with new caches in each round, and prints their rates.
@@ -86,6 +86,22 @@ fn print_rates<R: Threads + Wait + Sync>(host: &HostRuntime, rt: &R, trial: Tria
     Some(())
 }
 
+/// Prints how many lookups of all keys a thread makes in a second, each of them over all stripes.
+fn print_wide<R: Threads + Wait + Sync>(host: &HostRuntime, rt: &R, nodes: u32) -> Option<()> {
+    let trial = Trial::new(nodes, (1, 0, 100, 0), Measures::Rate);
+    let wide = trial
+        .keys()
+        .spans(host.alloc(), PLACES, nodes.saturating_sub(1))?;
+    let mut rounds: Rounds = [0; 9];
+    for round in 0..9 {
+        rounds[round] = sum(&by_stripes(host, rt, trial, &wide, STRIPES)?);
+    }
+    let spread = Spread::of(rounds);
+    println!(host;
+        "{nodes} nodes, {STRIPES} stripes, 1 thread: {spread} lookups of all keys a second"
+    ).ok()
+}
+
 /// How many calls all threads together make in a second.
 fn rate<R: Threads + Wait + Sync>(
     host: &HostRuntime,
@@ -93,11 +109,16 @@ fn rate<R: Threads + Wait + Sync>(
     form: Form,
     trial: Trial,
 ) -> Option<u64> {
+    Some(sum(&measure(host, rt, form, trial)?))
+}
+
+/// What some rates come to together.
+fn sum(rates: &[u64]) -> u64 {
     let mut all: u64 = 0;
-    for one in measure(host, rt, form, trial)? {
-        all = all.saturating_add(one);
+    for rate in rates {
+        all = all.saturating_add(*rate);
     }
-    Some(all)
+    all
 }
 
 /// What is measured of the calls of threads to a form of the cache.

@@ -24,7 +24,8 @@
 //!
 //! `bench forms NODES..` has 1, 2 and 4 threads call each form of the cache: one lock, 64 stripes,
 //! two copies, and a cache a thread. It prints how many calls they made in a second, and then what
-//! Adds of 4 and of 8 threads took: half of them, 99 of 100, and the longest.
+//! Adds of 4 and of 8 threads took: half of them, 99 of 100, and the longest. Last it prints how
+//! many lookups of all keys one thread makes in a second over the stripes.
 //!
 //! `bench` alone makes a short run and prints no times.
 #![tactic(auto)]

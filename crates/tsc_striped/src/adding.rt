@@ -221,7 +221,7 @@ impl StripedCache {
             value,
             moment,
         } = mark;
-        let touched = find_touched(self.bounds.as_slice(), &span.borrowed());
+        let touched = find_touched(self.bounds.as_slice(), &self.prefixes, &span.borrowed());
         if touched.first != touched.last {
             let mark = MarkRef {
                 span,
@@ -357,7 +357,13 @@ impl StripedCache {
         is_as_always(seat);
         fit_all(&self.setup.config, marks.as_slice());
         can_all_be_added(&self.setup.config, marks.as_slice(), moment);
-        let Ok(batch) = Batch::new(self.alloc, self.bounds.as_slice(), marks, moment) else {
+        let Ok(batch) = Batch::new(
+            self.alloc,
+            self.bounds.as_slice(),
+            &self.prefixes,
+            marks,
+            moment,
+        ) else {
             return Err(TryAddFault::Refused(AddFault::NoMemory));
         };
         let mut notice = Publication::due(gate, seat.number);

@@ -9,6 +9,7 @@ ghost use Rattle.tsc_striped.specs.Sizes.{are_small};
 
 use crate::bounds::find_touched_by;
 use crate::pieces::pieces_in;
+use crate::prefixes::Prefixes;
 use std::alloc::Global;
 use std::marker::Model;
 use tsc_cache::Mark;
@@ -80,6 +81,7 @@ impl Batch {
     pub(crate) fn new(
         alloc: Global,
         bounds: &[Key],
+        prefixes: &Prefixes,
         marks: Vec<Mark>,
         moment: Timestamp,
     ) -> Result<Batch, NoMemory>
@@ -89,7 +91,7 @@ impl Batch {
         ensures same { IfOk result (λ batch. (batch.marks.items ≡ marks.items)
             × (batch.moment ≡ moment)) }
     {
-        let touched = find_touched_by(bounds, marks.as_slice());
+        let touched = find_touched_by(bounds, prefixes, marks.as_slice());
         let mut pieces = Vec::new(alloc);
         for stripe in touched.first..touched.last + 1 {
             let there = pieces_in(alloc, bounds, stripe, marks.as_slice())?;

@@ -23,6 +23,7 @@ mod gathering;
 mod gating;
 pub mod laws;
 mod pieces;
+mod prefixes;
 mod reads;
 mod seat;
 mod sharing;

@@ -112,7 +112,7 @@ impl StripedCache {
         ensures busy { IfNone result ((seat.new ≡ seat.old) × HasEnd (P.tries policy.now)) }
         ensures no_try { P.tries policy.now ≡ Some 0 → IsNone result }
     {
-        let touched = find_touched(self.bounds.as_slice(), span);
+        let touched = find_touched(self.bounds.as_slice(), &self.prefixes, span);
         let shared = &self.table.shared;
         let who = &mut seat.participant;
         if touched.first < touched.last {

@@ -75,7 +75,7 @@ impl StripedCache {
         ensures ended { IsErrOf result StripeFault.Busy → HasEnd (P.tries policy.now) }
         ensures no_try { P.tries policy.now ≡ Some 0 → IsErrOf result StripeFault.Busy }
     {
-        let touched = find_touched(self.bounds.as_slice(), &span.borrowed());
+        let touched = find_touched(self.bounds.as_slice(), &self.prefixes, &span.borrowed());
         let first = touched.first;
         let last = touched.last.max(first);
         let caches = policy.share_over(

@@ -9,6 +9,7 @@ use crate::answers::{Closed, OpenFault, StillOut};
 use crate::bounds::are_in_order;
 use crate::gathering::gather;
 use crate::pieces::piece_in;
+use crate::prefixes::Prefixes;
 use crate::seat::{Dealer, Front, Seat};
 use std::alloc::Global;
 use std::marker::Model;
@@ -42,6 +43,7 @@ pub struct StripedCache {
     pub(crate) table: StripeTable,
     pub(crate) setup: Setup,
     pub(crate) bounds: Vec<Key>,
+    pub(crate) prefixes: Prefixes,
     /// Room for the caches that closing gives, so that it takes no memory.
     pub(crate) room: Vec<Cache>,
 }
@@ -109,6 +111,7 @@ impl StripedCache {
             seats,
             bounds: Snapshot::of(&bounds),
         };
+        let prefixes = Prefixes::of(alloc, bounds.as_slice())?;
         let room = room_for(alloc, stripes)?;
         let (table, all) = new_table(alloc, &setup, stripes)?;
         let dealer = Dealer {
@@ -121,6 +124,7 @@ impl StripedCache {
                 table,
                 setup,
                 bounds,
+                prefixes,
                 room,
             },
             dealer,
@@ -236,6 +240,7 @@ impl StripedCache {
             table,
             setup: _,
             bounds: _,
+            prefixes: _,
             room,
         } = self;
         let all = gather(&table.shared, dealer.participant, seats);

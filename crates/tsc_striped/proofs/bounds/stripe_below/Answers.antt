@@ -12,7 +12,7 @@ loop-low-preserved-then-is_below c =
       omega (
         arith,
         below_low c.args.bounds.now (cut_of c.args.place) _ c.index-bounds-middle.result
-            c.requires.order (omega (arith, c.loop-low-test.true, c.loop-low.invariant.2))
+            c.requires.order (omega (arith, c.next_probe-middle.ensures.1, c.loop-low.invariant.2))
             c.index-bounds-middle.is below,
       ),
       c.loop-low.invariant.1,
@@ -25,7 +25,7 @@ loop-low-preserved c =
     (sym c.bytes.ensures.value) ∙ sym c.is_below.ensures ∙ c.if-is_below.false in (
       c.loop-low.invariant.0,
       below_high c.args.bounds.now (cut_of c.args.place) _ c.index-bounds-middle.result
-          c.requires.order (omega (arith, c.loop-low-test.true, c.loop-low.invariant.2))
+          c.requires.order (omega (arith, c.next_probe-middle.ensures.1, c.loop-low.invariant.2))
           c.index-bounds-middle.is below,
-      omega (arith, c.loop-low-test.true, c.loop-low.invariant.2),
+      omega (arith, c.next_probe-middle.ensures.1, c.loop-low.invariant.2),
     )
