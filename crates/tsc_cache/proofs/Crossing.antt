@@ -44,10 +44,10 @@ key_sends = search (sendable, crosses) depth 20
 key_syncs : IsSync key
 key_syncs = search (sendable, crosses) depth 20
 
-key_prefix_sends : IsSend key_prefix
+pub key_prefix_sends : IsSend key_prefix
 key_prefix_sends = search (sendable, crosses) depth 20
 
-key_prefix_syncs : IsSync key_prefix
+pub key_prefix_syncs : IsSync key_prefix
 key_prefix_syncs = search (sendable, crosses) depth 20
 
 prefixed_key_sends : IsSend prefixed_key

@@ -15,10 +15,13 @@ use Rattle.atomic_table.specs.contracts.send_lease.SendLease.{the_row as send_le
 use Rattle.atomic_table.proofs.Sent.{seat_keyless, owns_keyless, shares_keyless}
 use Rattle.atomic_table.proofs.Rights.{right_send}
 use Rattle.tsc_cache.proofs.Crossing.{config_sends, config_syncs, cache_sends, cache_syncs}
+use Rattle.tsc_cache.proofs.Crossing.{key_prefix_sends, key_prefix_syncs}
 use Rattle.tsc_stripe_table.specs.contracts.stripe.PendingAdd.{the_row as pending}
 use Rattle.tsc_stripe_table.specs.contracts.stripe.PendingBatch.{the_row as pending_batch}
 use Rattle.tsc_stripe_table.specs.contracts.stripe.Stripe.{the_row as stripe}
 use Rattle.tsc_stripe_table.specs.contracts.table.Setup.{the_row as setup}
+use Rattle.tsc_striped.specs.contracts.prefixes.BoundPrefix.{the_row as bound_prefix}
+use Rattle.tsc_striped.specs.contracts.prefixes.Prefixes.{the_row as prefixes}
 use Rattle.tsc_striped.specs.contracts.seat.Seat.{the_row as seat}
 use Rattle.tsc_striped.specs.contracts.seat.Front.{the_row as front}
 use Rattle.tsc_striped.specs.contracts.seat.Dealer.{the_row as dealer}
@@ -58,6 +61,18 @@ stripe_sends = search (
   pending_sends,
   pending_batch_sends,
 ) depth 20
+
+bound_prefix_sends : IsSend bound_prefix
+bound_prefix_sends = search (sendable, crosses, key_prefix_sends) depth 20
+
+prefixes_sends : IsSend prefixes
+prefixes_sends = search (sendable, crosses, bound_prefix_sends) depth 20
+
+bound_prefix_syncs : IsSync bound_prefix
+bound_prefix_syncs = search (sendable, crosses, key_prefix_syncs) depth 20
+
+prefixes_syncs : IsSync prefixes
+prefixes_syncs = search (sendable, crosses, bound_prefix_syncs) depth 20
 
 -- a table, over whatever its slots hold
 module _ (S V K P A : RattleType) (rule : RuleGhosts P.Denot S.Denot V.Denot K.Denot)
@@ -124,6 +139,7 @@ striped_cache_sends = search (
   table_sends,
   stripe_sends,
   setup_sends,
+  prefixes_sends,
   cache_sends,
   crosses,
 ) depth 20
@@ -136,6 +152,7 @@ striped_cache_syncs = search (
   table_syncs,
   stripe_sends,
   setup_syncs,
+  prefixes_syncs,
   cache_syncs,
   crosses,
 ) depth 20
