@@ -245,8 +245,10 @@ impl StripedCache {
             mark,
         )?;
         is_counted(&added);
+        let number = seat.count;
         seat.count += 1;
         Ok(Receipt {
+            number,
             added,
             front: self.front(seat),
         })
@@ -368,8 +370,10 @@ impl StripedCache {
             &batch,
             &mut notice,
         )?;
+        let number = seat.count;
         seat.count += 1;
         Ok(Receipt {
+            number,
             added,
             front: self.front(seat),
         })
