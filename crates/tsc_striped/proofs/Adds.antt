@@ -204,12 +204,12 @@ IsAccepted (Err fault) = ⊥
 -- an Add that is accepted
 pub answers_added : (old new : Participant) (ms : List Mark) (now : Time) (tries : Option ℕ)
     (receipt : Receipt) → IsSeat (seat_view old) → new.table_id ≡ old.table_id
-    → AddsAll old.me new.me ms now receipt.added
+    → AddsAll old.me new.me ms now receipt.added → receipt.number ≡ (seat_view old).count
     → receipt.front ≡ record { cache = (seat_view new).cache; seen = (seat_view new).seen }
     → CanCount (seat_view old) → (tries ≡ Some 0 → ⊥)
     → AnswersTriedAdd (seat_view old) (seat_view new) ms now tries (Ok receipt)
-answers_added old new ms now tries receipt was table adds front may some = record {
-  accepted = accepts old new ms now receipt table adds front;
+answers_added old new ms now tries receipt was table adds number front may some = record {
+  accepted = accepts old new ms now receipt table adds number front;
   may = may;
   seat = added_on_seat old new ms now receipt table adds was;
   refused = tt;

@@ -271,9 +271,10 @@ module _ (old new : Participant) (ms : List Mark) (now : Time) (receipt : Receip
       (begins_on whole a.before (seen_of old.me.0)
       (begins_more a.before (entry_of_marks old.me ms now ∷ [])) a.begins)
 
-  pub accepts : receipt.front ≡ record { cache = (seat_view new).cache; seen = (seat_view new).seen }
+  pub accepts : receipt.number ≡ count_of old.me.0
+      → receipt.front ≡ record { cache = (seat_view new).cache; seen = (seat_view new).seen }
       → Accepts (seat_view old) (seat_view new) ms now receipt
-  accepts front =
+  accepts number front =
       let then' : receipt.front ≡ record { cache = cache_of old; seen = whole } =
       front ∙ ap (λ (s : SeatView). record { cache = s.cache; seen = s.seen }) added_view in
       subst (λ (s : SeatView). Accepts (seat_view old) s ms now receipt)
@@ -282,6 +283,7 @@ module _ (old new : Participant) (ms : List Mark) (now : Time) (receipt : Receip
         begins = a.begins;
         seen = refl;
         count = refl;
+        number = number;
         added = a.added_is;
         front = then';
       })

@@ -79,14 +79,16 @@ pub record GoesOn (old new : SeatView) : Type 0 where
   pub is_seat : IsSeat new
 
 -- An accepted Add of some marks: after a history that begins with all that the seat had seen stands
--- this one entry, with all of the marks, which is the last that the seat has seen then. What was
--- added is the step from the state that the history leaves on each stripe.
+-- this one entry, with all of the marks, which is the last that the seat has seen then. The receipt
+-- has the entry's number among the seat's own. What was added is the step from the state that the
+-- history leaves on each stripe.
 pub record Accepts (old new : SeatView) (ms : List Mark) (now : Time) (receipt : Receipt) : Type 0
   where
     pub before : History
     pub begins : BeginsWith before old.seen
     pub seen : new.seen ≡ before ++ entry_by old ms now ∷ []
     pub count : new.count ≡ suc old.count
+    pub number : receipt.number ≡ old.count
     pub added : receipt.added ≡ added_over old.cache.terms before ms now
     pub front : receipt.front ≡ record { cache = old.cache; seen = new.seen }
 

@@ -199,6 +199,48 @@ impl StripedCache {
         self.add_marks(&Bounded(tries), seat, marks, &NoGate)
     }
 
+    /// As [`add_gated`](StripedCache::add_gated), where the caller has no leave to wait, as in
+    /// [`try_add`](StripedCache::try_add). The gate is told nothing of an Add that is given up.
+    pub fn try_add_gated<G: Gate>(
+        &self,
+        seat: &mut Seat,
+        span: &Span,
+        value: Value,
+        now: Timestamp,
+        tries: u32,
+        gate: &G,
+    ) -> Result<Receipt, TryAddFault>
+        requires cache { seat.old.cache ≡ self.now }
+        ensures answers { AnswersTriedAdd seat.old seat.new (one_mark span.now value) now
+            (Some tries) result }
+        ensures gate { OnOk result (G.HasTold gate.now seat.old.number) }
+    {
+        let mark = MarkRef {
+            span,
+            value,
+            moment: now,
+        };
+        self.add_alone(&Bounded(tries), seat, mark, gate)
+    }
+
+    /// As [`add_all_gated`](StripedCache::add_all_gated), where the caller has no leave to wait, as
+    /// in [`try_add_gated`](StripedCache::try_add_gated).
+    pub fn try_add_all_gated<G: Gate>(
+        &self,
+        seat: &mut Seat,
+        marks: &[Mark],
+        now: Timestamp,
+        tries: u32,
+        gate: &G,
+    ) -> Result<Receipt, TryAddFault>
+        requires cache { seat.old.cache ≡ self.now }
+        ensures answers { AnswersTriedAdd seat.old seat.new marks.now now (Some tries) result }
+        ensures gate { OnOk result (G.HasTold gate.now seat.old.number) }
+    {
+        let marks = MarksRef { marks, moment: now };
+        self.add_marks(&Bounded(tries), seat, marks, gate)
+    }
+
     /// An Add of one mark, which is given up where `policy` comes to its end.
     fn add_mark<P: WaitPolicy>(
         &self,
@@ -245,8 +287,10 @@ impl StripedCache {
             mark,
         )?;
         is_counted(&added);
+        let number = seat.count;
         seat.count += 1;
         Ok(Receipt {
+            number,
             added,
             front: self.front(seat),
         })
@@ -374,8 +418,10 @@ impl StripedCache {
             &batch,
             &mut notice,
         )?;
+        let number = seat.count;
         seat.count += 1;
         Ok(Receipt {
+            number,
             added,
             front: self.front(seat),
         })

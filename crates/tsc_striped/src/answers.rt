@@ -7,6 +7,8 @@ use tsc_time::NoMemory;
 /// What an accepted Add answers.
 #[derive(Drop)]
 pub struct Receipt {
+    /// Which of the seat's own Adds it is, counted from 0.
+    pub number: u64,
     /// What the Add did.
     pub added: Added,
     /// All Adds up to this one.

@@ -45,6 +45,7 @@ pub invariant_of-seat-2 : goal.invariant_of-seat-2
 invariant_of-seat-2 g c =
     let p = c.seat.inside.participant in
     let receipt : Receipt = record {
+      number = c.seat.inside.count;
       added = c.in_ok-added.added;
       front = record { cache = (seat_view p).cache; seen = (seat_view p).seen };
     } in
@@ -57,7 +58,11 @@ returns-clause-answers g c =
     let p = c.seat.inside.participant in
     let is = c.in-Ok.ensures.same in
     let tries = g.P.WaitPolicy.tries c.args.policy.now in
-    let receipt : Receipt = record { added = c.in_ok-added.added; front = c.front.result } in
+    let receipt : Receipt = record {
+      number = c.seat.inside.count;
+      added = c.in_ok-added.added;
+      front = c.front.result;
+    } in
     let adds : AddsAll p.me c.add_batch.new.who.me c.args.marks.items c.args.moment
     c.in_ok-added.added =
     subst (λ (now : Time). AddsAll p.me c.add_batch.new.who.me c.args.marks.items now
@@ -69,7 +74,8 @@ returns-clause-answers g c =
     (subst (λ old. AnswersTriedAdd old (seat_view c.add_batch.new.who) c.args.marks.items
     c.args.moment tries (Ok receipt)) c.seat.view_is
     (answers_added p c.add_batch.new.who c.args.marks.items c.args.moment tries receipt
-    c.seat.invariant.seat c.in_ok-added.ensures.table adds c.front.ensures.front
+    c.seat.invariant.seat c.in_ok-added.ensures.table adds c.seat.invariant.count_kept
+    c.front.ensures.front
     (λ full. absurd (omega (
       arith,
       c.requires.room,

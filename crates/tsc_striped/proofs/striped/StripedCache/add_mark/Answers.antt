@@ -77,6 +77,7 @@ invariant_of-seat-2 g c =
     adds_one p.me c.add_in.new.who.me c.find_touched-touched.result.first m c.args.mark.moment
     c.in_ok-added.added there lies c.is_counted.ensures c.in_ok-added.ensures.added in
     let receipt : Receipt = record {
+      number = c.seat.inside.count;
       added = c.in_ok-added.added;
       front = record { cache = (seat_view p).cache; seen = (seat_view p).seen };
     } in
@@ -115,13 +116,18 @@ returns-clause-answers g c =
     let adds : AddsAll p.me c.add_in.new.who.me (m ∷ []) c.args.mark.moment c.in_ok-added.added =
     adds_one p.me c.add_in.new.who.me c.find_touched-touched.result.first m c.args.mark.moment
     c.in_ok-added.added there lies c.is_counted.ensures c.in_ok-added.ensures.added in
-    let receipt : Receipt = record { added = c.in_ok-added.added; front = c.front.result } in
+    let receipt : Receipt = record {
+      number = c.seat.inside.count;
+      added = c.in_ok-added.added;
+      front = c.front.result;
+    } in
     let tries = g.P.WaitPolicy.tries c.args.policy.now in
     subst (λ new. AnswersTriedAdd c.args.seat.now new (m ∷ []) c.args.mark.moment tries
     (Ok receipt)) (sym c.front.ensures.same)
     (subst (λ old. AnswersTriedAdd old (seat_view c.add_in.new.who) (m ∷ []) c.args.mark.moment
     tries (Ok receipt)) c.seat.view_is
     (answers_added p c.add_in.new.who (m ∷ []) c.args.mark.moment tries receipt
-    c.seat.invariant.seat c.in_ok-added.ensures.table adds c.front.ensures.front
+    c.seat.invariant.seat c.in_ok-added.ensures.table adds c.seat.invariant.count_kept
+    c.front.ensures.front
     (λ full. absurd (omega (arith, c.if-seat.false, c.seat.invariant.count_kept, full)))
     (was_tried tries c.in_ok-added.added c.in_ok-added.ensures.why.1)))
