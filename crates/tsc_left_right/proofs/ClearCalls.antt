@@ -1,5 +1,5 @@
 -- A writer clears the seats, in the shape that the calls ask for.
-use Rattle.std.proofs.Common.{◌≡◌, ◌∙◌, refl, sym, ap, subst, true, false, ℕ, suc, ◌+◌, ◌<◌}
+use Rattle.std.proofs.Common.{◌≡◌, ◌∙◌, refl, sym, ap, subst, true, false, ℕ, suc, ◌+◌, ◌%◌, ◌<◌}
 use Rattle.std.proofs.Common.{List, [], ◌∷◌, ◌++◌, length, set, take, arith}
 use Rattle.std.proofs.lemmas.List.{take_more_set}
 use Rattle.std.specs.Prelude.{Option, Some}
@@ -12,11 +12,11 @@ use Rattle.tsc_left_right.specs.declared.table.Knowledge.{Knowledge}
 use Rattle.tsc_left_right.specs.Rule.{LeftRightRule, standby_side, epoch_word}
 use Rattle.tsc_left_right.specs.Rule.{side_slot}
 use Rattle.tsc_left_right.specs.Steps.{At, state_in, clearing, has_left}
-use Rattle.tsc_left_right.specs.Steps.{clears, notes, noting, Anything}
+use Rattle.tsc_left_right.specs.Steps.{clears, passes, notes, noting, Anything}
 use Rattle.tsc_left_right.specs.Participating.{IsWriting}
 use Rattle.tsc_left_right.specs.Participating.{cleared_in, noted_in}
 use Rattle.tsc_left_right.proofs.Hands.{Hand, filled_push}
-use Rattle.tsc_left_right.proofs.Clearing.{clear_allowed, note_allowed}
+use Rattle.tsc_left_right.proofs.Clearing.{clear_allowed, pass_allowed, note_allowed}
 use Rattle.tsc_left_right.specs.declared.replicated.Replicated.{Ghosts}
 
 module _ {C O S E : Type 0} where
@@ -44,6 +44,15 @@ module _ {C O S E : Type 0} where
   cleared_then st e noted v me me' cleared h step is left =
       (subst (λ (m : At C O S E). clears st m e me') h.is step).0
       (ap (λ (o : Option ℕ). has_left o e) is ∙ left)
+
+  pub passed_then : (st : Step (Slot C O)) (found : ℕ) (v : Knowledge S E) (me me' : At C O S E)
+      (cleared : ℕ) → (h : IsWriting v me cleared) → passes st me found me'
+      → (x : Slot C O) × (me' ≡ (
+        cleared_in v (suc cleared),
+        (side_slot cleared (standby_side (state_in v).head), x) ∷ (0, Empty) ∷ h.slots,
+      ))
+  passed_then st found v me me' cleared h step =
+      subst (λ (m : At C O S E). passes st m found me') h.is step
 
   -- It was not, and nothing changed.
   pub stays_then : (st : Step (Slot C O)) (e noted : ℕ) (v : Knowledge S E) (me me' : At C O S E)
@@ -102,6 +111,18 @@ module _ {P C O S E : Type 0} (R : Ghosts P C O S E) where
       (λ n. n) (clears st m)) (sym h.is)
       (clear_allowed R key slots st id v.setup (clearing (state_in v) cleared) hand h.holds
       below h.unpinned))
+
+  -- the same of a seat that was outside
+  pub pass_at : (key : Setup S) (slots : ℕ) (st : Step (Slot C O)) (id noted : ℕ)
+      (v : Knowledge S E) (me : At C O S E) (cleared : ℕ) → IsWriting v me cleared
+      → cleared < v.setup.seats → slice_get (state_in v).noted cleared ≡ Some noted
+      → noted % 2 ≡ 0
+      → Allows (LeftRightRule R key) slots id me 16 (λ n. n) (passes st me)
+  pass_at key slots st id noted v me cleared h below is even =
+      subst (λ (m : At C O S E). Allows (LeftRightRule R key) slots id m 16 (λ n. n)
+      (passes st m)) (sym h.is)
+      (pass_allowed R key slots st id v.setup (clearing (state_in v) cleared)
+      ((0, Empty) ∷ h.slots) noted h.holds below is even)
 
   -- The epoch of the next seat is noted.
   pub note_at : (key : Setup S) (slots : ℕ) (st : Step (Slot C O)) (id word seat : ℕ)

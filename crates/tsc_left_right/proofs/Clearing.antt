@@ -18,8 +18,8 @@ use Rattle.tsc_left_right.specs.declared.table.Slot.{Slot}
 use Rattle.tsc_left_right.specs.declared.table.SeatState.{SeatState}
 use Rattle.tsc_left_right.specs.declared.table.Knowledge.{Knowledge}
 use Rattle.tsc_left_right.specs.Rule.{keeping, SharedState, LeftRightRule, SeatFits}
-use Rattle.tsc_left_right.specs.Rule.{epoch_word, side_slot, active_side, standby_side}
-use Rattle.tsc_left_right.specs.Steps.{clearing, noting, has_left, clears, notes}
+use Rattle.tsc_left_right.specs.Rule.{epoch_word, head_word, side_slot, active_side, standby_side}
+use Rattle.tsc_left_right.specs.Steps.{clearing, noting, has_left, clears, passes, notes}
 use Rattle.tsc_left_right.proofs.Hands.{Homes, Hand}
 use Rattle.tsc_left_right.proofs.Plain.{some_same}
 use Rattle.tsc_left_right.proofs.Frames.{same_word, other_slots}
@@ -102,17 +102,26 @@ module _ {P C O S E : Type 0} (R : Ghosts P C O S E) where
           free = λ z. absurd (omega (arith, z, taken));
         })
 
-    pub clear_allowed : p.holds ≡ true → p.cleared < t.seats → p.stage ≡ 0
-        → Allows (LeftRightRule R setup) slots id (holder, hand) (epoch_word p.cleared) (λ n. n)
-        (clears st (holder, hand))
-    clear_allowed holds pinned out s k deep at small =
+    -- The next seat has left: its slot of the standby side goes into the writer's hand.
+    abbrev Takes : Board C O S E → ℕ → Type 0
+    Takes s i = (x : Slot C O)
+        × (get_elem? s.homes (side_slot p.cleared (standby_side p.head))
+        ≡ maybe.some (maybe.some x))
+        × LeftRightRule R setup (record {
+          words = set s.words i (slice_index s.words i);
+          homes = set s.homes (side_slot p.cleared (standby_side p.head)) maybe.none;
+          views = set s.views id (keeping t (clearing p (suc p.cleared) ∷ []));
+        })
+
+    takes_next : (s : Board C O S E) (k : LeftRightRule R setup s) (i : ℕ) → p.holds ≡ true
+        → get_elem? s.views id ≡ maybe.some holder → p.cleared < t.seats
+        → k.g.stage_of p.cleared ≢ standby_side k.g.head + 2 → Takes s i
+    takes_next s k i holds at pinned gone_from =
         let all = knows_all R setup s k id t p holds at in
         let g : SharedState E = k.g in
         let hidden : ℕ = standby_side g.head in
-        let i : ℕ = epoch_word p.cleared in
         let e : ℕ = slice_index s.words i in
         let j : ℕ = side_slot p.cleared (standby_side p.head) in
-        let watched : Option ℕ = slice_get p.noted p.cleared in
         let same : (q : ℕ) → slice_index (set s.words i e) q ≡ slice_index s.words q =
         λ q. ap (λ (ws : List ℕ). slice_index ws q) (set-get_or s.words i 0) in
         let within : p.cleared < setup.seats = omega (
@@ -123,15 +132,9 @@ module _ {P C O S E : Type 0} (R : Ghosts P C O S E) where
         let cleared_is = all.cleared in
         let head_is = all.head in
         let here = k.seats p.cleared within in
-        let left : has_left watched e ≡ true → Clears s e = λ gone.
-        let gone_from : g.stage_of p.cleared ≢ hidden + 2 = λ z. not_left watched e
-        (here.pinned (omega (arith, z)))
-        (λ w is. here.late w (ap (λ (l : List ℕ). slice_get l p.cleared) (sym all.noted) ∙ is) z)
-        gone in
         let x = here.standby (omega (arith, cleared_is)) gone_from in
         let homes : Homes C O = set s.homes j maybe.none in (
-          keeping t (clearing p (suc p.cleared) ∷ []),
-          act_takes j x.0,
+          x.0,
           ap (λ (c : ℕ). get_elem? s.homes (side_slot p.cleared c)) (omega (arith, head_is)) ∙ x.1,
           goes_on s k i (suc p.cleared) p.noted homes holds at (length-set s.homes j maybe.none)
               (λ r low. let ok = k.seats r low in record {
@@ -158,7 +161,42 @@ module _ {P C O S E : Type 0} (R : Ghosts P C O S E) where
                 late = λ w is z. same (epoch_word r)
                     ∙ ok.late w (ap (λ (l : List ℕ). slice_get l r) (sym all.noted) ∙ is) z;
               }),
-          ((λ _. (x.0, refl)), (λ f. absurd (false_is_no (sym f ∙ gone)))),
+        )
+
+    -- Who is on the standby side has an odd epoch, as it was noted.
+    as_noted : (s : Board C O S E) (k : LeftRightRule R setup s) → p.holds ≡ true
+        → get_elem? s.views id ≡ maybe.some holder → p.cleared < t.seats
+        → k.g.stage_of p.cleared ≡ standby_side k.g.head + 2
+        → (slice_index s.words (epoch_word p.cleared) % 2 ≡ 1)
+        × ((w : ℕ) → slice_get p.noted p.cleared ≡ Some w
+        → slice_index s.words (epoch_word p.cleared) ≡ w)
+    as_noted s k holds at pinned z =
+        let all = knows_all R setup s k id t p holds at in
+        let here = k.seats p.cleared (omega (
+          arith,
+          pinned,
+          ap (λ (x : Setup S). x.seats) all.same,
+        )) in (
+          here.pinned (omega (arith, z)),
+          λ w is. here.late w (ap (λ (l : List ℕ). slice_get l p.cleared) (sym all.noted) ∙ is) z,
+        )
+
+    pub clear_allowed : p.holds ≡ true → p.cleared < t.seats → p.stage ≡ 0
+        → Allows (LeftRightRule R setup) slots id (holder, hand) (epoch_word p.cleared) (λ n. n)
+        (clears st (holder, hand))
+    clear_allowed holds pinned out s k deep at small =
+        let i : ℕ = epoch_word p.cleared in
+        let e : ℕ = slice_index s.words i in
+        let j : ℕ = side_slot p.cleared (standby_side p.head) in
+        let watched : Option ℕ = slice_get p.noted p.cleared in
+        let left : has_left watched e ≡ true → Clears s e = λ gone.
+        let took = takes_next s k i holds at pinned (λ z. let b = as_noted s k holds at pinned z in
+        not_left watched e b.0 b.1 gone) in (
+          keeping t (clearing p (suc p.cleared) ∷ []),
+          act_takes j took.0,
+          took.1,
+          took.2,
+          ((λ _. (took.0, refl)), (λ f. absurd (false_is_no (sym f ∙ gone)))),
         ) in
         let stays : has_left watched e ≡ false → Clears s e = λ still. (
           holder,
@@ -171,6 +209,21 @@ module _ {P C O S E : Type 0} (R : Ghosts P C O S E) where
         by_test : {P : Type 0} (b : Bool) {c : Bool} → c ≡ b → (c ≡ true → P) → (c ≡ false → P) → P
         by_test {P} true {c} is yes_ no_ = yes_ is
         by_test {P} false {c} is yes_ no_ = no_ is
+
+    -- A seat that was outside when its epoch was noted has left.
+    pub pass_allowed : (w : ℕ) → p.holds ≡ true → p.cleared < t.seats
+        → slice_get p.noted p.cleared ≡ Some w → w % 2 ≡ 0
+        → Allows (LeftRightRule R setup) slots id (holder, hand) head_word (λ n. n)
+        (passes st (holder, hand))
+    pass_allowed w holds pinned is even s k deep at small =
+        let took = takes_next s k head_word holds at pinned (λ z.
+        let b = as_noted s k holds at pinned z in omega (arith, b.0, b.1 w is, even)) in (
+          keeping t (clearing p (suc p.cleared) ∷ []),
+          act_takes (side_slot p.cleared (standby_side p.head)) took.0,
+          took.1,
+          took.2,
+          (took.0, refl),
+        )
 
     -- The epoch of the next seat is noted.
     pub note_allowed : p.holds ≡ true

@@ -145,6 +145,13 @@ module _ {C O S E : Type 0} where
       )))
       × (has_left (slice_get p.noted p.cleared) e ≡ false → me' ≡ me)
 
+  -- The next seat is cleared: its slot of the standby side is in hand.
+  abbrev pub passes : Step (Slot C O) → At C O S E → ℕ → At C O S E → Type 0
+  passes st me found me' = let p = state_in me.0 in (x : Slot C O) × (me' ≡ (
+    with_state me.0 (clearing p (suc p.cleared)),
+    (side_slot p.cleared (standby_side p.head), x) ∷ me.1,
+  ))
+
   -- The epoch of the next seat is noted.
   abbrev pub notes : Step (Slot C O) → At C O S E → ℕ → At C O S E → Type 0
   notes st me e me' = let p = state_in me.0 in

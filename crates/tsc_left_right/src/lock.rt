@@ -1,6 +1,6 @@
 //! What a writer does: it acquires the writer lock, waits until each reader has left the standby
 //! copy, installs handles on that copy, publishes, notes the epochs, and releases the lock.
-ghost use Rattle.std.specs.Prelude.{◌≡◌, [], ◌+◌, length, IfSome, IfNone, true, false};
+ghost use Rattle.std.specs.Prelude.{◌≡◌, [], ◌+◌, ◌%◌, length, IfSome, IfNone, true, false};
 ghost use Rattle.std.specs.Arc.{arc_value};
 ghost use Rattle.tsc_left_right.specs.Rule.{standby_side};
 ghost use Rattle.tsc_left_right.specs.Steps.{state_in, number_of, seen_of};
@@ -12,7 +12,7 @@ ghost use Rattle.tsc_left_right.specs.Participating.{noted_in, published_in, rel
 
 use crate::places::{FIRST, HEAD, epoch_word, has_left, side_slot};
 use crate::replicated::Replicated;
-use crate::steps::{Acquire, Clear, Line, Note, Publish, Release};
+use crate::steps::{Acquire, Clear, Line, Note, Pass, Publish, Release};
 use crate::table::{Participant, ReadHandle, SharedReplicas, Slot, WriterState};
 use std::sync::Arc;
 
@@ -91,6 +91,27 @@ pub(crate) fn clear<P: Replicated>(
     shared.exchange(who, side_slot(seat, standby), Slot::Empty);
     who.turn();
     true
+}
+
+/// Takes the slot of the next seat, whose epoch was noted as even, on the standby side, and leaves it
+/// empty. That seat was outside when HEAD was written last, so it has not been on that side since.
+/// No line of the seat's own is looked at: the step is made at HEAD, which the writer alone writes.
+pub(crate) fn pass<P: Replicated>(
+    shared: &SharedReplicas<P>,
+    who: &mut Participant<P>,
+    seat: u32,
+    standby: u64,
+    noted: u64,
+)
+    requires of { IsOf who.old shared.now.table_id }
+    requires next { IsNext who.old.me.0 seat standby noted × (noted % 2 ≡ 0) }
+    requires writing { IsWriting who.old.me.0 who.old.me seat }
+    ensures table { who.new.table_id ≡ who.old.table_id }
+    ensures cleared { IsWriting who.old.me.0 who.new.me (seat + 1) }
+{
+    shared.load::<Pass>(who, HEAD);
+    shared.exchange(who, side_slot(seat, standby), Slot::Empty);
+    who.turn();
 }
 
 /// Whether there is memory for one more handle on this copy, which has had `length` operations,

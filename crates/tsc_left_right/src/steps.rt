@@ -43,6 +43,15 @@ impl<C, O, S, E> Play<Slot<C, O>, Knowledge<S, E>> for Clear {
     ghost then = { clears };
 }
 
+/// The writer takes the slot of the next seat, which was outside when its epoch was noted.
+pub(crate) struct Pass;
+
+impl<C, O, S, E> Play<Slot<C, O>, Knowledge<S, E>> for Pass {
+    ghost use Rattle.tsc_left_right.specs.Steps.{passes};
+
+    ghost then = { passes };
+}
+
 /// The writer notes the epoch of the next seat.
 pub(crate) struct Note;
 

@@ -6,7 +6,7 @@ ghost use Rattle.tsc_left_right.specs.Waiting.{HasEnd, StillWrites};
 ghost use Rattle.tsc_left_right.specs.Participating.{IsOf, IsFree, IsNext, AreSides, IsWriting};
 ghost use Rattle.tsc_left_right.specs.Participating.{HasAcquired};
 
-use crate::lock::{acquire, clear, first_in_line, set_first};
+use crate::lock::{acquire, clear, first_in_line, pass, set_first};
 use crate::replicated::Replicated;
 use crate::table::{Participant, SharedReplicas, WriterState};
 use crossbeam_utils::Backoff;
@@ -197,7 +197,10 @@ pub(crate) fn wait_for_readers<P: Replicated, W: WaitPolicy>(
         × HasEnd (W.tries policy.now) }
 {
     for seat in 0..seats {
-        if !policy.clear(shared, who, seat, standby, noted[seat as usize]) {
+        let epoch = noted[seat as usize];
+        if epoch % 2 == 0 {
+            pass(shared, who, seat, standby, epoch);
+        } else if !policy.clear(shared, who, seat, standby, epoch) {
             return false;
         }
     }
