@@ -1,6 +1,6 @@
 -- A seat acquires the writer lock.
 use Rattle.std.proofs.Common.{◌≡◌, ◌∙◌, refl, sym, ap, subst, Bool, false, ℕ, ◌+◌}
-use Rattle.std.proofs.Common.{List, [], ◌∷◌, set, arith, slice_index}
+use Rattle.std.proofs.Common.{List, [], ◌∷◌, length, set, arith, slice_index}
 use Rattle.std.proofs.Common.{ne_eqb}
 use Rattle.std.specs.Prelude.{◌==◌, nat_lt}
 use Rattle.std.specs.List.{sum_by}
@@ -57,13 +57,13 @@ module _ {P C O S E : Type 0} (R : Ghosts P C O S E) where
         let mine = only_fits R setup g t p (k.views id acquirer at) in
         let same : t ≡ setup = (k.views id acquirer at).settled refl in
         let nobody : sum_by holders s.views ≡ 0 = k.one ∙ ap (λ n. one_if (nat_lt 0 n)) free in
-        let q : SeatState E = acquired p h g.head in
+        let q : SeatState E = acquired p h g.head here.0.value.noted.items in
         let w : Knowledge S E = keeping t (q ∷ []) in
         let n1 : ℕ = p.number + 1 in
         let words : List ℕ = set s.words 0 n1 in
         let homes : Homes C O = set s.homes 0 maybe.none in
         let idle = k.idle free in
-        let g' : SharedState E = writer_now g n1 g.cleared g.watched in
+        let g' : SharedState E = writer_now g n1 g.cleared g.noted in
         let moved : Moved R setup s k id acquirer w g' words homes = record {
           at = at;
           legal = k.legal;
@@ -80,9 +80,9 @@ module _ {P C O S E : Type 0} (R : Ghosts P C O S E) where
             own_seen = mine.own;
             at_stage = mine.at_stage;
             sees = λ _. refl;
-            holding = λ _. (refl, omega arith, sym idle.0, sym idle.1, refl);
+            holding = λ _. (refl, omega arith, sym idle, here.3.is, refl);
           });
-          others = λ other u apart e. others_fit R setup g n1 g.cleared g.watched u
+          others = λ other u apart e. others_fit R setup g n1 g.cleared g.noted u
               (omega (arith, nobody, part holders s.views other u e)) (k.views other u e);
           each = λ _. refl;
           one = omega (arith, nobody, ap one_if idle_now, ap one_if (lt-ltb 0 n1 (omega arith)));
@@ -108,6 +108,7 @@ module _ {P C O S E : Type 0} (R : Ghosts P C O S E) where
                 own = mine.own;
                 limit = rw same k.limit;
                 is_after = rw same here.2;
+                noted = ap length here.3.is ∙ here.3.long ∙ ap (λ (x : Setup S). x.seats) (sym same);
               },
               refl,
             )),

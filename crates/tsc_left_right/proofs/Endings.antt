@@ -50,7 +50,7 @@ module _ {E : Type 0} where
   )
 
 module _ {C O : Type 0} where
-  abbrev state_or : LaidState C O → Slot C O → LaidState C O
+  abbrev pub state_or : LaidState C O → Slot C O → LaidState C O
   state_or d Empty = d
   state_or d (Writer state) = state
   state_or d (Handle handle) = d

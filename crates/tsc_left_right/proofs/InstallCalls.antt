@@ -1,7 +1,7 @@
 -- A writer installs handles, in the shape that the calls ask for.
 use Rattle.std.proofs.Common.{◌≡◌, ◌∙◌, refl, sym, ap, subst, Bool, true, false, ℕ, suc, ◌+◌, ◌<◌}
 use Rattle.std.proofs.Common.{◌≤◌, [], ◌∷◌, ◌++◌, append_assoc, arith}
-use Rattle.std.specs.Prelude.{None, ◌&&◌}
+use Rattle.std.specs.Prelude.{◌&&◌}
 use Rattle.atomic_table.specs.Table.{rest, turned}
 use Rattle.tsc_left_right.specs.declared.table.Slot.{Slot}
 use Rattle.tsc_left_right.specs.declared.table.Slot.TheVariants.{Empty}
@@ -36,7 +36,7 @@ module _ {C O S E : Type 0} where
     pub todo : Hand C O
     pub done : Hand C O
     pub is : me ≡ (
-      cleared_in v seats None,
+      cleared_in v seats,
       todo ++ (0, Empty) ∷ done,
     )
     pub left : Filled Anything (standby_side (state_in v).head) seat todo seats
@@ -45,7 +45,7 @@ module _ {C O S E : Type 0} where
     pub unpinned : (state_in v).stage ≡ 0
 
   pub installs_none : (v : Knowledge S E) (me me' : At C O S E) (cache : C) (adds seats : ℕ)
-      → (h : IsWriting v me seats None) → me' ≡ (me.0, turned me.1)
+      → (h : IsWriting v me seats) → me' ≡ (me.0, turned me.1)
       → Installs v me' cache adds 0 seats true
   installs_none v me me' cache adds seats h turned_is = record {
     todo = h.slots;
@@ -75,7 +75,7 @@ module _ {C O S E : Type 0} where
       more = omega arith
 
       by_todo : (todo : Hand C O) → me ≡ (
-        cleared_in v seats None,
+        cleared_in v seats,
         todo ++ (0, Empty) ∷ h.done,
       ) → Filled Anything side seat todo seats
           → Installs v me₂ cache adds (seat + 1) seats all'
@@ -85,7 +85,7 @@ module _ {C O S E : Type 0} where
         done = h.done ++ (side_slot seat side, y) ∷ [];
         is = turned_is ∙ (λ i. ((laid_is i).0, turned (laid_is i).1))
             ∙ (λ i. ((is i).0, rest (is i).1 ++ (at i, y) ∷ []))
-            ∙ ap (λ (l : Hand C O). (cleared_in v seats None, l))
+            ∙ ap (λ (l : Hand C O). (cleared_in v seats, l))
             (append_assoc todo ((0, Empty) ∷ h.done) ((side_slot seat side, y) ∷ []));
         left = subst (λ (n : ℕ). Filled Anything side n todo seats) more left.2;
         so_far = subst (λ (b : Bool). Filled (LaidAs b cache adds) side 0
@@ -108,7 +108,7 @@ module _ {C O S E : Type 0} where
   first_todo v cache me adds seat seats slot all h low at = by_todo h.todo h.is h.left
     where
       by_todo : (todo : Hand C O) → me ≡ (
-        cleared_in v seats None,
+        cleared_in v seats,
         todo ++ (0, Empty) ∷ h.done,
       )
           → Filled Anything (standby_side (state_in v).head) seat todo seats → (y : Slot C O)
@@ -121,15 +121,15 @@ module _ {C O S E : Type 0} where
   -- All were installed, or some.
   pub installed_some : (v : Knowledge S E) (cache : C) (me : At C O S E) (adds seat seats : ℕ)
       (all : Bool) → Installs v me cache adds seat seats all → seats ≤ seat
-      → IsWriting v me seats None
+      → IsWriting v me seats
   installed_some v cache me adds seat seats all h high = by_todo h.todo h.is h.left
     where
       by_todo : (todo : Hand C O) → me ≡ (
-        cleared_in v seats None,
+        cleared_in v seats,
         todo ++ (0, Empty) ∷ h.done,
       )
           → Filled Anything (standby_side (state_in v).head) seat todo seats
-          → IsWriting v me seats None
+          → IsWriting v me seats
       by_todo [] is left = record {
         slots = h.done;
         is = is;
@@ -153,7 +153,7 @@ module _ {C O S E : Type 0} where
   installed_all v cache me adds seat seats all h high is_all = by_todo h.todo h.is h.left
     where
       by_todo : (todo : Hand C O) → me ≡ (
-        cleared_in v seats None,
+        cleared_in v seats,
         todo ++ (0, Empty) ∷ h.done,
       )
           → Filled Anything (standby_side (state_in v).head) seat todo seats

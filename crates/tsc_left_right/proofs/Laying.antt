@@ -115,7 +115,7 @@ module _ {P C O S E : Type 0} (R : Ghosts P C O S E) where
       (opening words slots (first_knowledge setup))
   opens setup state words slots blank first laid = subst (λ (ws : List ℕ). LeftRightRule R setup
       (opening ws slots (first_knowledge setup))) (sym blank)
-      (opening_kept R setup state slots first.is_after (record {
+      (opening_kept R setup state slots first.is_after first.noted (record {
         deep = laid.deep;
         writer = laid.writer;
         active = λ r low. let x = laid.active r low in (

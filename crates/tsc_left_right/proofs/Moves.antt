@@ -2,8 +2,8 @@
 use Rattle.std.proofs.Common.{◌≡◌, ◌≢◌, ◌∙◌, inl, inr, refl, sym, ap, subst, true, ℕ, zero}
 use Rattle.std.proofs.Common.{suc, ◌+◌, ◌<◌, ◌≤◌, List, [], ◌∷◌, length, set, arith}
 use Rattle.std.proofs.Common.{slice_index, ◌%◌}
-use Rattle.std.specs.Prelude.{Option, None, Bool, ◌==◌, nat_lt}
-use Rattle.std.specs.List.{sum_by}
+use Rattle.std.specs.Prelude.{Bool, ◌==◌, nat_lt}
+use Rattle.std.specs.List.{sum_by, slice_get}
 use mathlib.Core.Option as maybe
 use mathlib.Core.Option.{some-injective, some-ne-none}
 use lib.ListN.{get_elem?}
@@ -17,7 +17,7 @@ use Rattle.tsc_left_right.specs.declared.table.Slot.{Slot}
 use Rattle.tsc_left_right.specs.declared.table.Slot.TheVariants.{Writer}
 use Rattle.tsc_left_right.specs.declared.table.SeatState.{SeatState}
 use Rattle.tsc_left_right.specs.declared.table.Knowledge.{Knowledge}
-use Rattle.tsc_left_right.specs.Rule.{LaidState, keeping, one_if, SharedState, LeftRightRule}
+use Rattle.tsc_left_right.specs.Rule.{LaidState, keeping, one_if, SharedState, LeftRightRule, HasNoted}
 use Rattle.tsc_left_right.specs.Rule.{active_side, standby_side, epoch_word, side_slot}
 use Rattle.tsc_left_right.specs.Rule.{SeatFits, KnowledgeFits, WriterFits}
 use Rattle.tsc_left_right.specs.Rule.{StateFits, IsAfter, states_of, holders}
@@ -35,14 +35,14 @@ Board C O S E = State (Slot C O) (Knowledge S E)
 
 module _ {E : Type 0} where
   -- the lock and what is the writer's change
-  abbrev pub writer_now : SharedState E → ℕ → ℕ → Option ℕ → SharedState E
-  writer_now g word cleared watched = record {
+  abbrev pub writer_now : SharedState E → ℕ → ℕ → List ℕ → SharedState E
+  writer_now g word cleared noted = record {
     history = g.history;
     head = g.head;
     word = word;
     stage_of = g.stage_of;
     cleared = cleared;
-    watched = watched;
+    noted = noted;
   }
 
   -- A state that holds the lock counts.
@@ -86,10 +86,11 @@ module _ {P C O S E : Type 0} (R : Ghosts P C O S E) where
         → get_elem? s.views other ≡ maybe.some u → KnowledgeFits R setup g u
     pub each : (number : ℕ) → states_of number w ≡ states_of number v
     pub one : sum_by holders s.views + holders w ≡ one_if (nat_lt 0 g.word) + holders v
-    pub idle : g.word ≡ 0 → (g.cleared ≡ 0) × (g.watched ≡ None)
+    pub idle : g.word ≡ 0 → g.cleared ≡ 0
     pub free : g.word ≡ 0 → (state : LaidState C O)
         × (get_elem? homes 0 ≡ maybe.some (maybe.some (Writer state)))
         × IsAfter R setup g.history g.head state.value
+        × HasNoted setup.seats g.noted state.value
 
   pub moved_kept : (setup : Setup S) (s : Board C O S E) (k : LeftRightRule R setup s) (id : ℕ)
       (v w : Knowledge S E) (g : SharedState E) (words : List ℕ) (homes : Homes C O)
@@ -176,7 +177,7 @@ module _ {P C O S E : Type 0} (R : Ghosts P C O S E) where
     pub all : p.seen ≡ k.g.history
     pub taken : k.g.word ≡ suc p.number
     pub cleared : p.cleared ≡ k.g.cleared
-    pub watched : p.watched ≡ k.g.watched
+    pub noted : p.noted ≡ k.g.noted
     pub head : p.head ≡ k.g.head
     pub low : p.number < setup.seats
     pub one : sum_by holders s.views ≡ 1
@@ -199,7 +200,7 @@ module _ {P C O S E : Type 0} (R : Ghosts P C O S E) where
         all = knows.0;
         taken = is_taken;
         cleared = knows.2;
-        watched = knows.3;
+        noted = knows.3;
         head = knows.4;
         low = low_number setup s k v id at 0 p refl;
         one = total;
@@ -232,11 +233,11 @@ module _ {P C O S E : Type 0} (R : Ghosts P C O S E) where
   pub seat_same : (setup : Setup S) (g g' : SharedState E) (words words' : List ℕ)
       (homes homes' : Homes C O) (r : ℕ)
       → g'.history ≡ g.history → g'.head ≡ g.head → g'.stage_of r ≡ g.stage_of r
-      → g'.cleared ≡ g.cleared → g'.watched ≡ g.watched
+      → g'.cleared ≡ g.cleared → g'.noted ≡ g.noted
       → slice_index words' (epoch_word r) ≡ slice_index words (epoch_word r)
       → ((side : ℕ) → side < 2 → get_elem? homes' (side_slot r side) ≡ get_elem? homes
       (side_slot r side)) → SeatFits R setup g words homes r → SeatFits R setup g' words' homes' r
-  seat_same setup g g' words words' homes homes' r history head stage cleared watched epoch sides
+  seat_same setup g g' words words' homes homes' r history head stage cleared noted epoch sides
       ok = record {
         unpinned = λ z. ap (λ (e : ℕ). e % 2) epoch ∙ ok.unpinned (sym stage ∙ z);
         pinned = λ z. ap (λ (e : ℕ). e % 2) epoch ∙ ok.pinned (omega (arith, z, stage));
@@ -253,15 +254,15 @@ module _ {P C O S E : Type 0} (R : Ghosts P C O S E) where
                   ∙ sides (standby_side g.head) (omega arith) ∙ x.1,
             );
         left = λ c z. ok.left (omega (arith, c, cleared)) (omega (arith, z, stage, head));
-        late = λ e a b c. epoch ∙ ok.late e (omega (arith, a, cleared)) (sym watched ∙ b)
+        late = λ e b c. epoch ∙ ok.late e (ap (λ (l : List ℕ). slice_get l r) (sym noted) ∙ b)
             (omega (arith, c, stage, head));
       }
 
   -- What a participant knows that does not hold the lock fits as before,
-  pub others_fit : (setup : Setup S) (g : SharedState E) (word cleared : ℕ) (watched : Option ℕ)
+  pub others_fit : (setup : Setup S) (g : SharedState E) (word cleared : ℕ) (noted : List ℕ)
       (u : Knowledge S E) → holders u ≡ 0 → KnowledgeFits R setup g u
-      → KnowledgeFits R setup (writer_now g word cleared watched) u
-  others_fit setup g word cleared watched u none was = record {
+      → KnowledgeFits R setup (writer_now g word cleared noted) u
+  others_fit setup g word cleared noted u none was = record {
     settled = was.settled;
     states = λ i x d. let f = was.states i x d in record {
       begins = f.begins;
@@ -276,12 +277,12 @@ module _ {P C O S E : Type 0} (R : Ghosts P C O S E) where
 
   -- and so does a state by which its seat has seen as much.
   pub writer_fits : (g : SharedState E) (p : SeatState E) (holds : Bool) (word head cleared : ℕ)
-      (watched : Option ℕ) (cleared' : ℕ) (watched' : Option ℕ) → StateFits R g p
-      → (holds ≡ true → WriterFits (writer_now g word cleared' watched')
-      (record p { holds = holds; head = head; cleared = cleared; watched = watched }))
-      → StateFits R (writer_now g word cleared' watched')
-      (record p { holds = holds; head = head; cleared = cleared; watched = watched })
-  writer_fits g p holds word head cleared watched cleared' watched' mine knows = record {
+      (noted : List ℕ) (cleared' : ℕ) (noted' : List ℕ) → StateFits R g p
+      → (holds ≡ true → WriterFits (writer_now g word cleared' noted')
+      (record p { holds = holds; head = head; cleared = cleared; noted = noted }))
+      → StateFits R (writer_now g word cleared' noted')
+      (record p { holds = holds; head = head; cleared = cleared; noted = noted })
+  writer_fits g p holds word head cleared noted cleared' noted' mine knows = record {
     begins = mine.begins;
     own = mine.own;
     own_seen = mine.own_seen;

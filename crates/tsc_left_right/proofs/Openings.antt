@@ -1,7 +1,7 @@
 -- The rule holds when the table is made.
 use Rattle.std.proofs.Common.{◌≡◌, ◌∙◌, inl, inr, refl, sym, ap, subst, Bool, true, false}
 use Rattle.std.proofs.Common.{ℕ, zero, suc, ◌+◌, ◌%◌, ◌<◌, ◌≤◌, List, [], ◌∷◌, length, arith}
-use Rattle.std.specs.Prelude.{◌==◌, nat_lt, None, replicate, slice_index}
+use Rattle.std.specs.Prelude.{◌==◌, nat_lt, replicate, slice_index}
 use Rattle.std.specs.List.{sum_by}
 use mathlib.Core.Option as maybe
 use mathlib.Core.Option.{some-injective, some-ne-none}
@@ -21,7 +21,7 @@ use Rattle.tsc_left_right.specs.Rule.{LeftRightRule, KnowledgeFits, StateFits, s
 use Rattle.tsc_left_right.specs.Rule.{first_knowledge, fresh_states}
 use Rattle.tsc_left_right.specs.Rule.{word_count, slot_count}
 use Rattle.tsc_left_right.proofs.Prefixes.{begins_empty, legal_empty}
-use Rattle.tsc_left_right.proofs.Plain.{same_number, false_is_no, none_is_no}
+use Rattle.tsc_left_right.proofs.Plain.{same_number, false_is_no}
 use Rattle.tsc_left_right.proofs.Plain.{other_number, same_or_not, blank_at}
 use Rattle.tsc_left_right.specs.declared.replicated.Replicated.{Ghosts}
 
@@ -107,25 +107,26 @@ module _ {P C O S E : Type 0} (R : Ghosts P C O S E) where
     pub standby : (r : ℕ) → r < setup.seats → (x : Slot C O) × (get_elem? slots (side_slot r 1)
         ≡ maybe.some x)
 
-  first_shared : SharedState E
-  first_shared = record {
+  first_shared : List ℕ → SharedState E
+  first_shared noted = record {
     history = [];
     head = 0;
     word = 0;
     stage_of = λ _. 0;
     cleared = 0;
-    watched = None;
+    noted = noted;
   }
 
   pub opening_kept : (setup : Setup S) (state : LaidState C O) (slots : List (Slot C O))
-      → IsAfter R setup [] 0 state.value → IsOpening setup state slots
+      → IsAfter R setup [] 0 state.value → length state.value.noted.items ≡ setup.seats
+      → IsOpening setup state slots
       → LeftRightRule R setup (opening (replicate (word_count setup.seats) 0) slots
       (first_knowledge setup))
   unfolding first_shared
-  opening_kept setup state slots after laid =
+  opening_kept setup state slots after noted laid =
       let blank : (i : ℕ) → slice_index (replicate (word_count setup.seats) 0) i ≡ 0 =
       blank_at (word_count setup.seats) in record {
-        g = first_shared;
+        g = first_shared state.value.noted.items;
         legal = legal_empty R setup.settings setup.seats;
         limit = omega arith;
         shape = record {
@@ -140,7 +141,7 @@ module _ {P C O S E : Type 0} (R : Ghosts P C O S E) where
           active = λ _. (x.0, at_map maybe.some slots (side_slot r 0) x.0 x.1, x.2);
           standby = λ _ _. (y.0, at_map maybe.some slots (side_slot r 1) y.0 y.1);
           left = λ z. absurd (omega (arith, z));
-          late = λ e _ z. absurd (none_is_no e z);
+          late = λ e _ z. absurd (omega (arith, z));
         };
         views = at;
         each = λ number. omega (
@@ -153,17 +154,17 @@ module _ {P C O S E : Type 0} (R : Ghosts P C O S E) where
           sum_by-cons (holders {S = S} {E = E}) (first_knowledge setup) [],
           nobody_fresh 0 setup.seats,
         );
-        idle = λ _. (refl, refl);
-        free = λ _. (state, at_map maybe.some slots 0 (Writer state) laid.writer, after);
+        idle = λ _. refl;
+        free = λ _. (state, at_map maybe.some slots 0 (Writer state) laid.writer, after, record { is = refl; long = noted });
       }
     where
       at : (id : ℕ) (v : Knowledge S E) → get_elem? (first_knowledge setup ∷ []) id ≡ maybe.some v
-          → KnowledgeFits R setup first_shared v
-      at zero v e = subst (KnowledgeFits R setup first_shared) (some-injective
+          → KnowledgeFits R setup (first_shared state.value.noted.items) v
+      at zero v e = subst (KnowledgeFits R setup (first_shared state.value.noted.items)) (some-injective
           (first_knowledge setup) v
           e) (record {
             settled = λ _. refl;
-            states = λ i p e'. subst (StateFits R first_shared) (sym
+            states = λ i p e'. subst (StateFits R (first_shared state.value.noted.items)) (sym
                 (fresh_at 0 setup.seats i p e')) (record {
                   begins = begins_empty [];
                   own = refl;

@@ -2,6 +2,7 @@
 use Rattle.std.proofs.Common.{◌≡◌, ◌∙◌, refl, sym, ap, subst, ℕ, ◌+◌, ◌<◌, [], ◌∷◌}
 use Rattle.std.proofs.Common.{◌++◌, length}
 use Rattle.std.specs.Prelude.{Option, None, Result, Ok, Err, IfOk, IfErr, List}
+use Rattle.std.specs.Global.{Vec}
 use Rattle.std.specs.Arc.{arc_value}
 use Rattle.std.specs.declared.sync.Arc.{Arc}
 use Rattle.std.specs.declared.alloc.Global.{Global}
@@ -18,7 +19,7 @@ use Rattle.tsc_left_right.specs.declared.round.Outcome.{Outcome}
 use Rattle.tsc_left_right.specs.declared.round.Outcome.TheVariants.{Busy, Made, Refused}
 use Rattle.tsc_left_right.specs.Histories.{own_count, IsLegal}
 use Rattle.tsc_left_right.specs.Copies.{CanBe, HandleLags, MayTake}
-use Rattle.tsc_left_right.specs.Rule.{at_rest, IsAfter}
+use Rattle.tsc_left_right.specs.Rule.{at_rest, IsAfter, HasNoted}
 use Rattle.tsc_left_right.specs.Steps.{At, state_in, with_state, seated, number_of, seen_of}
 use Rattle.tsc_left_right.specs.Steps.{count_of, acquired}
 use Rattle.tsc_left_right.specs.Participating.{IsNumber, IsAtRest, IsWriting, CanAdd}
@@ -37,12 +38,12 @@ module _ {P C O S E : Type 0} (R : Ghosts P C O S E) where
   new_writer me me' state rested a =
       let p : SeatState E = at_rest (number_of me.0) (seen_of me.0) (count_of me.0) in
       let is : me' ≡ (
-        with_state (resting me.0) (acquired p a.0.history a.0.head),
+        with_state (resting me.0) (acquired p a.0.history a.0.head state.noted.items),
         (0, Empty) ∷ [],
       ) =
       (λ i. (a.0.after i, a.1 i))
       ∙ (λ i. let m = rested i in (
-        with_state m.0 (acquired (state_in m.0) a.0.history a.0.head),
+        with_state m.0 (acquired (state_in m.0) a.0.history a.0.head state.noted.items),
         (0, Empty) ∷ [],
       )) in
       subst (λ (m : At C O S E). IsNewWriter R m state) (sym is) (record {
@@ -52,12 +53,13 @@ module _ {P C O S E : Type 0} (R : Ghosts P C O S E) where
         own = a.0.own;
         limit = a.0.limit;
         is_after = a.0.is_after;
+        noted = a.0.noted;
       })
 
   -- The new writer writes.
   pub new_writes : (me : At C O S E) (state : WriterState C O) → IsNewWriter R me state
-      → IsWriting me.0 me 0 None
-  new_writes me state w = subst (λ (m : At C O S E). IsWriting m.0 m 0 None) (sym w.is) (record {
+      → IsWriting me.0 me 0
+  new_writes me state w = subst (λ (m : At C O S E). IsWriting m.0 m 0) (sym w.is) (record {
     slots = [];
     is = refl;
     filled = refl;
@@ -66,37 +68,47 @@ module _ {P C O S E : Type 0} (R : Ghosts P C O S E) where
   })
 
   -- what the new writer knows when it has cleared so many seats
-  cleared_new : (me me' : At C O S E) (cleared : ℕ) (watched : Option ℕ) (state : WriterState C O)
-      → (n : IsNewWriter R me state) → IsWriting me.0 me' cleared watched → me'.0 ≡ cleared_in (
+  cleared_new : (me me' : At C O S E) (cleared : ℕ) (state : WriterState C O)
+      → (n : IsNewWriter R me state) → IsWriting me.0 me' cleared → me'.0 ≡ cleared_in (
       with_state me.0
       (acquired (at_rest (number_of me.0) (seen_of me.0) (count_of me.0)) (seen_of me.0)
-      n.head)
-      ) cleared watched
-  cleared_new me me' cleared watched state n w =
-      ap (λ (m : At C O S E). m.0) w.is ∙ (λ i. cleared_in (n.is i).0 cleared watched)
+      n.head state.noted.items)
+      ) cleared
+  cleared_new me me' cleared state n w =
+      ap (λ (m : At C O S E). m.0) w.is ∙ (λ i. cleared_in (n.is i).0 cleared)
+
+  -- It knows all epochs that were noted.
+  noted_new : (me me' : At C O S E) (cleared : ℕ) (state : WriterState C O)
+      → IsNewWriter R me state → IsWriting me.0 me' cleared
+      → HasNoted me'.0.setup.seats (state_in me'.0).noted state
+  noted_new me me' cleared state n w = subst (λ (u : Knowledge S E). HasNoted u.setup.seats
+      (state_in u).noted state) (sym (cleared_new me me' cleared state n w))
+      (record { is = refl; long = n.noted })
 
   -- It may release the lock without an operation.
-  pub leaves_at : (me me' : At C O S E) (cleared : ℕ) (watched : Option ℕ) (state : WriterState C O)
-      → IsNewWriter R me state → IsWriting me.0 me' cleared watched → MayLeave R me.0 me' state
-  leaves_at me me' cleared watched state n w = record {
+  pub leaves_at : (me me' : At C O S E) (cleared : ℕ) (state : WriterState C O)
+      → IsNewWriter R me state → IsWriting me.0 me' cleared → MayLeave R me.0 me' state
+  leaves_at me me' cleared state n w = record {
     release = record {
-      lock = (cleared, watched, writing_self me.0 me' cleared watched w);
+      lock = (cleared, writing_self me.0 me' cleared w);
       is_after = subst (λ (u : Knowledge S E). IsAfter R u.setup (seen_of u)
-          (state_in u).head state) (sym (cleared_new me me' cleared watched state n w)) n.is_after;
+          (state_in u).head state) (sym (cleared_new me me' cleared state n w)) n.is_after;
+      noted = noted_new me me' cleared state n w;
     };
     same = ap (λ (m : At C O S E). released_in m.0) w.is;
   }
 
   -- It may prepare an operation for which there is room.
   pub may_prepare : (me me₁ : At C O S E) (setup : Setup S) (state : WriterState C O) (op : O)
-      (cleared : ℕ) → IsNewWriter R me state → IsWriting me.0 me₁ cleared None
+      (cleared : ℕ) → IsNewWriter R me state → IsWriting me.0 me₁ cleared
       → setup ≡ me.0.setup → CanBe R setup op → state.length < setup.limit
       → MayPrepare R cleared me₁ state op
   may_prepare me me₁ setup state op cleared n w same can room =
-      let is = cleared_new me me₁ cleared None state n w in
+      let is = cleared_new me me₁ cleared state n w in
       let to : setup ≡ me₁.0.setup = same ∙ sym (ap (λ (m : At C O S E). m.0.setup) w.is) in
       record {
-        writing = writing_self me.0 me₁ cleared None w;
+        writing = writing_self me.0 me₁ cleared w;
+        noted = noted_new me me₁ cleared state n w;
         legal = subst (λ (u : Knowledge S E). IsLegal R u.setup.settings u.setup.seats (seen_of u))
             (sym is) n.legal;
         own = subst (λ (u : Knowledge S E). own_count R (number_of u) (seen_of u) ≡ count_of u)
@@ -124,22 +136,23 @@ module _ {P C O S E : Type 0} (R : Ghosts P C O S E) where
 
   -- The writer knows the same once handles are installed.
   installed_same : (me me₂ : At C O S E) (seats : ℕ) (state : WriterState C O) (op : O)
-      → MayPrepare R seats me state op → me₂.0 ≡ cleared_in me.0 seats None → me₂.0 ≡ me.0
+      → MayPrepare R seats me state op → me₂.0 ≡ cleared_in me.0 seats → me₂.0 ≡ me.0
   installed_same me me₂ seats state op m is =
       is ∙ sym (ap (λ (x : At C O S E). x.0) m.writing.is)
 
   -- If there was no memory for all of them, it may release the lock.
   pub back_leaves : (me me₂ : At C O S E) (seats : ℕ) (state state₂ : WriterState C O) (op : O)
-      → MayPrepare R seats me state op → IsWriting me.0 me₂ seats None
+      → MayPrepare R seats me state op → IsWriting me.0 me₂ seats
       → state₂.copies.active ≡ state.copies.active → state₂.copies.standby ≡ None
-      → state₂.length ≡ state.length → state₂.head ≡ state.head → MayLeave R me.0 me₂ state₂
-  back_leaves me me₂ seats state state₂ op m w active none long head =
+      → state₂.length ≡ state.length → state₂.head ≡ state.head
+      → state₂.noted ≡ state.noted → MayLeave R me.0 me₂ state₂
+  back_leaves me me₂ seats state state₂ op m w active none long head noted =
       let after = m.is_after in
       let t : Setup S = me.0.setup in
       let same : me₂.0 ≡ me.0 = installed_same me me₂ seats state op m
       (ap (λ (x : At C O S E). x.0) w.is) in record {
         release = record {
-          lock = (seats, None, writing_self me.0 me₂ seats None w);
+          lock = (seats, writing_self me.0 me₂ seats w);
           is_after = subst (λ (u : Knowledge S E). IsAfter R u.setup (seen_of u) (state_in u).head
               state₂) (sym same) (record {
                 stand = record {
@@ -150,6 +163,11 @@ module _ {P C O S E : Type 0} (R : Ghosts P C O S E) where
                 };
                 length = long ∙ after.length;
                 head_is = head ∙ after.head_is;
+              });
+          noted = subst (λ (u : Knowledge S E). HasNoted u.setup.seats (state_in u).noted state₂)
+              (sym same) (record {
+                is = ap (λ (x : Vec ℕ). x.items) noted ∙ m.noted.is;
+                long = m.noted.long;
               });
         };
         same = ap released_in same;
@@ -256,7 +274,8 @@ module _ {P C O S E : Type 0} (R : Ghosts P C O S E) where
         (answer : A) → HasAcquired R me.0 me₁ state → IsApplied R answers me₁.0 me₂ op place answer
         → IsApplied R answers me.0 me₂ op place answer
     since_applied me me₁ me₂ state op place answer a i =
-        let w : Knowledge S E = with_state me.0 (acquired (state_in me.0) a.0.history a.0.head) in
+        let w : Knowledge S E = with_state me.0 (acquired (state_in me.0) a.0.history a.0.head
+        state.noted.items) in
         let q : IsApplied R answers w me₂ op place answer =
         subst (λ (v : Knowledge S E). IsApplied R answers v me₂ op place answer) a.0.after i in
         record {
@@ -274,7 +293,8 @@ module _ {P C O S E : Type 0} (R : Ghosts P C O S E) where
         (seen : ℕ) (why : NotApplied) → HasAcquired R me.0 me₁ state
         → IsNotApplied R tries me₁.0 me₂ seen why → IsNotApplied R tries me.0 me₂ seen why
     since_not_applied tries me me₁ me₂ state seen why a i =
-        let w : Knowledge S E = with_state me.0 (acquired (state_in me.0) a.0.history a.0.head) in
+        let w : Knowledge S E = with_state me.0 (acquired (state_in me.0) a.0.history a.0.head
+        state.noted.items) in
         let q : IsNotApplied R tries w me₂ seen why =
         subst (λ (v : Knowledge S E). IsNotApplied R tries v me₂ seen why) a.0.after i in record {
           history = q.history;

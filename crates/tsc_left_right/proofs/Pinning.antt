@@ -38,7 +38,7 @@ module _ {E : Type 0} where
     stage_of =
         put g.stage_of n stage;
     cleared = g.cleared;
-    watched = g.watched;
+    noted = g.noted;
   }
 
 module _ {P C O S E : Type 0} (R : Ghosts P C O S E) where
@@ -98,7 +98,7 @@ module _ {P C O S E : Type 0} (R : Ghosts P C O S E) where
         each = λ r. omega (arith, ap (λ (c : ℕ). one_if (c == r)) m.number_same);
         one = omega (arith, k.one, ap one_if m.holds_same);
         idle = k.idle;
-        free = λ z. let f = k.free z in (f.0, m.lock_slot_same ∙ f.1, f.2);
+        free = λ z. let f = k.free z in (f.0, m.lock_slot_same ∙ f.1, f.2, f.3);
       })
 
   module _ (setup : Setup S) (slots : ℕ) (st : Step (Slot C O)) (id : ℕ) (t : Setup S)
@@ -141,7 +141,7 @@ module _ {P C O S E : Type 0} (R : Ghosts P C O S E) where
               active = λ _. ok.active (λ z. omega (arith, z, is));
               standby = λ c _. ok.standby c (λ z. omega (arith, z, is));
               left = λ _ z. omega (arith, z, stage);
-              late = λ _ _ _ z. absurd (omega (arith, z, stage));
+              late = λ _ _ z. absurd (omega (arith, z, stage));
             };
             number_same = refl;
             holds_same = refl;
@@ -204,7 +204,7 @@ module _ {P C O S E : Type 0} (R : Ghosts P C O S E) where
                     (λ z. omega (arith, z, head)) ∙ y.1,
               );
               left = λ _ z. omega (arith, z, stage, head);
-              late = λ _ _ _ z. absurd (omega (arith, z, stage, head));
+              late = λ _ _ z. absurd (omega (arith, z, stage, head));
             };
             number_same = refl;
             holds_same = refl;
@@ -302,7 +302,7 @@ module _ {P C O S E : Type 0} (R : Ghosts P C O S E) where
                     (λ z. let u = ok.standby c (λ d. z (omega (arith, d, is))) in
                     (u.0, beside (standby_side g.head) z ∙ u.1));
                 left = λ _ z. omega (arith, z, stage);
-                late = λ _ _ _ z. absurd (omega (arith, z, stage));
+                late = λ _ _ z. absurd (omega (arith, z, stage));
               };
               number_same = refl;
               holds_same = refl;

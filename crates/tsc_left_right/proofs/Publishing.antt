@@ -128,7 +128,7 @@ module _ {P C O S E : Type 0} (R : Ghosts P C O S E) where
           word = g.word;
           stage_of = g.stage_of;
           cleared = 0;
-          watched = None;
+          noted = [];
         } in
         let P : Slot C O → Type 0 = IsHandleOn (arc_value state.value.copies.active)
         state.value.length in
@@ -181,7 +181,7 @@ module _ {P C O S E : Type 0} (R : Ghosts P C O S E) where
                       filled (λ q _ _ z. omega (arith, z, head_is)) ∙ x.1,
                 );
                 left = λ z. absurd (omega (arith, z));
-                late = λ b _ z. absurd (none_is_no b z);
+                late = λ b z. absurd (none_is_no b z);
               };
           fits = of_one R t (flipped R p add) all.same (record {
             begins = begins_itself h';

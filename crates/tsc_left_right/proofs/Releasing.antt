@@ -1,7 +1,7 @@
 -- A writer releases the lock.
 use Rattle.std.proofs.Common.{◌≡◌, ◌∙◌, refl, sym, ap, subst, true, ℕ, ◌%◌}
-use Rattle.std.proofs.Common.{List, [], ◌∷◌, ◌++◌, set, arith}
-use Rattle.std.specs.Prelude.{None, false}
+use Rattle.std.proofs.Common.{List, [], ◌∷◌, ◌++◌, length, set, arith}
+use Rattle.std.specs.Prelude.{false}
 use mathlib.Core.Logic.{dite}
 use native.Mathlib.Decide.{dec_le}
 use mathlib.Core.Option as maybe
@@ -14,12 +14,11 @@ use Rattle.tsc_left_right.specs.declared.table.Slot.TheVariants.{Writer}
 use Rattle.tsc_left_right.specs.declared.table.SeatState.{SeatState}
 use Rattle.tsc_left_right.specs.declared.table.Knowledge.{Knowledge}
 use Rattle.tsc_left_right.specs.Rule.{keeping, one_if, LaidState, SharedState, LeftRightRule}
-use Rattle.tsc_left_right.specs.Rule.{IsAfter}
+use Rattle.tsc_left_right.specs.Rule.{IsAfter, HasNoted}
 use Rattle.tsc_left_right.specs.Rule.{side_slot, active_side, standby_side}
 use Rattle.tsc_left_right.specs.Steps.{Filled, Anything, released}
 use Rattle.tsc_left_right.proofs.Hands.{Homes, Hand, put_all, give_all, given_homes, given_none}
 use Rattle.tsc_left_right.proofs.Hands.{given_valid, put_length, put_apart, put_among}
-use Rattle.tsc_left_right.proofs.Plain.{none_is_no}
 use Rattle.tsc_left_right.proofs.Frames.{lock_word, other_slot, other_slots}
 use Rattle.tsc_left_right.proofs.Moves.{Moved, moved_kept, of_one, knows_all}
 use Rattle.tsc_left_right.proofs.Plain.{false_is_no, epoch_same}
@@ -37,10 +36,10 @@ module _ {P C O S E : Type 0} (R : Ghosts P C O S E) where
 
     pub release_allowed : p.holds ≡ true
         → Filled Anything (standby_side p.head) 0 sides p.cleared
-        → IsAfter R t p.seen p.head state.value
+        → IsAfter R t p.seen p.head state.value → HasNoted t.seats p.noted state.value
         → Allows (LeftRightRule R setup) slots id (releaser, hand) 0 (λ _. 0)
         (λ _ me'. me' ≡ (keeping t (released p ∷ []), []))
-    release_allowed holds filled after s k deep at small =
+    release_allowed holds filled after noted s k deep at small =
         let all = knows_all R setup s k id t p holds at in
         let g : SharedState E = k.g in
         let w : Knowledge S E = keeping t (released p ∷ []) in
@@ -51,7 +50,7 @@ module _ {P C O S E : Type 0} (R : Ghosts P C O S E) where
         let one = all.one in
         let cleared_is = all.cleared in
         let head_is = all.head in
-        let g' : SharedState E = writer_now g 0 0 None in
+        let g' : SharedState E = writer_now g 0 0 g.noted in
         let moved : Moved R setup s k id releaser w g' words homes = record {
           at = at;
           legal = k.legal;
@@ -96,16 +95,16 @@ module _ {P C O S E : Type 0} (R : Ghosts P C O S E) where
                           (maybe.some (Writer state)) (λ z. omega (arith, z)) ∙ x.1,
                     ));
                 left = λ z. absurd (omega (arith, z));
-                late = λ e _ z. absurd (none_is_no e z);
+                late = λ e b z. epoch ∙ ok.late e b z;
               };
-          fits = of_one R t (released p) all.same (writer_fits R g p false 0 0 0 None 0 None
+          fits = of_one R t (released p) all.same (writer_fits R g p false 0 0 0 [] 0 g.noted
               all.mine
               (λ f. absurd (false_is_no f)));
-          others = λ other u apart e. others_fit R setup g 0 0 None u (all.nobody other u apart e)
+          others = λ other u apart e. others_fit R setup g 0 0 g.noted u (all.nobody other u apart e)
               (k.views other u e);
           each = λ _. refl;
           one = omega (arith, one, ap one_if holds);
-          idle = λ _. (refl, refl);
+          idle = λ _. refl;
           free = λ _. (
             state,
             set_here put 0 (maybe.some (Writer state))
@@ -113,6 +112,11 @@ module _ {P C O S E : Type 0} (R : Ghosts P C O S E) where
             subst (λ (x : Setup S). IsAfter R x g.history g.head state.value) all.same
                 (subst (λ (c : ℕ). IsAfter R t g.history c state.value) all.head
                 (subst (λ (y : List E). IsAfter R t y p.head state.value) all.all after)),
+            record {
+              is = noted.is ∙ all.noted;
+              long = ap length (sym all.noted) ∙ noted.long
+                  ∙ ap (λ (x : Setup S). x.seats) all.same;
+            },
           );
         } in (
           w,

@@ -1,6 +1,5 @@
 -- A seat works with the same when its participant takes a step.
 use Rattle.std.proofs.Common.{◌≡◌, ◌∙◌, sym, ap, subst, ℕ, ◌<◌}
-use Rattle.std.specs.Prelude.{None}
 use Rattle.atomic_table.specs.Seated.{TableId}
 use Rattle.tsc_left_right.specs.declared.replicated.Replicated.{Ghosts}
 use Rattle.tsc_left_right.specs.declared.table.Setup.{Setup}
@@ -33,6 +32,6 @@ module _ {C O S E : Type 0} (table : TableId) (setup : Setup S) (number : ℕ)
 
   -- It has cleared some seats.
   pub seat_cleared : (cleared : ℕ) → IsSeatOf table setup number p → q.table_id ≡ p.table_id
-      → IsWriting p.me.0 q.me cleared None → IsSeatOf table setup number q
+      → IsWriting p.me.0 q.me cleared → IsSeatOf table setup number q
   seat_cleared cleared seat same w = still_seat seat same
       (ap (λ (m : At C O S E). m.0.setup) w.is) (ap (λ (m : At C O S E). number_of m.0) w.is)

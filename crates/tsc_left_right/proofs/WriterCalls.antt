@@ -1,8 +1,10 @@
 -- A writer publishes, and releases the lock, in the shape that the calls ask for.
-use Rattle.std.proofs.Common.{◌≡◌, ◌∙◌, refl, sym, ap, subst, true, ℕ, ◌≤◌}
+use Rattle.std.proofs.Common.{◌≡◌, ◌∙◌, refl, sym, ap, subst, true, ℕ, List, ◌≤◌}
 use Rattle.std.proofs.Common.{[], ◌∷◌, ◌++◌, length}
-use Rattle.std.specs.Prelude.{Option, None}
+use Rattle.std.specs.Prelude.{Option}
 use Rattle.std.specs.Arc.{arc_value}
+use Rattle.std.specs.Vec.{with_items}
+use Rattle.std.proofs.lemmas.List.{with_items_is}
 use Rattle.atomic_table.specs.Table.{Step, Allows, rest, turned}
 use Rattle.tsc_left_right.specs.declared.table.Setup.{Setup}
 use Rattle.tsc_left_right.specs.declared.table.Slot.{Slot}
@@ -10,15 +12,16 @@ use Rattle.tsc_left_right.specs.declared.table.Slot.TheVariants.{Empty, Writer}
 use Rattle.tsc_left_right.specs.declared.table.WriterState.{WriterState}
 use Rattle.tsc_left_right.specs.declared.table.SeatState.{SeatState}
 use Rattle.tsc_left_right.specs.declared.table.Knowledge.{Knowledge}
-use Rattle.tsc_left_right.specs.Rule.{LeftRightRule, LaidState, IsAfter, standby_side}
+use Rattle.tsc_left_right.specs.Rule.{LeftRightRule, LaidState, IsAfter, HasNoted, standby_side}
 use Rattle.tsc_left_right.specs.Steps.{At, state_in, with_state, clearing, seen_of}
 use Rattle.tsc_left_right.specs.Steps.{Filled, Anything, IsHandleOn, publishes, published, flipped}
 use Rattle.tsc_left_right.specs.Steps.{lagging_in, behind_handles, releases, released}
-use Rattle.tsc_left_right.specs.Participating.{HasInstalled, IsReady, CanAdd}
-use Rattle.tsc_left_right.specs.Participating.{cleared_in, published_in, released_in}
+use Rattle.tsc_left_right.specs.Participating.{HasInstalled, HasFlipped, MayRelease, IsReady, CanAdd}
+use Rattle.tsc_left_right.specs.Participating.{cleared_in, noted_in, published_in, released_in}
 use Rattle.tsc_left_right.proofs.Hands.{Hand}
 use Rattle.tsc_left_right.proofs.Publishing.{publish_allowed, lagging_there, left_there}
 use Rattle.tsc_left_right.proofs.Releasing.{release_allowed}
+use Rattle.tsc_left_right.proofs.Endings.{state_or}
 use Rattle.tsc_left_right.specs.declared.replicated.Replicated.{Ghosts}
 
 module _ {C O S E : Type 0} where
@@ -55,9 +58,9 @@ module _ {P C O S E : Type 0} (R : Ghosts P C O S E) where
       (state_in v).head) 0 sides
       v.setup.seats
       → n ≡ standby_side (state_in v).head → w ≡ record old { head = n }
-      → CanPublish v.setup (clearing (state_in v) v.setup.seats None) sides w
+      → CanPublish v.setup (clearing (state_in v) v.setup.seats) sides w
   can_publish v old n w sides ready filled n_is is =
-      subst (CanPublish v.setup (clearing (state_in v) v.setup.seats None) sides) (sym is) (record {
+      subst (CanPublish v.setup (clearing (state_in v) v.setup.seats) sides) (sym is) (record {
         can = ready.can;
         filled = filled;
         limit = ready.limit;
@@ -77,9 +80,9 @@ module _ {P C O S E : Type 0} (R : Ghosts P C O S E) where
     pub sides : Hand C O
     pub holds : (state_in v).holds ≡ true
     pub head_is : n ≡ standby_side (state_in v).head
-    pub can : CanPublish v.setup (clearing (state_in v) v.setup.seats None) sides state.value
+    pub can : CanPublish v.setup (clearing (state_in v) v.setup.seats) sides state.value
     pub same : state.value ≡ record old { head = n }
-    pub hand : me ≡ (cleared_in v v.setup.seats None, sides ++ (0, Writer state) ∷ [])
+    pub hand : me ≡ (cleared_in v v.setup.seats, sides ++ (0, Writer state) ∷ [])
 
   pub is_laid : (me me₁ me₂ : At C O S E) (old : WriterState C O) (n : ℕ) (state : LaidState C O)
       → HasInstalled me.0 me (arc_value old.copies.active) old.length me.0.setup.seats
@@ -94,7 +97,7 @@ module _ {P C O S E : Type 0} (R : Ghosts P C O S E) where
         head_is = head_is;
         can = can_publish me.0 old n state.value h.slots ready h.filled head_is same;
         same = same;
-        hand = laid_back (cleared_in me.0 me.0.setup.seats None) me me₁ me₂ h.slots state h.is laid
+        hand = laid_back (cleared_in me.0 me.0.setup.seats) me me₁ me₂ h.slots state h.is laid
             turned_is;
       }
 
@@ -106,7 +109,7 @@ module _ {P C O S E : Type 0} (R : Ghosts P C O S E) where
       subst (λ (k : ℕ). Allows (LeftRightRule R key) slots id me 16 (λ _. k) (publishes R st me))
       (sym q.head_is) (subst (λ (m : At C O S E). Allows (LeftRightRule R key) slots id m 16
       (λ _. standby_side (state_in v).head) (publishes R st m)) (sym q.hand)
-      (publish_allowed R key slots st id v.setup (clearing (state_in v) v.setup.seats None) state
+      (publish_allowed R key slots st id v.setup (clearing (state_in v) v.setup.seats) state
       q.sides q.holds q.can.can q.can.filled refl q.can.limit q.can.is_after))
 
   -- what it knows and has in hand then
@@ -115,7 +118,7 @@ module _ {P C O S E : Type 0} (R : Ghosts P C O S E) where
       (n : ℕ) (state : LaidState C O) → IsLaid v me old n state → publishes R st me found me'
       → me' ≡ (published_in R v old.copies.lagging, (0, Writer state) ∷ [])
   published_then st found v me me' old n state q done =
-      let p : SeatState E = clearing (state_in v) v.setup.seats None in
+      let p : SeatState E = clearing (state_in v) v.setup.seats in
       let mine = lagging_there (arc_value state.value.copies.active) state.value.length
       (standby_side p.head) 0 p.cleared q.sides state q.can.filled
       ∙ ap (λ (d : WriterState C O). d.copies.lagging) q.same in
@@ -129,28 +132,79 @@ module _ {P C O S E : Type 0} (R : Ghosts P C O S E) where
 
   pub release_at : (key : Setup S) (slots : ℕ) (st : Step (Slot C O)) (id : ℕ) (v : Knowledge S E)
       (me : At C O S E)
-      (cleared : ℕ) (watched : Option ℕ) (handles : Hand C O) (state : LaidState C O)
-      → me ≡ (cleared_in v cleared watched, handles ++ (0, Writer state) ∷ [])
+      (cleared : ℕ) (handles : Hand C O) (state : LaidState C O)
+      → me ≡ (cleared_in v cleared, handles ++ (0, Writer state) ∷ [])
       → (state_in v).holds ≡ true
       → Filled Anything (standby_side (state_in v).head) 0 handles cleared
       → IsAfter R v.setup (seen_of v) (state_in v).head state.value
+      → HasNoted v.setup.seats (state_in v).noted state.value
       → Allows (LeftRightRule R key) slots id me 0 (λ _. 0) (releases st me)
-  release_at key slots st id v me cleared watched handles state is holds filled after =
+  release_at key slots st id v me cleared handles state is holds filled after noted =
       subst (λ (m : At C O S E). Allows (LeftRightRule R key) slots id m 0 (λ _. 0)
       (releases st m)) (sym is)
-      (release_allowed R key slots id v.setup (clearing (state_in v) cleared watched) state handles
-      holds filled after)
+      (release_allowed R key slots id v.setup (clearing (state_in v) cleared) state handles
+      holds filled after noted)
 
-  -- the same where the writer has published before
-  pub release_published : (key : Setup S) (slots : ℕ) (st : Step (Slot C O)) (id : ℕ)
-      (v : Knowledge S E)
-      (me₁ me : At C O S E) (old : WriterState C O) (n : ℕ) (state : LaidState C O)
-      → IsLaid v me₁ old n state
-      → me ≡ (published_in R v old.copies.lagging, (0, Writer state) ∷ [])
-      → Allows (LeftRightRule R key) slots id me 0 (λ _. 0) (releases st me)
-  release_published key slots st id v me₁ me old n state q is =
-      release_at key slots st id (published_in R v old.copies.lagging) me 0 None [] state is
-      q.holds refl
-      (subst (λ (o : Option O). IsAfter R v.setup (published R (state_in v) o)
-      (standby_side (state_in v).head) state.value)
-      (ap (λ (d : WriterState C O). d.copies.lagging) q.same) q.can.is_after)
+  -- Its slot has its state then.
+  pub state_there : (v : Knowledge S E) (me : At C O S E) (x : Slot C O) (state : LaidState C O)
+      → me ≡ (v, (0, Writer state) ∷ []) → me.1 ≡ (0, x) ∷ rest me.1 → x ≡ Writer state
+  state_there v me x state is has = ap first_slot (sym has ∙ ap (λ (m : At C O S E). m.1) is)
+    where
+      first_slot : Hand C O → Slot C O
+      first_slot [] = Empty
+      first_slot (y ∷ ys) = y.1
+
+  -- what the writer works with then
+  pub flipped_then : (v : Knowledge S E) (me₁ me₂ me₃ : At C O S E) (old : WriterState C O) (n : ℕ)
+      (state taken : LaidState C O) (x : Slot C O) → IsLaid v me₁ old n state
+      → (state_in v).stage ≡ 0
+      → me₂ ≡ (published_in R v old.copies.lagging, (0, Writer state) ∷ [])
+      → me₂.1 ≡ (0, x) ∷ rest me₂.1 → me₃ ≡ (me₂.0, (0, Empty) ∷ rest me₂.1) → x ≡ Writer taken
+      → HasFlipped R v old me₃ taken.value
+  flipped_then v me₁ me₂ me₃ old n state taken x q unpinned is has emptied took =
+      let w : Knowledge S E = published_in R v old.copies.lagging in
+      let same : state ≡ taken =
+      ap (state_or state) (sym (state_there w me₂ x state is has) ∙ took) in
+      subst (λ (d : LaidState C O). HasFlipped R v old me₃ d.value) same (record {
+        is = emptied ∙ (λ i. ((is i).0, (0, Empty) ∷ rest (is i).1));
+        holds = q.holds;
+        unpinned = unpinned;
+        is_after = subst (λ (o : Option O). IsAfter R v.setup (published R (state_in v) o)
+            (standby_side (state_in v).head) state.value)
+            (ap (λ (d : WriterState C O). d.copies.lagging) q.same) q.can.is_after;
+        long = ap (λ (d : WriterState C O). length d.noted.items) q.same;
+      })
+
+  -- It may release the lock with all epochs noted.
+  pub noted_releases : (v : Knowledge S E) (old : WriterState C O) (me₁ me₂ : At C O S E)
+      (state state₂ : WriterState C O) (noted : List ℕ) → HasFlipped R v old me₁ state
+      → me₂ ≡ (noted_in me₁.0 noted, me₁.1)
+      → state₂ ≡ record state { noted = with_items state.noted noted }
+      → length noted ≡ length state.noted.items → length old.noted.items ≡ v.setup.seats
+      → MayRelease R me₂ state₂
+  noted_releases v old me₁ me₂ state state₂ noted f noted_is same as_long all =
+      let w : Knowledge S E = noted_in (published_in R v old.copies.lagging) noted in
+      let is : me₂ ≡ (w, (0, Empty) ∷ []) =
+      noted_is ∙ (λ i. (noted_in (f.is i).0 noted, (f.is i).1)) in
+      subst (λ (m : At C O S E). MayRelease R m state₂) (sym is)
+      (subst (MayRelease R (w, (0, Empty) ∷ [])) (sym same) (record {
+        lock = (
+          0,
+          record {
+            slots = [];
+            is = refl;
+            filled = refl;
+            holds = f.holds;
+            unpinned = f.unpinned;
+          },
+        );
+        is_after = record {
+          stand = f.is_after.stand;
+          length = f.is_after.length;
+          head_is = f.is_after.head_is;
+        };
+        noted = record {
+          is = with_items_is state.noted noted (as_long ∙ sym state.noted.ok.0);
+          long = as_long ∙ f.long ∙ all;
+        };
+      }))

@@ -31,3 +31,4 @@ module _ {C O : Type 0} where
 pub record IsFirst {P C O S E : Type 0} (R : Ghosts P C O S E) (setup : Setup S)
     (state : WriterState C O) : Type 0 where
   pub is_after : IsAfter R setup [] 0 state
+  pub noted : length state.noted.items ≡ setup.seats

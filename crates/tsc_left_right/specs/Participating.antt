@@ -3,6 +3,7 @@
 use Rattle.std.specs.Prelude.{◌≡◌, ◌<◌, ◌≤◌, ℕ, ◌+◌, length, List, [], ◌∷◌, true, false}
 use Rattle.std.specs.Prelude.{Option, Some, None}
 use Rattle.std.specs.Arc.{arc_value}
+use Rattle.std.specs.List.{slice_get}
 use Rattle.atomic_table.specs.Seated.{TableId}
 use Rattle.atomic_table.specs.declared.shared.Seat.{Seat as TableSeat}
 use Rattle.tsc_left_right.specs.declared.replicated.Replicated.{Ghosts}
@@ -13,11 +14,11 @@ use Rattle.tsc_left_right.specs.declared.table.Knowledge.{Knowledge}
 use Rattle.tsc_left_right.specs.declared.table.Setup.{Setup}
 use Rattle.tsc_left_right.specs.Histories.{own_count, BeginsWith, IsLegal}
 use Rattle.tsc_left_right.specs.Copies.{CanBe}
-use Rattle.tsc_left_right.specs.Rule.{word_count, slot_count}
+use Rattle.tsc_left_right.specs.Rule.{word_count, slot_count, HasNoted}
 use Rattle.tsc_left_right.specs.Rule.{keeping, side_slot, standby_side, Shows, IsAfter}
 use Rattle.tsc_left_right.specs.Steps.{first_state, Acquires, flipped, released, staged}
 use Rattle.tsc_left_right.specs.Steps.{At, state_in, with_state, seated, number_of, seen_of}
-use Rattle.tsc_left_right.specs.Steps.{count_of, clearing, Filled, Anything, IsHandleOn, front_of}
+use Rattle.tsc_left_right.specs.Steps.{count_of, clearing, noting, Filled, Anything, IsHandleOn, front_of}
 use Rattle.tsc_left_right.specs.Steps.{published}
 
 abbrev pub Participant : Type 0 → Type 0 → Type 0 → Type 0 → Type 0
@@ -49,17 +50,25 @@ module _ {S E : Type 0} where
   abbrev pub released_in : Knowledge S E → Knowledge S E
   released_in v = with_state v (released (state_in v))
 
-  -- the writer, as it is in v, when `cleared` seats are cleared and the next one was watched
-  abbrev pub cleared_in : Knowledge S E → ℕ → Option ℕ → Knowledge S E
-  cleared_in v cleared watched = with_state v (clearing (state_in v) cleared watched)
+  -- the writer, as it is in v, when `cleared` seats are cleared
+  abbrev pub cleared_in : Knowledge S E → ℕ → Knowledge S E
+  cleared_in v cleared = with_state v (clearing (state_in v) cleared)
 
-  -- a seat of this table, and the side of the standby copy
-  abbrev pub IsNext : Knowledge S E → ℕ → ℕ → Type 0
-  IsNext v seat standby = (seat < v.setup.seats) × (standby ≡ standby_side (state_in v).head)
+  -- the writer, as it is in v, when these epochs are noted
+  abbrev pub noted_in : Knowledge S E → List ℕ → Knowledge S E
+  noted_in v noted = with_state v (noting (state_in v) noted)
 
-  -- the number of seats, and the side of the standby copy
-  abbrev pub AreSides : Knowledge S E → ℕ → ℕ → Type 0
-  AreSides v seats standby = (seats ≡ v.setup.seats) × (standby ≡ standby_side (state_in v).head)
+  -- a seat of this table, the side of the standby copy, and the epoch that was noted of the seat
+  abbrev pub IsNext : Knowledge S E → ℕ → ℕ → ℕ → Type 0
+  IsNext v seat standby noted =
+      (seat < v.setup.seats) × (standby ≡ standby_side (state_in v).head)
+      × (slice_get (state_in v).noted seat ≡ Some noted)
+
+  -- the number of seats, the side of the standby copy, and the epochs that were noted
+  abbrev pub AreSides : Knowledge S E → ℕ → ℕ → List ℕ → Type 0
+  AreSides v seats standby noted =
+      (seats ≡ v.setup.seats) × (standby ≡ standby_side (state_in v).head)
+      × (noted ≡ (state_in v).noted) × (length noted ≡ seats)
 
 module _ {C O S E : Type 0} where
   -- one that takes part in this table, which has words and slots for all seats
@@ -94,26 +103,30 @@ module _ {C O S E : Type 0} where
     pub holds : (state_in me.0).holds ≡ false
     pub unpinned : (state_in me.0).stage ≡ 0
 
-  -- The writer, as it is in v, has cleared `cleared` seats, and may have watched the next one. In
-  -- hand are its own slot, which is empty, and those of the seats that it has cleared.
-  pub record IsWriting (v : Knowledge S E) (me : At C O S E) (cleared : ℕ) (watched : Option ℕ)
-      : Type 0 where
+  -- The writer, as it is in v, has cleared `cleared` seats. In hand are its own slot, which is empty,
+  -- and those of the seats that it has cleared.
+  pub record IsWriting (v : Knowledge S E) (me : At C O S E) (cleared : ℕ) : Type 0 where
     pub slots : List (ℕ × Slot C O)
-    pub is : me ≡ (cleared_in v cleared watched, (0, Empty) ∷ slots)
+    pub is : me ≡ (cleared_in v cleared, (0, Empty) ∷ slots)
     pub filled : Filled Anything (standby_side (state_in v).head) 0 slots cleared
     pub holds : (state_in v).holds ≡ true
     pub unpinned : (state_in v).stage ≡ 0
 
   -- the participant has the writer lock
   abbrev pub HasLock : At C O S E → Type 0
-  HasLock me = (cleared : ℕ) × (watched : Option ℕ) × IsWriting me.0 me cleared watched
+  HasLock me = (cleared : ℕ) × IsWriting me.0 me cleared
+
+  -- the writer, who has noted no epoch yet
+  pub record MayNote (me : At C O S E) : Type 0 where
+    pub is : me.0 ≡ noted_in me.0 []
+    pub holds : (state_in me.0).holds ≡ true
 
   -- The writer has cleared some seats, and each of their slots has a handle on a copy after a
   -- number of operations.
   pub record HasInstalled (v : Knowledge S E) (me : At C O S E) (copy : C) (adds cleared : ℕ)
       : Type 0 where
     pub slots : List (ℕ × Slot C O)
-    pub is : me ≡ (cleared_in v cleared None, (0, Empty) ∷ slots)
+    pub is : me ≡ (cleared_in v cleared, (0, Empty) ∷ slots)
     pub filled : Filled (IsHandleOn copy adds) (standby_side (state_in v).head) 0 slots cleared
     pub holds : (state_in v).holds ≡ true
     pub unpinned : (state_in v).stage ≡ 0
@@ -141,6 +154,7 @@ module _ {P C O S E : Type 0} (R : Ghosts P C O S E) where
   pub record MayRelease (me : At C O S E) (state : WriterState C O) : Type 0 where
     pub lock : HasLock me
     pub is_after : IsAfter R me.0.setup (seen_of me.0) (state_in me.0).head state
+    pub noted : HasNoted me.0.setup.seats (state_in me.0).noted state
 
   -- an operation that may come next, if there is one
   abbrev pub CanAdd : Setup S → Option O → Type 0
@@ -154,6 +168,17 @@ module _ {P C O S E : Type 0} (R : Ghosts P C O S E) where
     pub limit : length (published R (state_in v) state.copies.lagging) ≤ v.setup.limit
     pub is_after : IsAfter R v.setup (published R (state_in v) state.copies.lagging)
         (state_in v).head state
+
+  -- The writer of v has published what the old state was prepared for. Its slot, which is empty, is
+  -- in its hand, and no epoch is noted yet.
+  pub record HasFlipped (v : Knowledge S E) (old : WriterState C O) (me : At C O S E)
+      (state : WriterState C O) : Type 0 where
+    pub is : me ≡ (published_in v old.copies.lagging, (0, Empty) ∷ [])
+    pub holds : (state_in v).holds ≡ true
+    pub unpinned : (state_in v).stage ≡ 0
+    pub is_after : IsAfter R v.setup (published R (state_in v) old.copies.lagging)
+        (standby_side (state_in v).head) state
+    pub long : length state.noted.items ≡ length old.noted.items
 
   -- A seat that has its slot of this side in hand, and what lies there.
   pub record IsPinned (me : At C O S E) (side : ℕ) (x : Slot C O) : Type 0 where

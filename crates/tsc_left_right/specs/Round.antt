@@ -1,6 +1,6 @@
 -- How a seat's operation is applied. (For private contracts.)
 use Rattle.std.specs.Prelude.{◌≡◌, ℕ, ◌+◌, ◌<◌, ◌≤◌, List, [], ◌∷◌, ◌++◌, length, Bool, true, false}
-use Rattle.std.specs.Prelude.{Option, Some, None}
+use Rattle.std.specs.Prelude.{Option, Some}
 use Rattle.std.specs.Arc.{arc_value}
 use Rattle.std.specs.declared.sync.Arc.{Arc}
 use Rattle.std.specs.declared.alloc.Global.{Global}
@@ -15,7 +15,7 @@ use Rattle.tsc_left_right.specs.declared.round.Outcome.{Outcome}
 use Rattle.tsc_left_right.specs.declared.round.Outcome.TheVariants.{Busy, Made, Refused}
 use Rattle.tsc_left_right.specs.Histories.{own_count, BeginsWith, IsLegal}
 use Rattle.tsc_left_right.specs.Copies.{CanBe}
-use Rattle.tsc_left_right.specs.Rule.{at_rest, IsAfter}
+use Rattle.tsc_left_right.specs.Rule.{at_rest, IsAfter, HasNoted}
 use Rattle.tsc_left_right.specs.Steps.{At, state_in, with_state, seated, number_of, seen_of}
 use Rattle.tsc_left_right.specs.Steps.{count_of, acquired}
 use Rattle.tsc_left_right.specs.Waiting.{HasEnd}
@@ -34,6 +34,7 @@ pub record IsSwapped {C O : Type 0} (old : WriterState C O) (next : Arc C Global
   pub lagging : new.copies.lagging ≡ Some op
   pub length : new.length ≡ old.length + 1
   pub head : new.head ≡ old.head
+  pub noted : new.noted ≡ old.noted
 
 -- Why a writer does not apply its operation: the history is full; or there was room, and memory was
 -- refused, or the tries came to their end.
@@ -61,18 +62,20 @@ module _ {P C O S E : Type 0} (R : Ghosts P C O S E) where
     pub is : me ≡ (
       with_state me.0
           (acquired (at_rest (number_of me.0) (seen_of me.0) (count_of me.0)) (seen_of me.0)
-          head),
+          head state.noted.items),
       (0, Empty) ∷ [],
     )
     pub legal : IsLegal R me.0.setup.settings me.0.setup.seats (seen_of me.0)
     pub own : own_count R (number_of me.0) (seen_of me.0) ≡ count_of me.0
     pub limit : length (seen_of me.0) ≤ me.0.setup.limit
     pub is_after : IsAfter R me.0.setup (seen_of me.0) head state
+    pub noted : length state.noted.items ≡ me.0.setup.seats
 
   -- A writer has cleared all seats, and can apply this operation, for which there is room.
   pub record MayPrepare (seats : ℕ) (me : At C O S E) (state : WriterState C O) (op : O) : Type 0
     where
-      pub writing : IsWriting me.0 me seats None
+      pub writing : IsWriting me.0 me seats
+      pub noted : HasNoted me.0.setup.seats (state_in me.0).noted state
       pub legal : IsLegal R me.0.setup.settings me.0.setup.seats (seen_of me.0)
       pub own : own_count R (number_of me.0) (seen_of me.0) ≡ count_of me.0
       pub is_after : IsAfter R me.0.setup (seen_of me.0) (state_in me.0).head state
@@ -84,6 +87,7 @@ module _ {P C O S E : Type 0} (R : Ghosts P C O S E) where
     pub installed : HasInstalled me.0 me (arc_value state.copies.active) state.length
         me.0.setup.seats
     pub ready : IsReady R me.0 state
+    pub noted : length state.noted.items ≡ me.0.setup.seats
 
   -- The writer of v makes no operation, and may release the lock.
   pub record MayLeave (v : Knowledge S E) (me : At C O S E) (state : WriterState C O) : Type 0

@@ -1,8 +1,8 @@
 -- The rule of the protocol: what holds between any two steps of any threads.
 use Rattle.std.specs.Prelude.{◌≡◌, ◌≢◌, ℕ, suc, ◌+◌, ◌*◌, ◌%◌, ◌<◌, ◌≤◌, ◌==◌, nat_lt, List, []}
-use Rattle.std.specs.Prelude.{◌∷◌, length, slice_index, Bool, true, false, Option, Some, None}
+use Rattle.std.specs.Prelude.{◌∷◌, length, slice_index, Bool, true, false, Some}
 use Rattle.std.specs.Prelude.{Box, if◌then◌else◌}
-use Rattle.std.specs.List.{sum_by}
+use Rattle.std.specs.List.{sum_by, slice_get}
 use Rattle.std.specs.Arc.{arc_value}
 use Rattle.std.specs.declared.alloc.Global.{Global}
 use mathlib.Core.Option as maybe
@@ -58,7 +58,7 @@ module _ {E : Type 0} where
     holds = false;
     stage = 0;
     cleared = 0;
-    watched = None;
+    noted = [];
     head = 0;
   }
 
@@ -69,15 +69,15 @@ module _ {E : Type 0} where
   fresh_states number (suc others) = at_rest number [] 0 ∷ fresh_states (suc number) others
 
 -- What stands behind the words and slots: the history, HEAD, the word of the lock, and the stage of
--- each seat. Of the writer: how many seats it has cleared, and the epoch at which it watched the
--- next one.
+-- each seat. Of the writer: how many seats it has cleared. And the epochs that were noted, of the
+-- seats from 0 on, since HEAD was written last.
 pub record SharedState (E : Type 0) : Type 0 where
   pub history : List E
   pub head : ℕ
   pub word : ℕ
   pub stage_of : ℕ → ℕ
   pub cleared : ℕ
-  pub watched : Option ℕ
+  pub noted : List ℕ
 
 module _ {S E : Type 0} where
   -- a participant that keeps the states of some seats, and no front
@@ -100,7 +100,7 @@ module _ {S E : Type 0} where
 abbrev pub WriterFits : {E : Type 0} → SharedState E → SeatState E → Type 0
 WriterFits g p =
     (p.seen ≡ g.history) × (g.word ≡ suc p.number) × (p.cleared ≡ g.cleared)
-    × (p.watched ≡ g.watched) × (p.head ≡ g.head)
+    × (p.noted ≡ g.noted) × (p.head ≡ g.head)
 
 -- A table for so many seats has these words and slots, of which the words of the lock and of HEAD
 -- are these.
@@ -118,6 +118,12 @@ IsHome {X} homes i P = (x : X) × (get_elem? homes i ≡ maybe.some (maybe.some 
 -- what the writer's slot has
 abbrev pub LaidState : Type 0 → Type 0 → Type 0
 LaidState C O = Box (WriterState C O) Global
+
+-- What the writer works with has the epochs that were noted, of as many seats.
+pub record HasNoted {C O : Type 0} (seats : ℕ) (noted : List ℕ) (state : WriterState C O) : Type 0
+  where
+    pub is : state.noted.items ≡ noted
+    pub long : length noted ≡ seats
 
 module _ {P C O S E : Type 0} (R : Ghosts P C O S E) where
   -- a slot has a handle on a copy that stands for a history, and says how long that is
@@ -147,8 +153,7 @@ module _ {P C O S E : Type 0} (R : Ghosts P C O S E) where
   -- A seat's epoch is even where the seat is unpinned, and odd where it is pinned. Its slot on the
   -- active side is at home and shows the history, unless the seat has it in hand. Its slot on the
   -- standby side is at home, unless the seat has it, or the writer, who has cleared the seat. Where
-  -- the seat has it and the writer has watched the seat, its epoch is still the one that was
-  -- watched.
+  -- the seat has it, its epoch is the one that was noted, if one was.
   pub record SeatFits (setup : Setup S) (g : SharedState E) (words : List ℕ)
       (homes : List (maybe.Option (Slot C O))) (seat : ℕ) : Type 0 where
     pub unpinned : g.stage_of seat ≡ 0 → slice_index words (epoch_word seat) % 2 ≡ 0
@@ -159,7 +164,7 @@ module _ {P C O S E : Type 0} (R : Ghosts P C O S E) where
         → (x : Slot C O) × (get_elem? homes (side_slot seat (standby_side g.head))
         ≡ maybe.some (maybe.some x))
     pub left : seat < g.cleared → g.stage_of seat ≢ standby_side g.head + 2
-    pub late : (e : ℕ) → seat ≡ g.cleared → g.watched ≡ Some e
+    pub late : (e : ℕ) → slice_get g.noted seat ≡ Some e
         → g.stage_of seat ≡ standby_side g.head + 2 → slice_index words (epoch_word seat) ≡ e
 
   -- What the writer works with is after a history, and says what HEAD is.
@@ -171,7 +176,8 @@ module _ {P C O S E : Type 0} (R : Ghosts P C O S E) where
 
   -- There is one history, legal and within the limit. What each participant knows fits, and each
   -- seat has one state. Where the lock is free, nobody holds it, and nothing is cleared. The
-  -- writer's slot has then what is after that history. Else one seat holds the lock.
+  -- writer's slot has then what is after that history, and all epochs that were noted. Else one
+  -- seat holds the lock.
   pub record LeftRightRule (setup : Setup S) (s : State (Slot C O) (Knowledge S E)) : Type 0 where
     pub g : SharedState E
     pub legal : IsLegal R setup.settings setup.seats g.history
@@ -183,7 +189,7 @@ module _ {P C O S E : Type 0} (R : Ghosts P C O S E) where
     pub each : (number : ℕ)
         → sum_by (states_of number) s.views ≡ one_if (nat_lt number setup.seats)
     pub one : sum_by holders s.views ≡ one_if (nat_lt 0 g.word)
-    pub idle : g.word ≡ 0 → (g.cleared ≡ 0) × (g.watched ≡ None)
+    pub idle : g.word ≡ 0 → g.cleared ≡ 0
     pub free : g.word ≡ 0 → (state : LaidState C O)
         × (get_elem? s.homes 0 ≡ maybe.some (maybe.some (Writer state)))
-        × IsAfter setup g.history g.head state.value
+        × IsAfter setup g.history g.head state.value × HasNoted setup.seats g.noted state.value

@@ -3,6 +3,7 @@ use Rattle.std.specs.Prelude.{◌≡◌, ◌≢◌, ℕ, suc, ◌+◌, ◌%◌, 
 use Rattle.std.specs.Prelude.{nat_le, List, [], ◌∷◌, ◌++◌, length, Bool, true, false}
 use Rattle.std.specs.Prelude.{Option, Some, None, if◌then◌else◌}
 use Rattle.std.specs.Arc.{arc_value}
+use Rattle.std.specs.List.{slice_get}
 use Rattle.atomic_table.specs.Table.{Me, Step, rest}
 use Rattle.tsc_left_right.specs.declared.replicated.Replicated.{Ghosts}
 use Rattle.tsc_left_right.specs.declared.table.Setup.{Setup}
@@ -39,18 +40,22 @@ module _ {E : Type 0} where
   other_states [] = []
   other_states (p ∷ ps) = ps
 
-  -- A seat sees the whole history when it acquires the lock.
-  abbrev pub acquired : SeatState E → List E → ℕ → SeatState E
-  acquired p h head =
-      record p { holds = true; seen = h; head = head; cleared = 0; watched = None }
+  -- A seat sees the whole history when it acquires the lock, and the epochs that were noted.
+  abbrev pub acquired : SeatState E → List E → ℕ → List ℕ → SeatState E
+  acquired p h head noted =
+      record p { holds = true; seen = h; head = head; cleared = 0; noted = noted }
 
   -- The lock is released, and nothing is in hand.
   abbrev pub released : SeatState E → SeatState E
-  released p = record p { holds = false; head = 0; cleared = 0; watched = None }
+  released p = record p { holds = false; head = 0; cleared = 0; noted = [] }
 
-  -- the writer, when `cleared` seats are cleared, and the next one was watched
-  abbrev pub clearing : SeatState E → ℕ → Option ℕ → SeatState E
-  clearing p cleared watched = record p { cleared = cleared; watched = watched }
+  -- the writer, when `cleared` seats are cleared
+  abbrev pub clearing : SeatState E → ℕ → SeatState E
+  clearing p cleared = record p { cleared = cleared }
+
+  -- the writer, when these epochs are noted
+  abbrev pub noting : SeatState E → List ℕ → SeatState E
+  noting p noted = record p { noted = noted }
 
   -- a seat at a stage
   abbrev pub staged : SeatState E → ℕ → SeatState E
@@ -130,16 +135,27 @@ module _ {C O S E : Type 0} where
   abbrev pub stays : Step (Slot C O) → At C O S E → ℕ → At C O S E → Type 0
   stays st me found me' = me' ≡ me
 
-  -- The next seat is cleared where it has left: its slot of the standby side is in hand. Else it is
-  -- watched.
+  -- The next seat is cleared where it has left: its slot of the standby side is in hand. Else nothing
+  -- changes.
   abbrev pub clears : Step (Slot C O) → At C O S E → ℕ → At C O S E → Type 0
   clears st me e me' = let p = state_in me.0 in
-      (has_left p.watched e ≡ true → (x : Slot C O) × (me' ≡ (
-        with_state me.0 (clearing p (suc p.cleared) None),
+      (has_left (slice_get p.noted p.cleared) e ≡ true → (x : Slot C O) × (me' ≡ (
+        with_state me.0 (clearing p (suc p.cleared)),
         (side_slot p.cleared (standby_side p.head), x) ∷ me.1,
       )))
-      × (has_left p.watched e ≡ false
-      → me' ≡ (with_state me.0 (clearing p p.cleared (Some e)), me.1))
+      × (has_left (slice_get p.noted p.cleared) e ≡ false → me' ≡ me)
+
+  -- The next seat is cleared: its slot of the standby side is in hand.
+  abbrev pub passes : Step (Slot C O) → At C O S E → ℕ → At C O S E → Type 0
+  passes st me found me' = let p = state_in me.0 in (x : Slot C O) × (me' ≡ (
+    with_state me.0 (clearing p (suc p.cleared)),
+    (side_slot p.cleared (standby_side p.head), x) ∷ me.1,
+  ))
+
+  -- The epoch of the next seat is noted.
+  abbrev pub notes : Step (Slot C O) → At C O S E → ℕ → At C O S E → Type 0
+  notes st me e me' = let p = state_in me.0 in
+      me' ≡ (with_state me.0 (noting p (p.noted ++ e ∷ [])), me.1)
 
   -- The seat is pinned.
   abbrev pub pins : Step (Slot C O) → At C O S E → ℕ → At C O S E → Type 0
@@ -154,12 +170,13 @@ module _ {P C O S E : Type 0} (R : Ghosts P C O S E) where
   pub record Acquires (v w : Knowledge S E) (state : WriterState C O) : Type 0 where
     pub history : List E
     pub head : ℕ
-    pub after : w ≡ with_state v (acquired (state_in v) history head)
+    pub after : w ≡ with_state v (acquired (state_in v) history head state.noted.items)
     pub begins : BeginsWith history (state_in v).seen
     pub legal : IsLegal R v.setup.settings v.setup.seats history
     pub own : own_count R (state_in v).number history ≡ (state_in v).count
     pub limit : length history ≤ v.setup.limit
     pub is_after : IsAfter R v.setup history head state
+    pub noted : length state.noted.items ≡ v.setup.seats
 
   -- The lock is acquired where it was free, with what lies there. Else nothing changes.
   abbrev pub acquires : Step (Slot C O) → At C O S E → ℕ → At C O S E → Type 0
@@ -184,7 +201,7 @@ module _ {P C O S E : Type 0} (R : Ghosts P C O S E) where
     count = counted p op;
     head = standby_side p.head;
     cleared = 0;
-    watched = None;
+    noted = [];
   }
 
   -- The writer's operation comes into the history, and on the active copy. The handles are at home,

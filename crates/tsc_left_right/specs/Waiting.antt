@@ -9,6 +9,6 @@ abbrev pub HasEnd : Option ℕ → Type 0
 HasEnd None = ⊥
 HasEnd (Some tries) = Unit {0}
 
--- The writer of v has cleared some seats, and may have watched the next one.
+-- The writer of v has cleared some seats.
 abbrev pub StillWrites : {C O S E : Type 0} → Knowledge S E → At C O S E → Type 0
-StillWrites v me = (cleared : ℕ) × (watched : Option ℕ) × IsWriting v me cleared watched
+StillWrites v me = (cleared : ℕ) × IsWriting v me cleared

@@ -75,6 +75,7 @@ fn new_state<P: Replicated>(
         copies,
         length: 0,
         head: 0,
+        noted: vec![in alloc; 0; setup.seats as usize]?,
     };
     Ok(Box::new(alloc, state)?)
 }

@@ -1,5 +1,5 @@
 //! Where the words and the slots are.
-ghost use Rattle.std.specs.Prelude.{◌≡◌, ℕ, ◌+◌, ◌<◌, ◌≤◌};
+ghost use Rattle.std.specs.Prelude.{◌≡◌, ℕ, ◌+◌, ◌<◌, ◌≤◌, Some};
 ghost use Rattle.tsc_left_right.specs.declared.places.TheConstants.{HEAD};
 ghost use Rattle.tsc_left_right.specs.Rule.{epoch_word, side_slot, word_count, slot_count};
 ghost use Rattle.tsc_left_right.specs.Steps.{has_left};
@@ -49,9 +49,9 @@ pub(crate) fn slot_count(seats: u32) -> usize
     16 * seats as usize + 8
 }
 
-/// Whether a seat whose epoch is this, and was that when it was watched, has left the standby side.
-pub(crate) fn has_left(watched: Option<u64>, epoch: u64) -> bool
-    ensures { result ≡ has_left watched epoch }
+/// Whether a seat whose epoch is this, and was that when it was noted, has left the standby side.
+pub(crate) fn has_left(noted: u64, epoch: u64) -> bool
+    ensures { result ≡ has_left (Some noted) epoch }
 {
-    epoch % 2 == 0 || watched.is_some_and(|was| was != epoch)
+    epoch % 2 == 0 || noted != epoch
 }

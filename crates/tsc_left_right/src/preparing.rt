@@ -168,7 +168,14 @@ pub(crate) fn prepare_copy<P: Replicate, W: WaitPolicy, Q: Ask<P::Operation>>(
         });
     };
     let standby = standby_side(state.head);
-    if !wait_for_readers(policy, context.shared, who, setup.seats, standby) {
+    if !wait_for_readers(
+        policy,
+        context.shared,
+        who,
+        setup.seats,
+        standby,
+        &state.noted,
+    ) {
         return Err(Aborted {
             state,
             retired: None,

@@ -53,7 +53,7 @@ fn apply_locked<P: Replicate, W: WaitPolicy, Q: Ask<P::Operation>, G: Gate>(
                 retired,
             } = prepared;
             notice.give(context.number);
-            publish(context.shared, who, state);
+            publish(context.shared, who, state, context.setup.seats);
             drop(retired);
             Outcome::Made { place, answer }
         }

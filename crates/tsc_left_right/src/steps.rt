@@ -43,6 +43,24 @@ impl<C, O, S, E> Play<Slot<C, O>, Knowledge<S, E>> for Clear {
     ghost then = { clears };
 }
 
+/// The writer takes the slot of the next seat, which was outside when its epoch was noted.
+pub(crate) struct Pass;
+
+impl<C, O, S, E> Play<Slot<C, O>, Knowledge<S, E>> for Pass {
+    ghost use Rattle.tsc_left_right.specs.Steps.{passes};
+
+    ghost then = { passes };
+}
+
+/// The writer notes the epoch of the next seat.
+pub(crate) struct Note;
+
+impl<C, O, S, E> Play<Slot<C, O>, Knowledge<S, E>> for Note {
+    ghost use Rattle.tsc_left_right.specs.Steps.{notes};
+
+    ghost then = { notes };
+}
+
 /// The writer's operation comes into the history, and the copies are swapped.
 pub(crate) struct Publish<P> {
     replicated: PhantomData<P>,

@@ -36,6 +36,8 @@ pub struct WriterState<C, O> {
     pub length: u64,
     /// What HEAD says: the side of the active copy.
     pub head: u64,
+    /// The epoch of each seat, as it was once the last operation was published.
+    pub noted: Vec<u64>,
 }
 
 /// A handle on a copy, which has had the first `length` operations.
@@ -63,10 +65,9 @@ pub struct SeatState<E> {
     pub holds: bool,
     /// 0 unpinned, 1 pinned, and 2 more than a side while it has its slot of that side in hand.
     pub stage: u64,
-    /// Of the writer: how many seats it has cleared, and the epoch at which it watched the next
-    /// one.
+    /// Of the writer: how many seats it has cleared, and the epochs that it has noted.
     pub cleared: u64,
-    pub watched: Option<u64>,
+    pub noted: LinkedList<u64>,
     /// Of the writer: the side of the active copy.
     pub head: u64,
 }

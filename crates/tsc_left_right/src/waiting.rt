@@ -6,7 +6,7 @@ ghost use Rattle.tsc_left_right.specs.Waiting.{HasEnd, StillWrites};
 ghost use Rattle.tsc_left_right.specs.Participating.{IsOf, IsFree, IsNext, AreSides, IsWriting};
 ghost use Rattle.tsc_left_right.specs.Participating.{HasAcquired};
 
-use crate::lock::{acquire, clear, first_in_line, set_first};
+use crate::lock::{acquire, clear, first_in_line, pass, set_first};
 use crate::replicated::Replicated;
 use crate::table::{Participant, SharedReplicas, WriterState};
 use crossbeam_utils::Backoff;
@@ -33,22 +33,22 @@ pub trait WaitPolicy {
         ensures busy { IfNone result ((who.new.me ≡ who.old.me) × HasEnd (tries self.now)) }
         ensures no_try { tries self.now ≡ Some 0 → IsNone result };
 
-    /// Takes the slot of the next seat on the standby side, once that seat has left it. It tells
-    /// whether the seat left it.
+    /// Takes the slot of the next seat on the standby side, whose epoch was noted so, once that seat
+    /// has left it. It tells whether the seat left it.
     fn clear<P: Replicated>(
         &self,
         shared: &SharedReplicas<P>,
         who: &mut Participant<P>,
         seat: u32,
         standby: u64,
+        noted: u64,
     ) -> bool
         requires of { IsOf who.old shared.now.table_id }
-        requires next { IsNext who.old.me.0 seat standby }
-        requires cleared { IsWriting who.old.me.0 who.old.me seat None }
+        requires next { IsNext who.old.me.0 seat standby noted }
+        requires writing { IsWriting who.old.me.0 who.old.me seat }
         ensures table { who.new.table_id ≡ who.old.table_id }
-        ensures cleared { result ≡ true → IsWriting who.old.me.0 who.new.me (seat + 1) None }
-        ensures pinned { result ≡ false → StillWrites who.old.me.0 who.new.me
-            × HasEnd (tries self.now) };
+        ensures cleared { result ≡ true → IsWriting who.old.me.0 who.new.me (seat + 1) }
+        ensures pinned { result ≡ false → (who.new.me ≡ who.old.me) × HasEnd (tries self.now) };
 }
 
 /// After how many tries a seat goes first.
@@ -122,14 +122,13 @@ impl<'r, R: Wait> WaitPolicy for Blocking<'r, R> {
         who: &mut Participant<P>,
         seat: u32,
         standby: u64,
+        noted: u64,
     ) -> bool {
         let backoff = Backoff::new();
-        let mut watched = None;
         for _ in self.0.forever() {
-            let Some(epoch) = clear(shared, who, seat, standby, watched) else {
+            if clear(shared, who, seat, standby, noted) {
                 return true;
-            };
-            watched = Some(epoch);
+            }
             backoff.snooze();
         }
         unreachable!()
@@ -166,39 +165,42 @@ impl WaitPolicy for Bounded {
         who: &mut Participant<P>,
         seat: u32,
         standby: u64,
+        noted: u64,
     ) -> bool {
         let backoff = Backoff::new();
-        let mut watched = None;
         for _ in 0..self.0 {
-            let Some(epoch) = clear(shared, who, seat, standby, watched) else {
+            if clear(shared, who, seat, standby, noted) {
                 return true;
-            };
-            watched = Some(epoch);
+            }
             backoff.spin();
         }
         false
     }
 }
 
-/// Takes the slots of all seats on the standby side. The result says whether each seat left that
-/// side before the policy gave up.
+/// Takes the slots of all seats on the standby side, whose epochs were noted so. The result says
+/// whether each seat left that side before the policy gave up.
 pub(crate) fn wait_for_readers<P: Replicated, W: WaitPolicy>(
     policy: &W,
     shared: &SharedReplicas<P>,
     who: &mut Participant<P>,
     seats: u32,
     standby: u64,
+    noted: &[u64],
 ) -> bool
     requires of { IsOf who.old shared.now.table_id }
-    requires sides { AreSides who.old.me.0 seats standby }
-    requires cleared { IsWriting who.old.me.0 who.old.me 0 None }
+    requires sides { AreSides who.old.me.0 seats standby noted.now }
+    requires writing { IsWriting who.old.me.0 who.old.me 0 }
     ensures table { who.new.table_id ≡ who.old.table_id }
-    ensures cleared { result ≡ true → IsWriting who.old.me.0 who.new.me seats None }
+    ensures cleared { result ≡ true → IsWriting who.old.me.0 who.new.me seats }
     ensures pinned { result ≡ false → StillWrites who.old.me.0 who.new.me
         × HasEnd (W.tries policy.now) }
 {
     for seat in 0..seats {
-        if !policy.clear(shared, who, seat, standby) {
+        let epoch = noted[seat as usize];
+        if epoch % 2 == 0 {
+            pass(shared, who, seat, standby, epoch);
+        } else if !policy.clear(shared, who, seat, standby, epoch) {
             return false;
         }
     }

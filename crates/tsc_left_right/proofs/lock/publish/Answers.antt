@@ -1,73 +1,19 @@
--- Proves the contract of `publish`. Publishes what the writer has added, and releases the writer
--- lock.
-use Rattle.std.proofs.Common.{◌∙◌, refl, ap, arith}
-use mathlib.Core.Option as maybe
-use Rattle.atomic_table.specs.Table.{step}
-use Rattle.tsc_left_right.specs.declared.table.Slot.TheVariants.{Empty}
+-- Proves the contract of `publish`. Publishes what the writer has prepared, notes the epoch of each
+-- seat, and releases the writer lock.
+use Rattle.std.proofs.Common.{◌∙◌, ap, length}
+use Rattle.std.specs.Vec.{with_items}
 use Rattle.tsc_left_right.specs.declared.table.WriterState.{WriterState}
-use Rattle.tsc_left_right.specs.Rule.{standby_side}
-use Rattle.tsc_left_right.specs.Participating.{published_in}
-use Rattle.tsc_left_right.proofs.Calls.{first_in}
-use Rattle.tsc_left_right.proofs.WriterCalls.{is_laid, publish_at, published_then}
-use Rattle.tsc_left_right.proofs.WriterCalls.{release_published, released_then}
+use Rattle.tsc_left_right.proofs.WriterCalls.{noted_releases}
 use Rattle.tsc_left_right.proofs.lock.publish.Goals as goal
 
-pub exchange-requires : goal.exchange-requires
-exchange-requires g c = let h = c.requires.installed in (
-  c.requires.of.table,
-  first_in c.args.who.now.me.1 h.slots 0 0 Empty (ap (λ m. m.1) h.is) refl,
-)
-
-pub store-requires : goal.store-requires
-store-requires g c =
-    let me = c.args.who.now.me in
-    let n = c.standby_side-head.result in
-    let q = is_laid g.P.Replicated me c.exchange.new.seat.me c.turn.new.self.me c.args.state.value
-    n _
-    c.requires.installed c.requires.ready
-    (c.standby_side-head.ensures ∙ ap (λ d. standby_side d.head) c.deref.ensures)
-    (ap (λ (d : WriterState g.row.P-Value.Denot g.row.P-Operation.Denot). record d { head = n })
-    c.deref_mut.ensures.value) c.exchange.ensures.3
-    c.turn.ensures.2 in (
-      c.turn.ensures.0 ∙ c.exchange.ensures.0 ∙ c.requires.of.table,
-      omega (arith, c.requires.of.sized.words),
-      publish_at g.P.Replicated c.args.shared.now.key c.args.shared.now.table_id.slots
-          (step c.args.shared.now.table_id.slots 16 n 0 maybe.none) c.turn.new.self.id me.0
-          c.turn.new.self.me c.args.state.value n _ q,
-    )
-
-pub store-requires-2 : goal.store-requires-2
-store-requires-2 g c =
-    let me = c.args.who.now.me in
-    let old = c.args.state.value in
-    let n = c.standby_side-head.result in
-    let q = is_laid g.P.Replicated me c.exchange.new.seat.me c.turn.new.self.me old n _
-    c.requires.installed c.requires.ready
-    (c.standby_side-head.ensures ∙ ap (λ d. standby_side d.head) c.deref.ensures)
-    (ap (λ (d : WriterState g.row.P-Value.Denot g.row.P-Operation.Denot). record d { head = n })
-    c.deref_mut.ensures.value) c.exchange.ensures.3
-    c.turn.ensures.2 in (
-      c.store.ensures.0 ∙ c.turn.ensures.0 ∙ c.exchange.ensures.0 ∙ c.requires.of.table,
-      omega (arith, c.requires.of.sized.words),
-      release_published g.P.Replicated c.args.shared.now.key c.args.shared.now.table_id.slots
-          (step c.args.shared.now.table_id.slots 0 0 0 maybe.none) c.store.new.seat.id me.0
-          c.turn.new.self.me c.store.new.seat.me old n _ q
-          (published_then g.P.Replicated (step c.args.shared.now.table_id.slots 16 n 0 maybe.none) 0
-          me.0 c.turn.new.self.me c.store.new.seat.me old n _ q c.store.ensures.2),
-    )
-
-pub returns-clause-published : goal.returns-clause-published
-returns-clause-published g c =
-    let me = c.args.who.now.me in
-    let old = c.args.state.value in
-    let n = c.standby_side-head.result in
-    let q = is_laid g.P.Replicated me c.exchange.new.seat.me c.turn.new.self.me old n _
-    c.requires.installed c.requires.ready
-    (c.standby_side-head.ensures ∙ ap (λ d. standby_side d.head) c.deref.ensures)
-    (ap (λ (d : WriterState g.row.P-Value.Denot g.row.P-Operation.Denot). record d { head = n })
-    c.deref_mut.ensures.value) c.exchange.ensures.3
-    c.turn.ensures.2 in
-    released_then c.store.new.seat.me c.store-2.new.seat.me
-    (published_in g.P.Replicated me.0 old.copies.lagging) _
-    (published_then g.P.Replicated (step c.args.shared.now.table_id.slots 16 n 0 maybe.none) 0
-    me.0 c.turn.new.self.me c.store.new.seat.me old n _ q c.store.ensures.2) c.store-2.ensures.2
+pub release-requires-clause-may : goal.release-requires-clause-may
+release-requires-clause-may g c =
+    let flipped = c.flip-state.ensures.flipped in
+    let noted = c.note_epochs.new.noted in
+    noted_releases g.P.Replicated c.args.who.now.me.0 c.args.state.value c.flip-state.new.who.me
+    c.note_epochs.new.who.me c.flip-state.result.value _ noted flipped c.note_epochs.ensures.noted
+    (ap (λ (d : WriterState g.row.P-Value.Denot g.row.P-Operation.Denot).
+    record d { noted = with_items d.noted noted }) c.deref_mut.ensures.value)
+    (c.note_epochs.ensures.long ∙ ap length c.deref_mut-2.ensures.value
+    ∙ ap (λ d. length d.noted.items) c.deref_mut.ensures.value)
+    (c.requires.seats.1 ∙ c.requires.seats.0)

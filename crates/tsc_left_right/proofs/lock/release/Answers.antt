@@ -14,8 +14,8 @@ exchange-requires g c =
     let me = c.args.who.now.me in
     let lock = c.requires.may.lock in (
       c.requires.of.table,
-      first_in me.1 lock.2.slots 0 0 Empty
-          (ap (λ m. m.1) lock.2.is)
+      first_in me.1 lock.1.slots 0 0 Empty
+          (ap (λ m. m.1) lock.1.is)
           refl,
     )
 
@@ -27,21 +27,21 @@ store-requires g c =
       omega (arith, c.requires.of.sized.words),
       release_at g.P.Replicated c.args.shared.now.key c.args.shared.now.table_id.slots
           (step c.args.shared.now.table_id.slots 0 0 0 maybe.none) c.turn.new.self.id me.0
-          c.turn.new.self.me lock.0 lock.1 lock.2.slots c.args.state
-          (laid_back (cleared_in me.0 lock.0 lock.1) me c.exchange.new.seat.me c.turn.new.self.me
-          lock.2.slots c.args.state
-          lock.2.is c.exchange.ensures.3 c.turn.ensures.2)
-          lock.2.holds lock.2.filled
-          c.requires.may.is_after,
+          c.turn.new.self.me lock.0 lock.1.slots c.args.state
+          (laid_back (cleared_in me.0 lock.0) me c.exchange.new.seat.me c.turn.new.self.me
+          lock.1.slots c.args.state
+          lock.1.is c.exchange.ensures.3 c.turn.ensures.2)
+          lock.1.holds lock.1.filled
+          c.requires.may.is_after c.requires.may.noted,
     )
 
 pub returns-clause-released : goal.returns-clause-released
 returns-clause-released g c =
     let me = c.args.who.now.me in
     let lock = c.requires.may.lock in
-    released_then c.turn.new.self.me c.store.new.seat.me (cleared_in me.0 lock.0 lock.1)
-    (lock.2.slots ++ (0, Writer c.args.state) ∷ [])
-    (laid_back (cleared_in me.0 lock.0 lock.1) me c.exchange.new.seat.me c.turn.new.self.me
-    lock.2.slots c.args.state
-    lock.2.is c.exchange.ensures.3 c.turn.ensures.2)
+    released_then c.turn.new.self.me c.store.new.seat.me (cleared_in me.0 lock.0)
+    (lock.1.slots ++ (0, Writer c.args.state) ∷ [])
+    (laid_back (cleared_in me.0 lock.0) me c.exchange.new.seat.me c.turn.new.self.me
+    lock.1.slots c.args.state
+    lock.1.is c.exchange.ensures.3 c.turn.ensures.2)
     c.store.ensures.2

@@ -16,4 +16,4 @@ returns-then-not-install_handles-clause-left g c =
     c.args.context.now.setup.now.seats c.args.state.now
     (record c.args.state.now { copies = c.next.new.copies }) c.args.operation c.requires.may
     c.install_handles.ensures.cleared c.in_ok-copy.ensures.taken.0 c.in_ok-copy.ensures.taken.1
-    refl refl
+    refl refl refl

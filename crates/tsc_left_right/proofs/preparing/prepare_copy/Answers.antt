@@ -1,7 +1,6 @@
 -- Proves the contract of `prepare_copy`. Prepares an operation by a copy of what is asked for,
 -- which is made only if the history is not full.
 use Rattle.std.proofs.Common.{arith, ap}
-use Rattle.std.specs.Prelude.{None}
 use Rattle.tsc_left_right.specs.Participating.{released_in}
 use Rattle.tsc_left_right.proofs.Seating.{seat_cleared}
 use Rattle.tsc_left_right.proofs.Outcomes.{leaves_at, new_writes, may_prepare, left_for}
@@ -12,7 +11,7 @@ pub returns-then-deref-setup-clause-left : goal.returns-then-deref-setup-clause-
 returns-then-deref-setup-clause-left g c =
     let me = c.args.who.now.me in
     let state = c.args.state.value in record {
-      leave = leaves_at g.P.Replicated me me 0 None state c.requires.writer
+      leave = leaves_at g.P.Replicated me me 0 state c.requires.writer
           (new_writes g.P.Replicated me state c.requires.writer);
       why = omega (
         arith,
@@ -27,7 +26,7 @@ pub returns-in_default-clause-left : goal.returns-in_default-clause-left
 returns-in_default-clause-left g c =
     let me = c.args.who.now.me in
     let state = c.args.state.value in record {
-      leave = leaves_at g.P.Replicated me me 0 None state c.requires.writer
+      leave = leaves_at g.P.Replicated me me 0 state c.requires.writer
           (new_writes g.P.Replicated me state c.requires.writer);
       why = omega (
         arith,
@@ -44,8 +43,8 @@ returns-then-not-wait_for_readers-clause-left g c =
     let me = c.args.who.now.me in
     let state = c.args.state.value in
     let p = c.wait_for_readers.ensures.pinned c.if-not-wait_for_readers.true in record {
-      leave = leaves_at g.P.Replicated me c.wait_for_readers.new.who.me p.0.0 p.0.1 state
-          c.requires.writer p.0.2;
+      leave = leaves_at g.P.Replicated me c.wait_for_readers.new.who.me p.0.0 state
+          c.requires.writer p.0.1;
       why = (
         omega (
           arith,

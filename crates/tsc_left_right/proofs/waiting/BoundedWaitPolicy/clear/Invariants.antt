@@ -1,11 +1,10 @@
 -- Proves the loop invariants of `BoundedWaitPolicy::clear`. Takes the slot of the next seat on the
 -- standby side, once that seat has left it.
 use Rattle.std.proofs.Common.{◌≡◌}
-use Rattle.tsc_left_right.specs.Participating.{IsWriting}
 use Rattle.tsc_left_right.proofs.waiting.BoundedWaitPolicy.clear.Given as goal
 
 abbrev pub invariant-loop : goal.invariant-loop
 invariant-loop g l =
     (l.self ≡ l.fn.self) × (l.end ≡ l.fn.self.0) × (l.shared ≡ l.fn.shared) × (l.seat ≡ l.fn.seat)
-    × (l.standby ≡ l.fn.standby) × (l.who.table_id ≡ l.fn.who.table_id) × IsWriting l.fn.who.me.0
-    l.who.me l.fn.seat l.watched
+    × (l.standby ≡ l.fn.standby) × (l.noted ≡ l.fn.noted)
+    × (l.who.table_id ≡ l.fn.who.table_id) × (l.who.me ≡ l.fn.who.me)
