@@ -1,15 +1,14 @@
 -- Each seat has a participant of its own, and all come together again.
 use Rattle.std.proofs.Common.{◌≡◌, ◌∙◌, refl, sym, ap, subst, ℕ, suc, ◌+◌, ◌-◌, ◌<◌, List, [], ◌∷◌, ◌++◌, length, arith}
-use Rattle.std.specs.Prelude.{All, map, slice_index_or}
-use Rattle.std.proofs.lemmas.List.{length-append, length_push}
+use Rattle.std.specs.Prelude.{map}
 use Rattle.atomic_table.specs.Seated.{TableId}
 use Rattle.tsc_left_right.specs.Rule.{at_rest, keeping, first_knowledge, fresh_states}
 use Rattle.tsc_left_right.specs.Steps.{seated, first_state, other_states, number_of, seen_of, count_of}
 use Rattle.tsc_left_right.specs.Participating.{IsAtRest, IsOf, KeepsStates}
 use Rattle.tsc_left_right.proofs.Calls.{still_of}
 use Rattle.tsc_cache.specs.declared.history.Entry.{Entry}
-use Rattle.tsc_shared.specs.Seats.{SeatView}
-use Rattle.tsc_shared.specs.Keeping.{state_of_seat}
+use Rattle.tsc_shared.specs.Seats.{SharedView, SeatView}
+use Rattle.tsc_shared.specs.Keeping.{cache_of, seat_view, shared_view, state_of_seat}
 use Rattle.tsc_shared.specs.Caches.{At, Participant, SeatState, Setup}
 
 -- the first of the states that are left
@@ -89,3 +88,10 @@ gathered_then me me' all seat taken rest same alls then' =
     let setup : me'.0.setup ≡ me.0.setup = ap (λ m. m.0.setup) then' in
     then' ∙ (λ i. (keeping (sym setup i) ((rest i).0.states ++ (alls i).0.states), (rest i).1)) ∙
     ap (λ (p : SeatState). (keeping me'.0.setup (p ∷ map state_of_seat taken), [])) same
+
+-- what was merged to a seat's participant is of its cache
+pub merged_cache : (new p : Participant) (seat : SeatView) (cache : SharedView)
+    → new.table_id ≡ p.table_id → new.me.0.setup ≡ p.me.0.setup → seat_view p ≡ seat
+    → seat.cache ≡ cache → cache_of new ≡ cache
+merged_cache new p seat cache table setup is its =
+    (λ i. shared_view (table i) (setup i)) ∙ ap (λ (s : SeatView). s.cache) is ∙ its

@@ -96,6 +96,8 @@ pub(crate) fn gather_all(shared: &SharedReplicas, mut seats: Vec<Seat>) -> Optio
     requires shared { 0 < shared.now.table_id.words }
     ensures all { IfSome result (λ all. (all.table_id ≡ shared.now.table_id) × (all.me.1 ≡ []) ×
         (all.me.0 ≡ keeping all.me.0.setup (map state_of_seat seats.items))) }
+    ensures own { IfSome result (λ all. (cache : SharedView) → All (λ seat. seat.cache ≡ cache)
+        seats.items → cache_of all ≡ cache) }
     ensures none { IfNone result (seats.items ≡ []) }
 {
     let mut all = seats.pop()?.participant;

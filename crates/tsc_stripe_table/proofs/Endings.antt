@@ -101,7 +101,7 @@ all_there n ps low one long k lt none = omega (
 )
 
 -- If a participant keeps as many states as there are seats, it keeps each seat's once.
-each_there : (setup : Terms) (s : Board) (k : StripesRule setup s) (id : ℕ) (v : Knowledge)
+pub each_there : (setup : Terms) (s : Board) (k : StripesRule setup s) (id : ℕ) (v : Knowledge)
     → get_elem? s.views id ≡ maybe.some v → length v.states ≡ setup.seats
     → (number : ℕ) → number < setup.seats → of_seat number v.states ≡ 1
 each_there setup s k id v at long number low =
@@ -121,7 +121,7 @@ each_there setup s k id v at long number low =
     )
 
 -- If it keeps all states, and none of them holds a stripe, the lock of that stripe is free.
-lock_is_free : (setup : Terms) (s : Board) (k : StripesRule setup s) (id : ℕ) (v : Knowledge)
+pub lock_is_free : (setup : Terms) (s : Board) (k : StripesRule setup s) (id : ℕ) (v : Knowledge)
     (stripe : ℕ) → get_elem? s.views id ≡ maybe.some v → holders stripe v ≡ 0
     → length v.states ≡ setup.seats → slice_index s.words (lock_word stripe) ≡ 0
 lock_is_free setup s k id v stripe at none long =

@@ -3,7 +3,8 @@
 use Rattle.std.proofs.Common.{rules, ◌≡◌, ◌∙◌, ◌++◌, ◌∷◌, [], append_assoc, refl, ap}
 use Rattle.tsc_left_right.proofs.Plain.{all_middle}
 use Rattle.tsc_shared.specs.Keeping.{state_of_seat}
-use Rattle.tsc_shared.proofs.Dealing.{rest_keeps, taken_keeps, gathered_then}
+use Rattle.tsc_shared.proofs.Dealing.{rest_keeps, taken_keeps, gathered_then, merged_cache}
+use Rattle.tsc_shared.specs.Caches.{At}
 use Rattle.tsc_shared.proofs.seating.gather_all.Goals as goal
 
 pub merge-requires-clause-table : goal.merge-requires-clause-table
@@ -41,6 +42,12 @@ loop-seat-preserved c =
       gathered_then c.seat.inside.participant.me c.merge.new.who.me c.loop-seat.all.me
           c.in-Some.seat c.loop-seat.invariant.0 c.seat.invariant.rest
           (ap state_of_seat c.seat.view_is) c.loop-seat.invariant.4 c.merge.ensures.both,
+      (λ whose all.
+          merged_cache c.merge.new.who c.seat.inside.participant c.in-Some.seat whose
+          c.merge.ensures.table (ap (λ (m : At). m.0.setup) c.merge.ensures.both) c.seat.view_is
+          (all_middle (λ seat. seat.cache ≡ whose) c.pop-in-loop-seat.new.self.items
+          c.loop-seat.invariant.0 c.args.seats.items c.loop-seat.seats.items c.in-Some.seat
+          c.loop-seat.invariant.1 c.in-Some.ensures.items all)),
     )
 
 pub returns-in_err-all-clause-none : goal.returns-in_err-all-clause-none
