@@ -24,6 +24,7 @@ mod gating;
 pub mod laws;
 mod pieces;
 mod reads;
+mod retiring;
 mod seat;
 mod sharing;
 mod snapshots;
