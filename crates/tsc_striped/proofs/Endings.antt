@@ -9,6 +9,7 @@ use Rattle.std.proofs.lemmas.Bool.Decides.{nat_tests}
 use Rattle.std.proofs.lemmas.List.{length-append, length-map}
 use Rattle.std.proofs.lemmas.List.Sums.{sum_by-cons, sum_by-append}
 use Rattle.atomic_table.proofs.Lists.{at_index, at_map}
+use Rattle.tsc_cache.specs.CacheView.{CacheView}
 use Rattle.tsc_cache.specs.History.{own_count, IsLegal}
 use Rattle.tsc_stripe_table.specs.declared.table.SeatState.{SeatState}
 use Rattle.tsc_stripe_table.specs.Stripes.{Terms}
@@ -22,7 +23,7 @@ use Rattle.tsc_stripe_table.proofs.Openings.{nobody_fresh}
 use Rattle.tsc_striped.specs.declared.answers.Closed.{Closed}
 use Rattle.tsc_striped.specs.Seats.{DealerView, SeatView}
 use Rattle.tsc_striped.specs.Keeping.{state_of_seat}
-use Rattle.tsc_striped.specs.Answers.{Closes}
+use Rattle.tsc_striped.specs.Answers.{Closes, Retires}
 use Rattle.tsc_striped.proofs.Touches.{in_or_past}
 
 -- the states of the seats that were dealt, and of those that were not
@@ -105,16 +106,16 @@ at_fresh from (suc n) (suc j) low =
     at_fresh (suc from) n j (omega (arith, low))
     ∙ ap (λ (k : ℕ). maybe.some (at_rest k [] 0)) same
 
--- the closed cache
-pub closes : (dealer : DealerView) (seats : List SeatView) (ps : List SeatState) (key : Terms)
-    (closed : Closed) → key ≡ dealer.cache.terms
+-- the seats and the caches at the end
+pub retires : (dealer : DealerView) (seats : List SeatView) (ps : List SeatState) (key : Terms)
+    (caches : List CacheView) → key ≡ dealer.cache.terms
     → dealer.dealt ≤ dealer.cache.terms.seats
     → ps ≡ all_states seats dealer.dealt (dealer.cache.terms.seats - dealer.dealt)
-    → IsEnd key ps closed.caches.items → Closes dealer seats closed
-closes dealer seats ps key closed same some is end_ =
-    let e : IsEnd dealer.cache.terms (all_states seats dealer.dealt others) closed.caches.items =
-    subst (λ (t : Terms). IsEnd t (all_states seats dealer.dealt others) closed.caches.items) same
-    (subst (λ (qs : List SeatState). IsEnd key qs closed.caches.items) is end_) in record {
+    → IsEnd key ps caches → Retires dealer seats caches
+retires dealer seats ps key caches same some is end_ =
+    let e : IsEnd dealer.cache.terms (all_states seats dealer.dealt others) caches =
+    subst (λ (t : Terms). IsEnd t (all_states seats dealer.dealt others) caches) same
+    (subst (λ (qs : List SeatState). IsEnd key qs caches) is end_) in record {
       each = λ number low. count_in number seats ∙ each e number low;
       history = e.history;
       legal = legal e;
@@ -127,7 +128,7 @@ closes dealer seats ps key closed same some is end_ =
     others = dealer.cache.terms.seats - dealer.dealt
 
     End : Type 0
-    End = IsEnd dealer.cache.terms (all_states seats dealer.dealt others) closed.caches.items
+    End = IsEnd dealer.cache.terms (all_states seats dealer.dealt others) caches
 
     each : (e : End) (number : ℕ) → number < dealer.dealt
         → sum_by (λ (p : SeatState). one_if (p.number == number)) (map state_of_seat seats) ≡ 1
@@ -177,6 +178,22 @@ closes dealer seats ps key closed same some is end_ =
       ];
       number = next.number;
       made = next.made;
+    }
+
+-- the closed cache
+pub closes : (dealer : DealerView) (seats : List SeatView) (ps : List SeatState) (key : Terms)
+    (closed : Closed) → key ≡ dealer.cache.terms
+    → dealer.dealt ≤ dealer.cache.terms.seats
+    → ps ≡ all_states seats dealer.dealt (dealer.cache.terms.seats - dealer.dealt)
+    → IsEnd key ps closed.caches.items → Closes dealer seats closed
+closes dealer seats ps key closed same some is end_ =
+    let r = retires dealer seats ps key closed.caches.items same some is end_ in record {
+      each = r.each;
+      history = r.history;
+      legal = r.legal;
+      begins = r.begins;
+      own = r.own;
+      stripes = r.stripes;
     }
 
 -- the states that have come together

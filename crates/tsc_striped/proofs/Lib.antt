@@ -20,3 +20,4 @@ pub mod Batches
 pub mod Meeting
 pub mod Crossing
 pub mod Copied
+pub mod SeeingEnds

@@ -230,3 +230,15 @@ pub record Closes (dealer : DealerView) (seats : List SeatView) (closed : Closed
   pub begins : All (λ seat. BeginsWith history seat.seen) seats
   pub own : All (λ seat. own_count seat.number history ≡ seat.count) seats
   pub stripes : AreStripes dealer.cache.terms history closed.caches.items
+
+-- A cache ended with these seats, which are all that were dealt, as at closing. What its stripes
+-- hold then is given to nobody.
+pub record Retires (dealer : DealerView) (seats : List SeatView) (caches : List CacheView) : Type 0
+  where
+    pub each : (number : ℕ) → number < dealer.dealt
+        → count_by (λ (seat : SeatView). seat.number == number) seats ≡ 1
+    pub history : History
+    pub legal : IsLegal dealer.cache.terms.config dealer.dealt history
+    pub begins : All (λ seat. BeginsWith history seat.seen) seats
+    pub own : All (λ seat. own_count seat.number history ≡ seat.count) seats
+    pub stripes : AreStripes dealer.cache.terms history caches

@@ -12,3 +12,4 @@ pub mod Batches
 pub mod Laws
 pub mod Adding
 pub mod Sharing
+pub mod Retiring

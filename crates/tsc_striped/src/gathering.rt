@@ -3,7 +3,7 @@ ghost use Rattle.std.specs.Prelude.{◌≡◌, ◌<◌, ◌++◌, [], All, map};
 ghost use Rattle.tsc_stripe_table.specs.Rule.{keeping};
 ghost use Rattle.tsc_stripe_table.specs.Participating.{KeepsStates};
 ghost use Rattle.tsc_striped.specs.Seats.{StripedView};
-ghost use Rattle.tsc_striped.specs.Keeping.{state_of_seat};
+ghost use Rattle.tsc_striped.specs.Keeping.{cache_of, state_of_seat};
 
 use crate::seat::Seat;
 use tsc_stripe_table::{Participant, SharedStripes, merge};
@@ -21,6 +21,8 @@ pub(crate) fn gather(
     ensures table { result.table_id ≡ shared.now.table_id }
     ensures all { (result.me.1 ≡ []) × (result.me.0 ≡ keeping result.me.0.setup
         (map state_of_seat seats.items ++ others.me.0.states)) }
+    ensures own { All (λ seat. seat.cache ≡ cache_of others) seats.items
+        → cache_of result ≡ cache_of others }
 {
     let mut all = others;
     while let Some(seat) = seats.pop() {

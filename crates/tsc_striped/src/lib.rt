@@ -25,6 +25,7 @@ pub mod laws;
 mod pieces;
 mod prefixes;
 mod reads;
+mod retiring;
 mod seat;
 mod sharing;
 mod snapshots;

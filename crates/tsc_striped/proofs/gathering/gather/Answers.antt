@@ -1,7 +1,9 @@
 -- Proves the contract of `gather`. The states of all seats come to a participant.
 use Rattle.std.proofs.Common.{◌≡◌, ◌∙◌, ◌++◌, ◌∷◌, [], append_assoc, refl, ap}
 use Rattle.tsc_left_right.proofs.Plain.{all_middle}
-use Rattle.tsc_striped.specs.Keeping.{state_of_seat}
+use Rattle.tsc_stripe_table.specs.Steps.{At}
+use Rattle.tsc_striped.specs.Keeping.{cache_of, state_of_seat}
+use Rattle.tsc_striped.proofs.SeeingEnds.{merged_cache}
 use Rattle.tsc_striped.proofs.Dealing.{rest_keeps, taken_keeps, gathered_then}
 use Rattle.tsc_striped.proofs.gathering.gather.Goals as goal
 
@@ -42,4 +44,10 @@ loop-seat-preserved c =
           c.in-Some.seat c.loop-seat.invariant.0 c.args.others.me.0.states
           c.seat.invariant.rest
           (ap state_of_seat c.seat.view_is) c.loop-seat.invariant.4 c.merge.ensures.both,
+      (λ all. merged_cache c.merge.new.who c.seat.inside.participant c.in-Some.seat
+      (cache_of c.args.others) c.merge.ensures.table
+      (ap (λ (m : At). m.0.setup) c.merge.ensures.both) c.seat.view_is
+      (all_middle (λ seat. seat.cache ≡ cache_of c.args.others) c.pop.new.self.items
+      c.loop-seat.invariant.0 c.args.seats.items c.loop-seat.seats.items c.in-Some.seat
+      c.loop-seat.invariant.1 c.in-Some.ensures.items all)),
     )
