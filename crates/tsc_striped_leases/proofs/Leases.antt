@@ -2,7 +2,7 @@
 use Rattle.std.proofs.Common.{◌≡◌, ◌∙◌, inl, inr, refl, sym, ap, subst, true, ℕ, zero, suc, ◌+◌}
 use Rattle.std.proofs.Common.{◌-◌, ◌<◌, ◌≤◌, List, [], ◌∷◌, ◌++◌, length, drop, arith}
 use Rattle.std.proofs.Common.{append_assoc, append-nil, length-append}
-use Rattle.std.specs.Prelude.{Result, Ok, Err, OnOk}
+use Rattle.std.specs.Prelude.{Option, Result, Ok, Err, OnOk}
 use Rattle.std.specs.List.{Contains}
 use Rattle.std.proofs.lemmas.List.Elements.{Contains-append_right}
 use Rattle.tsc_time.specs.Time.{Time}
@@ -18,12 +18,14 @@ use Rattle.tsc_cache.specs.declared.history.Entry.{Entry}
 use Rattle.tsc_cache.specs.History.{History}
 use Rattle.tsc_stripe_table.specs.Stripes.{Terms, state_on, IsStateOn, piece_of, stripe_count}
 use Rattle.tsc_striped.specs.declared.answers.AddFault.{AddFault}
+use Rattle.tsc_striped.specs.declared.answers.TryAddFault.{TryAddFault}
 use Rattle.tsc_striped.specs.declared.answers.Receipt.{Receipt}
 use Rattle.tsc_striped.specs.declared.answers.Snapshot.{Snapshot}
 use Rattle.tsc_striped.specs.Touching.{are_in_order, first_touched, last_touched}
 use Rattle.tsc_striped.specs.Looks.{StandFrom, look_over}
 use Rattle.tsc_striped.specs.Seats.{SeatView, IsSeat}
-use Rattle.tsc_striped.specs.Answers.{AnswersAdd, TakesSnapshot, entry_by}
+use Rattle.tsc_striped.specs.Answers.{Accepts, AnswersAdd, AnswersTriedAdd, TakesSnapshot}
+use Rattle.tsc_striped.specs.Answers.{entry_by}
 use Rattle.tsc_striped.proofs.Adds.{first_there, last_there}
 use Rattle.tsc_striped.proofs.Histories.{kept_in, kept_up_over}
 use Rattle.tsc_striped.proofs.Overlaps.{meets_at, above_rises, below_rises}
@@ -243,16 +245,27 @@ takes_over_entry seat told e is there marks part inner within wider =
     is.settled.in_order there (subst (λ (ms : List Mark). Contains ms m) (sym marks) c)
     (overlaps_wider m.span part inner wider over))
 
+takes_over_accepted : (old new : SeatView) (told : Summary) (now : Time) (receipt : Receipt)
+    → IsSeat new → Accepts old new (marks_told told) now receipt → TakesOverInStripes new told
+takes_over_accepted old new told now receipt is a =
+    let e : Entry = entry_by old (marks_told told) now in
+    takes_over_entry new told e is
+    (subst (λ (h : History). Contains h e) (sym a.seen)
+    (Contains-append_right a.before (e ∷ []) e (Contains-from_IsIn (e ∷ []) e (inl refl)))) refl
+
 pub takes_over_once_added : (old new : SeatView) (told : Summary) (now : Time)
     (r : Result Receipt AddFault) → AnswersAdd old new (marks_told told) now r
     → OnOk r (TakesOverInStripes new told)
 takes_over_once_added old new told now (Ok receipt) a =
-    let e : Entry = entry_by old (marks_told told) now in
-    takes_over_entry new told e a.seat.is_seat
-    (subst (λ (h : History). Contains h e) (sym a.accepted.seen)
-    (Contains-append_right a.accepted.before (e ∷ []) e (Contains-from_IsIn (e ∷ []) e (inl refl))))
-    refl
+    takes_over_accepted old new told now receipt a.seat.is_seat a.accepted
 takes_over_once_added old new told now (Err fault) a = tt
+
+pub takes_over_once_tried : (old new : SeatView) (told : Summary) (now : Time) (tries : Option ℕ)
+    (r : Result Receipt TryAddFault) → AnswersTriedAdd old new (marks_told told) now tries r
+    → OnOk r (TakesOverInStripes new told)
+takes_over_once_tried old new told now tries (Ok receipt) a =
+    takes_over_accepted old new told now receipt a.seat.is_seat a.accepted
+takes_over_once_tried old new told now tries (Err fault) a = tt
 
 -- ---- from the former holder to the next
 

@@ -36,8 +36,8 @@
 //! ```
 #![tactic(auto)]
 
-ghost use Rattle.std.specs.Prelude.{◌≡◌, ◌+◌, ◌≤◌, length, IfOk, OnOk};
-ghost use Rattle.tsc_striped.specs.Answers.{AnswersAdd};
+ghost use Rattle.std.specs.Prelude.{◌≡◌, ◌+◌, ◌≤◌, length, IfOk, OnOk, Some};
+ghost use Rattle.tsc_striped.specs.Answers.{AnswersAdd, AnswersTriedAdd};
 ghost use Rattle.tsc_stripe_table.specs.Stripes.{stripe_count};
 ghost use Rattle.timestamp_cache.specs.HandOver.{marks_told};
 ghost use Rattle.tsc_striped_leases.specs.Leases.{HasLookedOn, SummarizeFrom, SummarizesInStripes};
@@ -54,7 +54,7 @@ use std::sync::Wait;
 use timestamp_cache::{ReadSummary, summary};
 use tsc_cache::Mark;
 use tsc_span::Span;
-use tsc_striped::{AddFault, Receipt, Seat, Snapshot, SnapshotFault, StripedCache};
+use tsc_striped::{AddFault, Receipt, Seat, Snapshot, SnapshotFault, StripedCache, TryAddFault};
 use tsc_time::{NoMemory, Timestamp, Value};
 
 /// A summary for each stripe that the span touches, of what lies of the span there, each in at most
@@ -197,6 +197,49 @@ pub fn apply_in_stripes<R: Wait>(
         return Err(AddFault::NoMemory);
     };
     cache.add_all(rt, seat, &marks, now)
+}
+
+/// As [`apply_in_stripes`], where the caller has no leave to wait: it tries `tries` times to
+/// acquire all locks that it needs. Where another seat held one of them at each try, nothing is
+/// applied, and the answer is `Busy`. With no tries that is always so, before any memory is asked
+/// for. `SeatFull` comes before.
+///
+/// ```
+/// let (cache, mut dealer) = StripedCache::open(alloc, config()?, Vec::new(alloc), 1)?;
+/// let mut seat = cache.deal(&mut dealer).ok_or("a seat")?;
+/// let (key, span) = (keys(alloc, "b", "")?, keys(alloc, "a", "z")?);
+/// cache.try_add(&mut seat, &key, Value::of(at(20), id('A')), at(20), 64)?;
+/// let told = try_summary_in_stripes(alloc, &cache, &mut seat, &span, 8, 64)?;
+/// let (next, mut next_dealer) = StripedCache::open(alloc, config()?, Vec::new(alloc), 1)?;
+/// let mut next_seat = next.deal(&mut next_dealer).ok_or("a seat")?;
+/// for one in &told {
+///     try_apply_in_stripes(&next, &mut next_seat, one, at(30), 64)?;
+/// }
+/// assert_eq!(rt; next.try_get_max(&mut next_seat, &key, 64)?, Value::of(at(20), id('A')));
+/// ```
+pub fn try_apply_in_stripes(
+    cache: &StripedCache,
+    seat: &mut Seat,
+    summary: &ReadSummary,
+    now: Timestamp,
+    tries: u32,
+) -> Result<Receipt, TryAddFault>
+    requires cache { seat.old.cache ≡ cache.now }
+    ensures answers { AnswersTriedAdd seat.old seat.new (marks_told summary.now) now (Some tries)
+        result }
+    ensures takes_over { OnOk result (TakesOverInStripes seat.new summary.now) }
+{
+    let _number = seat.number();
+    if seat.count() == u64::MAX {
+        return Err(TryAddFault::Refused(AddFault::SeatFull));
+    }
+    if tries == 0 {
+        return Err(TryAddFault::Busy);
+    }
+    let Ok(marks) = marks_of(summary) else {
+        return Err(TryAddFault::Refused(AddFault::NoMemory));
+    };
+    cache.try_add_all(seat, &marks, now, tries)
 }
 
 /// The marks that are added where a summary is applied.
