@@ -103,8 +103,8 @@ module _ {C O S E : Type 0} where
     pub holds : (state_in me.0).holds ≡ false
     pub unpinned : (state_in me.0).stage ≡ 0
 
-  -- The writer, as it is in v, has cleared `cleared` seats. In hand are its own slot, which is empty,
-  -- and those of the seats that it has cleared.
+  -- The writer, as it is in v, has cleared `cleared` seats. In hand are its own slot, which is
+  -- empty, and those of the seats that it has cleared.
   pub record IsWriting (v : Knowledge S E) (me : At C O S E) (cleared : ℕ) : Type 0 where
     pub slots : List (ℕ × Slot C O)
     pub is : me ≡ (cleared_in v cleared, (0, Empty) ∷ slots)

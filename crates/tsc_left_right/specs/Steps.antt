@@ -135,8 +135,8 @@ module _ {C O S E : Type 0} where
   abbrev pub stays : Step (Slot C O) → At C O S E → ℕ → At C O S E → Type 0
   stays st me found me' = me' ≡ me
 
-  -- The next seat is cleared where it has left: its slot of the standby side is in hand. Else nothing
-  -- changes.
+  -- The next seat is cleared where it has left: its slot of the standby side is in hand. Else
+  -- nothing changes.
   abbrev pub clears : Step (Slot C O) → At C O S E → ℕ → At C O S E → Type 0
   clears st me e me' = let p = state_in me.0 in
       (has_left (slice_get p.noted p.cleared) e ≡ true → (x : Slot C O) × (me' ≡ (

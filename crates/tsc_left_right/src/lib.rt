@@ -10,15 +10,17 @@
 //!
 //!  reader: pin (epoch odd), read HEAD, read by the handle on side HEAD, unpin (epoch even)
 //!  writer: lock, wait for readers of the other side, change that copy, install handles on it,
-//!          HEAD with the other side, unlock
+//!          HEAD with the other side, note the epochs, unlock
 //! ```
 //!
-//! The crate departs from the paper in two ways:
+//! The crate departs from the paper in three ways:
 //!
 //! - Each seat has handles of its own, so a reader writes nothing that another one reads. HEAD is
 //!   both indexes of the paper at once, and the store into it is the linearization point of an
 //!   operation.
 //! - The writer changes one copy an operation. The other one catches up before the next operation.
+//! - The writer notes the epochs right after it has swapped the copies. The next one waits only for
+//!   readers that were inside then, and whose epoch is still the same.
 //!
 //! What is replicated is said by a marker that is [`Replicated`]: operations change copies of a
 //! value under some settings, and a history has an entry for each. [`Replicate`] is the code that

@@ -93,9 +93,9 @@ pub(crate) fn clear<P: Replicated>(
     true
 }
 
-/// Takes the slot of the next seat, whose epoch was noted as even, on the standby side, and leaves it
-/// empty. That seat was outside when HEAD was written last, so it has not been on that side since.
-/// No line of the seat's own is looked at: the step is made at HEAD, which the writer alone writes.
+/// Takes the slot of the next seat, whose epoch was noted as even, on the standby side, and leaves
+/// it empty. That seat was outside at the note, so it has not been on that side since. The step is
+/// made at HEAD, and looks at no word of the seat.
 pub(crate) fn pass<P: Replicated>(
     shared: &SharedReplicas<P>,
     who: &mut Participant<P>,

@@ -33,8 +33,8 @@ pub trait WaitPolicy {
         ensures busy { IfNone result ((who.new.me ≡ who.old.me) × HasEnd (tries self.now)) }
         ensures no_try { tries self.now ≡ Some 0 → IsNone result };
 
-    /// Takes the slot of the next seat on the standby side, whose epoch was noted so, once that seat
-    /// has left it. It tells whether the seat left it.
+    /// Takes the slot of the next seat, whose epoch was noted so, on the standby side, once that
+    /// seat has left it. It tells whether the seat left it.
     fn clear<P: Replicated>(
         &self,
         shared: &SharedReplicas<P>,
