@@ -1,30 +1,14 @@
 -- What a page tells that was given one mark more: in place, or beside it.
-use Rattle.std.proofs.Common.{◌≡◌, ◌∙◌, ◌≤◌, ℕ, cond, sym, subst, nat_le, Bool, true, false, ◌||◌, ◌∷◌, []}
+use Rattle.std.proofs.Common.{◌≡◌, ◌∙◌, ◌≤◌, ℕ, sym, subst, nat_le, Bool, true, false}
 use Rattle.std.proofs.lemmas.Bool.{le-leb, leb-true}
 use mathlib.Core.Bool.{true≢false}
 use Rattle.std.specs.Prelude.{Result, Ok, Err, Option, Some, None, IfOk}
-use Rattle.tsc_time.specs.Time.{later}
 use Rattle.tsc_time.specs.OwnedTime.{OwnedTime}
-use Rattle.tsc_time.specs.Joint.{joint}
-use Rattle.tsc_span.specs.Span.{KeyBytes, Interval, end_keys, overlaps, span_cost}
+use Rattle.tsc_span.specs.Span.{Interval, span_cost}
 use Rattle.tsc_page_nodes.specs.Page.{Mark}
-use Rattle.tsc_page_nodes.specs.PageView.{PageView, is_in, answer, has_room_for}
+use Rattle.tsc_page_nodes.specs.PageView.{PageView, has_room_for}
 use Rattle.tsc_page_nodes.specs.PageAdds.{AddsMark, IsMarkTold, IsMarkedTold}
 use Rattle.tsc_cache.specs.CacheView.{IsMarked}
-
--- what a page tells of an Add that it had room for
-pub marked_by : {E : Type 0} (r : Result Bool E) (old new : PageView) (m : Mark) →
-    new.size ≡ old.size
-    → IfOk r (λ done. done ≡ true → new.top ≡ later old.top m.value.time)
-    → IfOk r (λ done. done ≡ true → (k : KeyBytes) →
-    is_in k new.keys ≡ (is_in k old.keys || is_in k (end_keys m.span)))
-    → IfOk r (λ done. done ≡ true → (s : Interval) →
-    answer new s ≡ cond (overlaps m.span s) (joint (answer old s) (m.value ∷ []))
-    (answer old s))
-    → IfOk r (λ done. done ≡ true → IsMarked old new m)
-marked_by (Ok done) old new m size top keys answers =
-    λ e. record { size = size; top = top e; keys = keys e; answers = answers e }
-marked_by (Err e) old new m size top keys answers = tt
 
 -- the page that an Add makes
 marked_of : (old new : PageView) (m : Mark) → AddsMark old new m.span m.value → IsMarked old new m

@@ -15,7 +15,7 @@ ghost use Rattle.tsc_cache.specs.Batch.{all_fit, is_any_kept, AddsAll, AddsSome}
 ghost use Rattle.tsc_cache.specs.AnswersAdd.{AnswersAdd, AnswersAddNamed};
 
 use crate::mark::is_any_kept;
-use crate::named_span::{cost_of, named_span};
+use crate::named_span::{cost_of, named_span, same_key};
 use crate::page_stack::{PageStack, Pages};
 use crate::{AddBetweenFault, Added, CacheFault, Config, Figures, Mark, TimestampCache};
 use std::alloc::Global;
@@ -157,9 +157,9 @@ impl Cache {
 
     /// As [`add`](TimestampCache::add), of a single key whose bytes lie elsewhere.
     ///
-    /// A key that the front page holds is copied only where another cache holds that page. It takes
-    /// no memory where no other cache shares the way to it. A new key is copied once, and once more
-    /// where a leaf is cut or shared, or where the pages rotate.
+    /// A key that the front page holds is never copied. It takes no memory where no other cache
+    /// shares the way to it. A new key is copied once, and once more where a leaf is cut or shared,
+    /// or where the pages rotate.
     pub fn add_key(
         &mut self,
         key: &KeyRef<'_>,
@@ -169,43 +169,7 @@ impl Cache {
         ensures { AnswersAdd self.old self.new (record { span = point key.now; value = value }) now
             result }
     {
-        if !self.config.fits_key(key) {
-            return Err(CacheFault::TooLarge);
-        }
-        Ok(self.add_fitting_key(key, value, now)?)
-    }
-
-    /// Adds at a key that fits.
-    fn add_fitting_key(
-        &mut self,
-        key: &KeyRef<'_>,
-        value: Value,
-        now: Timestamp,
-    ) -> Result<Added, NoMemory>
-        requires fits { fits self.old.settings (point key.now) ≡ true }
-        ensures seen { IfOk result
-            (λ added. Adds self.old self.new (record { span = point key.now; value = value }) now
-            added) }
-        ensures unchanged { OnErr result (self.new ≡ self.old) }
-        ensures memory { is_kept self.old.floor (record { span = point key.now; value = value }) ≡
-            false → IsOk result }
-    {
-        if !self.keeps_key(key, value) {
-            return Ok(Added::nothing());
-        }
-        if self.pages.mark_key(key, value)? {
-            return Ok(Added::without_rotation());
-        }
-        let span = Span::point(key.to_key(self.pages.alloc())?);
-        self.add_one_fitting(&span, value, now)
-    }
-
-    /// Whether an Add at a key is kept.
-    fn keeps_key(&self, _key: &KeyRef<'_>, value: Value) -> bool
-        ensures { result ≡ is_kept self.now.floor
-            (record { span = point _key.now; value = value }) }
-    {
-        self.floor < value.time()
+        self.add_span(&AddSpan::point(same_key(key)), value, now)
     }
 
     /// As [`add`](TimestampCache::add), of the keys from a start to an end that lie elsewhere.
@@ -240,16 +204,20 @@ impl Cache {
         ensures { AnswersAdd self.old self.new (record { span = span.now; value = value }) now
             result }
     {
-        if let Some(key) = span.key() {
-            return self.add_key(key, value, now);
-        }
         if cost_of(span) > self.config.page_max() {
             return Err(CacheFault::TooLarge);
         }
-        if span.is_empty() || value.time() <= self.floor {
+        if !self.keeps_span(span, value) {
             return Ok(Added::nothing());
         }
         Ok(self.add_kept(span, value, now)?)
+    }
+
+    /// Whether an Add over keys that lie elsewhere is kept.
+    fn keeps_span(&self, span: &AddSpan<'_>, value: Value) -> bool
+        ensures { result ≡ is_kept self.now.floor (record { span = span.now; value = value }) }
+    {
+        !span.is_empty() && value.time() > self.floor
     }
 
     /// Adds a span that is kept: to the front page where that has room, and else to a new one.
@@ -277,9 +245,8 @@ impl Cache {
     /// does of a span that is too large, and the cache stays as it is then. It stays so too where
     /// memory is refused.
     ///
-    /// On the front page it searches for a key once where it adds in place. Else it searches for a
-    /// single key up to three times, and for an end key of another span up to twice, until it knows
-    /// whether there is room. An Add that is not kept takes no memory.
+    /// On the front page it searches for an end key once where it adds in place, and else up to
+    /// twice until it knows whether there is room. An Add that is not kept takes no memory.
     pub fn add_without_rotation(
         &mut self,
         span: &Span,

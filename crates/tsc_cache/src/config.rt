@@ -1,5 +1,4 @@
 ghost use Rattle.std.specs.Prelude.{◌≡◌, ◌≤◌, ◌<◌, ◌*◌, ◌^◌, length, min};
-ghost use Rattle.tsc_span.specs.Span.{point};
 ghost use Rattle.tsc_page_nodes.specs.Limits.{least_size, most_size};
 ghost use Rattle.tsc_cache.specs.Settings.{Settings, settings_of, fits, IsWithinLimits};
 ghost use Rattle.tsc_cache.specs.Batch.{all_fit};
@@ -9,7 +8,7 @@ use crate::named_span::cost_of;
 use std::marker::Model;
 use thiserror::Error;
 use tsc_page::{LEAST_SIZE, MOST_SIZE};
-use tsc_span::{AddSpan, KeyRef, Span};
+use tsc_span::{AddSpan, Span};
 use tsc_time::Timestamp;
 
 /// The least that `min_pages` may be.
@@ -144,13 +143,6 @@ impl Config {
         ensures { result ≡ fits self.now span.now }
     {
         cost_of(span) <= self.page_max
-    }
-
-    /// Whether the span of a single key fits.
-    pub(crate) fn fits_key(&self, key: &KeyRef<'_>) -> bool
-        ensures { result ≡ fits self.now (point key.now) }
-    {
-        key.cost() <= self.page_max
     }
 
     /// Whether the span of each of some marks fits. A list that is in memory has fewer than 2^63

@@ -1,9 +1,8 @@
 ghost use Rattle.std.specs.Prelude.{◌≡◌, ◌∷◌, [], true, false, option_map, IfOk, OnErr};
 ghost use Rattle.tsc_time.specs.Time.{is_before};
-ghost use Rattle.tsc_span.specs.Span.{is_empty_span, point};
+ghost use Rattle.tsc_span.specs.Span.{is_empty_span};
 ghost use Rattle.tsc_span.specs.Cuts.{cut_of};
 ghost use Rattle.tsc_page_nodes.specs.KeysAbove.{IsLeastAbove};
-ghost use Rattle.tsc_page_nodes.specs.PageAdds.{IsMarkTold};
 ghost use Rattle.tsc_page_nodes.specs.PageView.{has_room_for};
 ghost use Rattle.tsc_cache.specs.CacheView.{MarksFront, LooksIntoViews};
 ghost use Rattle.tsc_cache.specs.Stacks.{AreStacked, pages_answer};
@@ -17,7 +16,7 @@ use std::alloc::Global;
 use std::sync::Arc;
 use tsc_cache_pages::{OlderPages, page_memory};
 use tsc_page::{IntervalPage, Page};
-use tsc_span::{AddSpan, Cut, Key, KeyRef, Span, SpanRef};
+use tsc_span::{AddSpan, Cut, Key, Span, SpanRef};
 use tsc_time::{NoMemory, Timestamp, Value, ratchet};
 
 impl PageStack<Page> for Pages {
@@ -102,7 +101,7 @@ impl Pages {
         ensures unchanged { OnErr result (pages_of self.new ≡ pages_of self.old) }
     {
         match Arc::get_mut(&mut self.front) {
-            Some(front) => add_in_place(front, span, value),
+            Some(front) => front.add_span(span, value),
             None => {
                 let Some(front) = self.front.added_span(span, value)? else {
                     return Ok(false)
@@ -110,24 +109,6 @@ impl Pages {
                 self.front = Arc::new(self.alloc(), front)?;
                 Ok(true)
             }
-        }
-    }
-
-    /// Adds a value at a single key to the front page, in place, and says whether that was done.
-    /// Else nothing changes.
-    pub(crate) fn mark_key(&mut self, key: &KeyRef<'_>, value: Value) -> Result<bool, NoMemory>
-        ensures room { IfOk result
-            (λ done. done ≡ true → has_room_for (front_of self.old) (point key.now) ≡ true) }
-        ensures marked { IfOk result
-            (λ done. done ≡ true →
-            MarksFront (pages_of self.old) (pages_of self.new)
-            (record { span = point key.now; value = value })) }
-        ensures left { IfOk result (λ done. done ≡ false → pages_of self.new ≡ pages_of self.old) }
-        ensures unchanged { OnErr result (pages_of self.new ≡ pages_of self.old) }
-    {
-        match Arc::get_mut(&mut self.front) {
-            Some(front) => front.add_key(key, value),
-            None => Ok(false),
         }
     }
 
@@ -179,21 +160,6 @@ impl Pages {
     pub(crate) fn memory(&self) -> u64 {
         page_memory(&self.front).saturating_add(self.older.memory())
     }
-}
-
-/// Adds to a page that nobody else holds, and says whether that page has room. Without room nothing
-/// changes. A single key takes the page's shorter way first, which adds in place alone. Any Add
-/// that can't be made in place replaces the page's tree.
-fn add_in_place(page: &mut Page, span: &AddSpan<'_>, value: Value) -> Result<bool, NoMemory>
-    requires not_empty { is_empty_span span.now ≡ false }
-    ensures told { IsMarkTold page.old page.new span.now value result }
-{
-    if let Some(key) = span.key() {
-        if page.add_key(key, value)? {
-            return Ok(true);
-        }
-    }
-    page.add_span(span, value)
 }
 
 /// Whether all that stands on a page is earlier than a value that was met.

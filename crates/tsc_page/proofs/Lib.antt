@@ -2,6 +2,5 @@ pub mod TreeLists
 pub mod Refusals
 pub mod Costs
 pub mod KeysAbove
-pub mod KeyEnds
 pub mod PageAdds
 pub mod PlainMarks

@@ -1,14 +1,16 @@
 -- What inserting makes of all that can be seen of a page.
-use Rattle.std.proofs.Common.{◌≡◌, ◌∙◌, sym, ap, refl, subst, ◌++◌, ◌≤◌, ℕ, List, false, arith}
+use Rattle.std.proofs.Common.{◌≡◌, ◌∙◌, sym, ap, refl, subst, ◌++◌, ◌≤◌, ℕ, List, Bool, true, false, Ok, arith}
+use Rattle.std.specs.Prelude.{Option, Some, None}
 use Rattle.std.proofs.lemmas.Bool.{le-leb, lt-leb}
 use Rattle.tsc_time.specs.Time.{Time, later}
+use Rattle.tsc_time.specs.OwnedTime.{OwnedTime}
 use Rattle.tsc_span.specs.Span.{Interval, between, end_keys, key_cost}
 use Rattle.tsc_page_nodes.specs.Page.{with_mark, cost_distinct}
 use Rattle.tsc_page_nodes.specs.PageView.{PageView, Represents, NoAnswerAboveTop, is_in, has_room_for}
-use Rattle.tsc_page_nodes.specs.PageAdds.{AddsMark}
+use Rattle.tsc_page_nodes.specs.PageAdds.{AddsMark, IsMarkedTold}
 use Rattle.tsc_page_nodes.specs.Insertions.{InsertionView}
 use Rattle.tsc_page_nodes.specs.Nodes.{Node, answer_of, node_keys, nodes_cost, page_of}
-use Rattle.tsc_page.specs.Roots.{TreeView, Inserts, IsFullFor}
+use Rattle.tsc_page.specs.Roots.{TreeView, Inserts, IsFullFor, IsMarkTried}
 use Rattle.tsc_page_nodes.proofs.Costs.{cost-raised}
 use Rattle.tsc_page_nodes.proofs.Standing.{split_weight, added_keys, added_answers, added_covers, added_stands}
 
@@ -58,3 +60,25 @@ module _ (size : ℕ) (t u : Time) (old new : TreeView) (a : InsertionView)
       (sym inserts.adds.raised)
       (added_covers old.nodes inserts.adds.mid a.from a.to inserts.order a.value inserts.adds.split
       old.sizes new.sizes size t u covers is)
+
+-- what a call tells that may leave the page as it is, by its answer
+pub was_marked : (E : Type 0) (d : Bool) (old new : PageView) (s : Interval) (v : OwnedTime) →
+    d ≡ true → IsMarkTried {E = E} old new s v (Ok d) → AddsMark old new s v
+was_marked E d old new s v is told =
+    subst (λ (b : Bool). IsMarkTried {E = E} old new s v (Ok b)) is told
+
+pub was_unmarked : (E : Type 0) (d : Bool) (old new : PageView) (s : Interval) (v : OwnedTime) →
+    d ≡ false → IsMarkTried {E = E} old new s v (Ok d) → new ≡ old
+was_unmarked E d old new s v is told =
+    subst (λ (b : Bool). IsMarkTried {E = E} old new s v (Ok b)) is told
+
+-- what one tells that makes another page
+pub was_made_beside : (E : Type 0) (d : Option PageView) (old new : PageView) (s : Interval)
+    (v : OwnedTime) → d ≡ Some new → IsMarkedTold {E = E} old s v (Ok d) → AddsMark old new s v
+was_made_beside E d old new s v is told =
+    subst (λ (o : Option PageView). IsMarkedTold {E = E} old s v (Ok o)) is told
+
+pub was_full_beside : (E : Type 0) (d : Option PageView) (old : PageView) (s : Interval)
+    (v : OwnedTime) → d ≡ None → IsMarkedTold {E = E} old s v (Ok d) → has_room_for old s ≡ false
+was_full_beside E d old s v is told =
+    subst (λ (o : Option PageView). IsMarkedTold {E = E} old s v (Ok o)) is told

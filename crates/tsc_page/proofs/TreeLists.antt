@@ -18,7 +18,7 @@ use Rattle.tsc_page_tree.specs.Leaves.{nodes_of}
 use Rattle.tsc_page_tree.specs.Copies.{IsSameAs}
 use Rattle.tsc_page_tree.specs.Lazy.{sizes_of, AreSizesOf, AddsSome}
 use Rattle.tsc_page_tree.specs.Trees.{IsLeafCopy, IsBranchCopy, IsWholeLeaf, leaf_nodes, leaf_sizes, leaf_copied, branch_copied, AreFewSubtrees}
-use Rattle.tsc_page.specs.Roots.{two_nodes, two_sizes, IsWholeTwo, three_nodes, three_sizes, IsWholeThree, four_nodes, four_sizes, IsWholeFour, root_nodes, root_sizes, IsWholeRoot, IsOrderedRoot, IsCounted, IsKnown, TreeView, AreEnds, Inserts, IsFullFor, IsInsertTold, IsTryTold, IsInsertedTold}
+use Rattle.tsc_page.specs.Roots.{two_nodes, two_sizes, IsWholeTwo, three_nodes, three_sizes, IsWholeThree, four_nodes, four_sizes, IsWholeFour, root_nodes, root_sizes, IsWholeRoot, IsOrderedRoot, IsCounted, IsKnown, TreeView, AreEnds, Inserts, IsFullFor, IsTryTold, IsInsertedTold}
 use Rattle.tsc_page_tree.specs.declared.leaf.Leaf.{Leaf}
 use Rattle.tsc_page_tree.specs.declared.branch.Branch.{Branch}
 use Rattle.tsc_page.specs.declared.root.Root.{Root}
@@ -295,12 +295,6 @@ pub refused_try : {E : Type 0} (r : Result Bool E) (old new : TreeView)
 refused_try (Ok d) old new a most is same = absurd (true≢false (sym is))
 refused_try (Err e) old new a most is same = same
 
-pub refused_insert : {E : Type 0} (r : Result Bool E) (old new : TreeView)
-    (a : InsertionView) (most : ℕ) →
-    IsErr r → new ≡ old → IsInsertTold old new a most r
-refused_insert (Ok d) old new a most is same = absurd (true≢false (sym is))
-refused_insert (Err e) old new a most is same = same
-
 -- what such a call tells, by its answer
 pub was_tried : (E : Type 0) (d : Bool) (old new : TreeView) (a : InsertionView)
     (most : ℕ) → d ≡ true →
@@ -313,18 +307,6 @@ pub was_not : (E : Type 0) (d : Bool) (old new : TreeView) (a : InsertionView)
     IsTryTold {E = E} old new a most (Ok d) → new ≡ old
 was_not E d old new a most is told =
     subst (λ (b : Bool). IsTryTold {E = E} old new a most (Ok b)) is told
-
-pub was_inserted : (E : Type 0) (d : Bool) (old new : TreeView) (a : InsertionView)
-    (most : ℕ) → d ≡ true →
-    IsInsertTold {E = E} old new a most (Ok d) → Inserts old new a most
-was_inserted E d old new a most is told =
-    subst (λ (b : Bool). IsInsertTold {E = E} old new a most (Ok b)) is told
-
-pub was_left : (E : Type 0) (d : Bool) (old new : TreeView) (a : InsertionView)
-    (most : ℕ) → d ≡ false →
-    IsInsertTold {E = E} old new a most (Ok d) → IsFullFor old a most × (new ≡ old)
-was_left E d old new a most is told =
-    subst (λ (b : Bool). IsInsertTold {E = E} old new a most (Ok b)) is told
 
 pub was_made : (E : Type 0) (d : Option TreeView) (new old : TreeView)
     (a : InsertionView) (most : ℕ) →

@@ -4,6 +4,8 @@ use Rattle.std.specs.List.{All}
 use Rattle.tsc_time.specs.OwnedTime.{OwnedTime}
 use Rattle.tsc_span.specs.Span.{Interval, between, is_below, is_empty_span, end_keys}
 use Rattle.tsc_page_nodes.specs.Page.{cost_distinct}
+use Rattle.tsc_page_nodes.specs.PageView.{PageView}
+use Rattle.tsc_page_nodes.specs.PageAdds.{AddsMark}
 use Rattle.tsc_page_nodes.specs.Nodes.{Node, IsSorted, node_keys, nodes_cost}
 use Rattle.tsc_page_nodes.specs.Insertions.{InsertionView, LiesAt}
 use Rattle.tsc_page_tree.specs.Leaves.{nodes_of, AddsTo}
@@ -113,13 +115,6 @@ pub record Inserts (old new : TreeView) (a : InsertionView) (most : ℕ) : Type 
 abbrev pub IsFullFor : TreeView → InsertionView → ℕ → Type 0
 IsFullFor t a most = most < cost_distinct (node_keys t.nodes ++ end_keys (between a.from a.to))
 
--- what a call tells that inserts where there is room, and else leaves all as it is
-abbrev pub IsInsertTold : {E : Type 0} → (old new : TreeView) → InsertionView → ℕ →
-    Result Bool E → Type 0
-IsInsertTold old new a most (Ok true) = Inserts old new a most
-IsInsertTold old new a most (Ok false) = IsFullFor old a most × (new ≡ old)
-IsInsertTold old new a most (Err e) = new ≡ old
-
 -- what a call tells that inserts, or may leave all as it is where there is room too
 abbrev pub IsTryTold : {E : Type 0} → (old new : TreeView) → InsertionView → ℕ →
     Result Bool E → Type 0
@@ -133,3 +128,10 @@ abbrev pub IsInsertedTold : {E : Type 0} → TreeView → InsertionView → ℕ 
 IsInsertedTold old a most (Ok (Some new)) = Inserts old new a most
 IsInsertedTold old a most (Ok None) = IsFullFor old a most
 IsInsertedTold old a most (Err e) = Unit {0}
+
+-- what a call to a page tells that adds, or may leave all as it is where there is room too
+abbrev pub IsMarkTried : {E : Type 0} → (old new : PageView) → Interval → OwnedTime →
+    Result Bool E → Type 0
+IsMarkTried old new span value (Ok true) = AddsMark old new span value
+IsMarkTried old new span value (Ok false) = new ≡ old
+IsMarkTried old new span value (Err e) = new ≡ old

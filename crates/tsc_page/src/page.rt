@@ -6,8 +6,9 @@ ghost use Rattle.tsc_span.specs.Cuts.{cut_of};
 ghost use Rattle.tsc_page_nodes.specs.Limits.{least_size, most_size};
 ghost use Rattle.tsc_page_nodes.specs.Page.{PageMarks, top, values_on, marked_keys, count_distinct, has_room};
 ghost use Rattle.tsc_page_nodes.specs.KeysAbove.{IsLeastAbove};
-ghost use Rattle.tsc_page_nodes.specs.PageAdds.{IsMarkTold, IsMarkedTold, TellsTry, TellsMade};
-ghost use Rattle.tsc_page_nodes.specs.PageView.{AreLeafSizes, Represents, answer, has_room_for};
+ghost use Rattle.tsc_page_nodes.specs.PageAdds.{IsMarkTold, IsMarkedTold, TellsMade};
+ghost use Rattle.tsc_page_nodes.specs.PageView.{AreLeafSizes, Represents, answer};
+ghost use Rattle.tsc_page.specs.Roots.{IsMarkTried};
 
 use crate::insertion::Insertion;
 use crate::tree::Tree;
@@ -147,10 +148,31 @@ impl Page {
         requires not_empty { is_empty_span span.now ≡ false }
         ensures told { IsMarkTold self.old self.new span.now value result }
     {
+        if self.add_in_place(span, value)? {
+            return Ok(true);
+        }
+        match self.added_span(span, value)? {
+            Some(page) => {
+                *self = page;
+                Ok(true)
+            }
+            None => Ok(false),
+        }
+    }
+
+    /// Adds a span with its value in place, where its way in the tree allows that and there is
+    /// room, and says whether it did. Else the page stays as it is, and where memory is refused.
+    fn add_in_place(&mut self, span: &AddSpan<'_>, value: Value) -> Result<bool, NoMemory>
+        requires not_empty { is_empty_span span.now ≡ false }
+        ensures tried { IsMarkTried self.old self.new span.now value result }
+    {
+        if let Some(key) = span.key() {
+            return self.add_key(key, value);
+        }
         let Some(add) = Insertion::new(span, value) else {
             unreachable!()
         };
-        if !self.tree.insert(&add, self.size)? {
+        if !self.tree.insert_in_place(&add, self.size)? {
             return Ok(false);
         }
         self.top = self.top.max(value.time());
@@ -180,11 +202,8 @@ impl Page {
     ///
     /// The Add costs one search on each level. A key that the page holds is neither copied nor
     /// takes memory, unless a copy of the page shares the way to it; a new one is copied once.
-    pub fn add_key(&mut self, key: &KeyRef<'_>, value: Value) -> Result<bool, NoMemory>
-        ensures room { IfOk result
-            (λ done. done ≡ true → has_room_for self.old (point key.now) ≡ true) }
-        ensures told { TellsTry self.old self.new (record { span = point key.now; value = value })
-            result }
+    fn add_key(&mut self, key: &KeyRef<'_>, value: Value) -> Result<bool, NoMemory>
+        ensures tried { IsMarkTried self.old self.new (point key.now) value result }
     {
         if !self
             .tree

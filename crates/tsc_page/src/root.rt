@@ -183,8 +183,7 @@ impl Root {
         }
     }
 
-    /// Inserts in place: at a single key as [`subtrees::Subtree::add_key`] tells, and else as
-    /// [`subtrees::Subtree::add_within`].
+    /// Inserts in place, as [`subtrees::Subtree::add_within`] tells.
     pub(crate) fn insert(
         &mut self,
         add: &Insertion<'_>,
@@ -196,43 +195,19 @@ impl Root {
         ensures whole { IsWholeRoot self.new }
         ensures ends { AreEnds add.now }
     {
-        match (add.first, add.second, add.from, add.to) {
-            (Some(key), None, Cut::Before(_), Cut::After(_)) => {
-                self.add_key(&KeyInsertion::new(key, add.value), room)
-            }
-            _ => {
-                let (from, to) = (&PrefixedCut::new(add.from), &PrefixedCut::new(add.to));
-                let bounds = PrefixedInsertion {
-                    first: add.first,
-                    second: add.second,
-                    from,
-                    to,
-                    value: add.value,
-                };
-                self.add_within(&bounds, room)
-            }
-        }
+        let (from, to) = (&PrefixedCut::new(add.from), &PrefixedCut::new(add.to));
+        let bounds = PrefixedInsertion {
+            first: add.first,
+            second: add.second,
+            from,
+            to,
+            value: add.value,
+        };
+        self.add_within(&bounds, room)
     }
 
     /// Adds at a single key in place, as [`subtrees::Subtree::add_key`] tells.
-    fn add_key(&mut self, add: &KeyInsertion<'_>, room: u32) -> Result<Option<Growth>, NoMemory>
-        requires root { IsOrderedRoot self.old }
-        ensures told { IsKeyAddTold (root_nodes self.old) (root_nodes self.new)
-            (root_sizes self.old) (root_sizes self.new) add.now room result }
-        ensures whole { IsWholeRoot self.new }
-    {
-        match self {
-            Root::One(subtrees) => subtrees::add_key(subtrees, add, room),
-            Root::Two(subtrees) => branches::add_key(subtrees, add, room),
-            Root::Three(subtrees) => branches::add_key(subtrees, add, room),
-            Root::Four(subtrees) => branches::add_key(subtrees, add, room),
-        }
-    }
-
-    /// Adds as [`add_key`](Root::add_key) does, for a caller that has a key and no [`Insertion`].
-    /// The body stands here once more, so that either is compiled into the one call that it has,
-    /// which takes a tenth off an Add of a known key.
-    pub(crate) fn add_borrowed_key(
+    pub(crate) fn add_key(
         &mut self,
         add: &KeyInsertion<'_>,
         room: u32,

@@ -6,7 +6,7 @@ ghost use Rattle.tsc_page_nodes.specs.PageView.{is_new_among, new_weight};
 ghost use Rattle.tsc_page_nodes.specs.KeysAbove.{first_above};
 ghost use Rattle.tsc_page_nodes.specs.Nodes.{IsSplitAt, GrowsBy, node_keys, answer_of};
 ghost use Rattle.tsc_page_tree.specs.KeyAdds.{at_key};
-ghost use Rattle.tsc_page.specs.Roots.{root_nodes, IsWholeRoot, IsOrderedRoot, IsKnown, IsInsertTold, IsTryTold, IsInsertedTold};
+ghost use Rattle.tsc_page.specs.Roots.{root_nodes, IsWholeRoot, IsOrderedRoot, IsKnown, IsTryTold, IsInsertedTold};
 
 use crate::insertion::Insertion;
 use crate::root::Root;
@@ -161,28 +161,9 @@ impl Tree {
         })
     }
 
-    /// Makes nodes of the keys that have none, and ratchets the value into the keys and gaps
-    /// between the cuts. Says whether it did: where the nodes would then cost more than `most` it
-    /// doesn't. Nothing changes then, nor where memory is refused.
-    pub(crate) fn insert(&mut self, add: &Insertion<'_>, most: u32) -> Result<bool, NoMemory>
-        requires within { self.old.bytes ≤ most }
-        requires small { most ≤ most_size }
-        ensures told { IsInsertTold self.old self.new add.now most result }
-    {
-        if self.insert_in_place(add, most)? {
-            return Ok(true);
-        }
-        match self.inserted(add, most)? {
-            Some(tree) => {
-                *self = tree;
-                Ok(true)
-            }
-            None => Ok(false),
-        }
-    }
-
-    /// The tree with one more insertion, as [`insert`](Tree::insert) makes it; `None` where the
-    /// nodes would then cost more than `most`. What the insertion doesn't reach is shared.
+    /// The tree with nodes of the keys that have none, and the value ratcheted into the keys and
+    /// gaps between the cuts; `None` where the nodes would then cost more than `most`. What the
+    /// insertion doesn't reach is shared.
     pub(crate) fn inserted(&self, add: &Insertion<'_>, most: u32) -> Result<Option<Tree>, NoMemory>
         requires within { self.now.bytes ≤ most }
         requires small { most ≤ most_size }
@@ -202,7 +183,11 @@ impl Tree {
 
     /// Inserts in place, as [`Root::insert`] tells, where there is room. Says whether it did; else
     /// nothing changes, nor where memory is refused.
-    fn insert_in_place(&mut self, add: &Insertion<'_>, most: u32) -> Result<bool, NoMemory>
+    pub(crate) fn insert_in_place(
+        &mut self,
+        add: &Insertion<'_>,
+        most: u32,
+    ) -> Result<bool, NoMemory>
         requires within { self.old.bytes ≤ most }
         requires small { most ≤ most_size }
         ensures told { IsTryTold self.old self.new add.now most result }
@@ -218,7 +203,7 @@ impl Tree {
         }
     }
 
-    /// Adds at a single key in place, as [`Root::add_borrowed_key`] tells, where there is room.
+    /// Adds at a single key in place, as [`Root::add_key`] tells, where there is room.
     /// Says whether it did; else nothing changes, nor where memory is refused.
     pub(crate) fn add_key(&mut self, add: &KeyInsertion<'_>, most: u32) -> Result<bool, NoMemory>
         requires within { self.old.bytes ≤ most }
@@ -226,7 +211,7 @@ impl Tree {
         ensures told { IsTryTold self.old self.new (at_key add.now) most result }
     {
         let room = most - self.bytes;
-        match self.root.add_borrowed_key(add, room)? {
+        match self.root.add_key(add, room)? {
             Some(grown) => {
                 self.count += grown.nodes;
                 self.bytes += grown.bytes;

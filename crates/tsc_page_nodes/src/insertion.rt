@@ -7,7 +7,7 @@ ghost use Rattle.tsc_page_nodes.specs.Insertions.{before_second};
 use crate::prefix::{PrefixedBytes, PrefixedCut, PrefixedKey};
 use std::alloc::Global;
 use std::marker::Model;
-use tsc_span::{Cut, KeyRef};
+use tsc_span::KeyRef;
 use tsc_time::{NoMemory, Value};
 
 /// What is added: a value between two cuts, with the keys at these, of which the first is the
@@ -90,10 +90,9 @@ impl<'a> SearchKey<'a> {
     pub fn new(bytes: &'a [u8]) -> SearchKey<'a>
         ensures { result ≡ bytes.now }
     {
-        SearchKey {
-            bytes: PrefixedBytes::new(bytes),
-            at: PrefixedCut::new(Cut::Before(bytes)),
-        }
+        let bytes = PrefixedBytes::new(bytes);
+        let at = bytes.before();
+        SearchKey { bytes, at }
     }
 
     /// The bytes of the key, with their prefix.

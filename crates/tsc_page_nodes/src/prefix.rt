@@ -203,6 +203,16 @@ impl<'a> PrefixedBytes<'a> {
         self.prefix
     }
 
+    /// The place right before the key of these bytes.
+    pub(crate) fn before(&self) -> PrefixedCut<'a>
+        ensures { result ≡ before self.now }
+    {
+        PrefixedCut {
+            prefix: self.prefix,
+            cut: Cut::Before(self.bytes),
+        }
+    }
+
     /// The place right after the key of these bytes.
     pub(crate) fn past(&self) -> PrefixedCut<'a>
         ensures { result ≡ after self.now }

@@ -13,21 +13,21 @@ use Rattle.tsc_cache.proofs.page_stack.Pages.mark_span.Goals as goal
 
 pub returns-in-Some-clause-room : goal.returns-in-Some-clause-room
 returns-in-Some-clause-room c =
-    subst (λ (v : PageView). IfOk c.add_in_place.result
+    subst (λ (v : PageView). IfOk c.add_span.result
     (λ done. done ≡ has_room_for v c.args.span.now)) c.in-Some.ensures.value
-    (told_room c.in-Some.front.now c.add_in_place.new.page c.args.span.now c.args.value
-    c.add_in_place.result c.add_in_place.ensures.told)
+    (told_room c.in-Some.front.now c.add_span.new.self c.args.span.now c.args.value
+    c.add_span.result c.add_span.ensures.told)
 
 pub returns-in-Some-clause-marked : goal.returns-in-Some-clause-marked
 returns-in-Some-clause-marked c =
     let m : Mark = record { span = c.args.span.now; value = c.args.value } in
     let old : PageView = front_of c.args.self.now in
     let is : c.in-Some.front.now ≡ old = c.in-Some.ensures.value in
-    let marked = marked_in_place c.add_in_place.result c.in-Some.front.now c.add_in_place.new.page m
-    c.add_in_place.ensures.told in
-    beside c.add_in_place.result (IsMarked old c.add_in_place.new.page m) _ refl
-    (subst (λ (v : PageView). IfOk c.add_in_place.result
-    (λ done. done ≡ true → IsMarked v c.add_in_place.new.page m)) is marked)
+    let marked = marked_in_place c.add_span.result c.in-Some.front.now c.add_span.new.self m
+    c.add_span.ensures.told in
+    beside c.add_span.result (IsMarked old c.add_span.new.self m) _ refl
+    (subst (λ (v : PageView). IfOk c.add_span.result
+    (λ done. done ≡ true → IsMarked v c.add_span.new.self m)) is marked)
 
 -- pages whose first one is the same
 left_as : {E : Type 0} (r : Result Bool E) (old new was : PageView) (rest : List PageView) →
@@ -42,16 +42,16 @@ kept_as (Ok done) old new was rest is kept = tt
 kept_as (Err e) old new was rest is kept = ap (λ (v : PageView). v ∷ rest) (kept ∙ is)
 
 pub returns-in-Some-clause-full : goal.returns-in-Some-clause-full
-returns-in-Some-clause-full c = left_as c.add_in_place.result c.in-Some.front.now
-    c.add_in_place.new.page (front_of c.args.self.now) (older_of c.args.self.now)
-    c.in-Some.ensures.value (told_full c.in-Some.front.now c.add_in_place.new.page c.args.span.now
-    c.args.value c.add_in_place.result c.add_in_place.ensures.told)
+returns-in-Some-clause-full c = left_as c.add_span.result c.in-Some.front.now
+    c.add_span.new.self (front_of c.args.self.now) (older_of c.args.self.now)
+    c.in-Some.ensures.value (told_full c.in-Some.front.now c.add_span.new.self c.args.span.now
+    c.args.value c.add_span.result c.add_span.ensures.told)
 
 pub returns-in-Some-clause-unchanged : goal.returns-in-Some-clause-unchanged
-returns-in-Some-clause-unchanged c = kept_as c.add_in_place.result c.in-Some.front.now
-    c.add_in_place.new.page (front_of c.args.self.now) (older_of c.args.self.now)
-    c.in-Some.ensures.value (told_unchanged c.in-Some.front.now c.add_in_place.new.page
-    c.args.span.now c.args.value c.add_in_place.result c.add_in_place.ensures.told)
+returns-in-Some-clause-unchanged c = kept_as c.add_span.result c.in-Some.front.now
+    c.add_span.new.self (front_of c.args.self.now) (older_of c.args.self.now)
+    c.in-Some.ensures.value (told_unchanged c.in-Some.front.now c.add_span.new.self
+    c.args.span.now c.args.value c.add_span.result c.add_span.ensures.told)
 
 pub returns-in_default-clause-room : goal.returns-in_default-clause-room
 returns-in_default-clause-room c =

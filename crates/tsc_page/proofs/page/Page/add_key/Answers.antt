@@ -12,7 +12,6 @@ use Rattle.tsc_page_nodes.specs.Nodes.{page_of}
 use Rattle.tsc_page_tree.specs.KeyAdds.{at_key}
 use Rattle.tsc_page.specs.Roots.{TreeView, IsKnown}
 use Rattle.tsc_page_nodes.proofs.Standing.{later-max}
-use Rattle.tsc_page_nodes.proofs.PageAdds.{refused_try, left_try, added_try}
 use Rattle.tsc_page.proofs.PageAdds.{page_adds, page_covers}
 use Rattle.tsc_page.proofs.TreeLists.{was_tried, was_not}
 use Rattle.tsc_page.proofs.page.Page.add_key.Goals as goal
@@ -23,13 +22,6 @@ invariant_of-self c = subst (λ (t : TreeView). IsKnown t × (t.bytes ≤ c.self
     NoAnswerAboveTop (page_of c.self.inside.size c.self.inside.top t.nodes t.sizes))
     (sym c.in_err-add_key.ensures.told) c.self.invariant
 
-pub returns-in_err-add_key-clause-told : goal.returns-in_err-add_key-clause-told
-returns-in_err-add_key-clause-told c =
-    refused_try c.args.self.now _ (record { span = point c.args.key.now; value = c.args.value })
-    c.from_residual.result c.from_residual.ensures.0
-    (ap (λ (t : TreeView). page_of c.self.inside.size c.self.inside.top t.nodes t.sizes)
-    c.in_err-add_key.ensures.told ∙ c.self.view_is)
-
 pub invariant_of-self-then-not-branch : goal.invariant_of-self-then-not-branch
 invariant_of-self-then-not-branch c = let same =
     was_not NoMemory _ c.self.inside.tree c.add_key.new.self (at_key c.new.result)
@@ -38,15 +30,6 @@ invariant_of-self-then-not-branch c = let same =
     (least_size ≤ c.self.inside.size) × (c.self.inside.size ≤ most_size) ×
     NoAnswerAboveTop (page_of c.self.inside.size c.self.inside.top t.nodes t.sizes)) (sym same)
     c.self.invariant
-
-pub returns-then-not-branch-clause-told : goal.returns-then-not-branch-clause-told
-returns-then-not-branch-clause-told c =
-    let same = was_not NoMemory _ c.self.inside.tree c.add_key.new.self (at_key c.new.result)
-    c.self.inside.size c.if-not-branch.true c.in_ok-add_key.ensures.told in
-    left_try {E = NoMemory} c.args.self.now _
-    (record { span = point c.args.key.now; value = c.args.value })
-    (ap (λ (t : TreeView). page_of c.self.inside.size c.self.inside.top t.nodes t.sizes) same ∙
-    c.self.view_is)
 
 pub invariant_of-self-2 : goal.invariant_of-self-2
 invariant_of-self-2 c =
@@ -74,13 +57,10 @@ returns c =
     c.self.inside.tree c.add_key.new.self (at_key c.new.result) inserts is in
     let new : PageView = page_of c.self.inside.size c.max-self-inside.result
     c.add_key.new.self.nodes c.add_key.new.self.sizes in
-    let told : AddsMark c.args.self.now new (point c.args.key.now) c.args.value =
-    subst (λ (v : PageView). AddsMark v new (point c.args.key.now) c.args.value) c.self.view_is
-    (subst (λ (d : KeyInsertionView). AddsMark
-    ((λ (t : TreeView). page_of c.self.inside.size c.self.inside.top t.nodes t.sizes)
-    c.self.inside.tree) new (point d.key) d.value) c.new.ensures adds) in
     record {
-      room = λ e. told.room;
-      told = added_try {E = NoMemory} c.args.self.now new
-          (record { span = point c.args.key.now; value = c.args.value }) told;
+      tried = subst (λ (v : PageView). AddsMark v new (point c.args.key.now) c.args.value)
+          c.self.view_is
+          (subst (λ (d : KeyInsertionView). AddsMark
+          ((λ (t : TreeView). page_of c.self.inside.size c.self.inside.top t.nodes t.sizes)
+          c.self.inside.tree) new (point d.key) d.value) c.new.ensures adds);
     }

@@ -1,24 +1,17 @@
 -- What the tree tells of an insertion holds of the page.
-use Rattle.std.proofs.Common.{◌∙◌, ◌≡◌, ◌≤◌, ◌++◌, nat_le, sym, ap, subst, false, arith}
+use Rattle.std.proofs.Common.{◌∙◌, sym, ap, subst}
 use Rattle.std.specs.Ordering.{ord_max}
-use Rattle.std.proofs.lemmas.Bool.{lt-leb}
-use Rattle.tsc_time.specs.Time.{Time, time_cmp, later}
+use Rattle.tsc_time.specs.Time.{time_cmp, later}
 use Rattle.tsc_time.specs.OwnedTime.{OwnedTime}
 use Rattle.tsc_time.specs.declared.memory.NoMemory.{NoMemory}
-use Rattle.tsc_span.specs.Span.{Interval, between, point, end_keys}
-use Rattle.tsc_page_nodes.specs.Limits.{least_size, most_size}
-use Rattle.tsc_page_nodes.specs.Page.{cost_distinct}
-use Rattle.tsc_page_nodes.specs.PageView.{PageView, NoAnswerAboveTop, has_room_for}
+use Rattle.tsc_span.specs.Span.{between}
+use Rattle.tsc_page_nodes.specs.PageView.{PageView}
 use Rattle.tsc_page_nodes.specs.PageAdds.{AddsMark}
-use Rattle.tsc_page_nodes.specs.KeyAdds.{KeyInsertionView}
-use Rattle.tsc_page_nodes.specs.Nodes.{node_keys, page_of}
-use Rattle.tsc_page_tree.specs.KeyAdds.{at_key}
-use Rattle.tsc_page.specs.Roots.{TreeView, IsKnown}
+use Rattle.tsc_page_nodes.specs.Nodes.{page_of}
 use Rattle.tsc_page_nodes.proofs.Standing.{later-max}
-use Rattle.tsc_page_nodes.proofs.PageAdds.{adds_as, refused_mark}
+use Rattle.tsc_page_nodes.proofs.PageAdds.{adds_as}
 use Rattle.tsc_page.proofs.PageAdds.{page_adds, page_covers, no_room}
-use Rattle.tsc_page.proofs.Refusals.{on_refusal}
-use Rattle.tsc_page.proofs.TreeLists.{was_tried, was_not, was_inserted, was_left, was_made, was_full}
+use Rattle.tsc_page.proofs.TreeLists.{was_made, was_full}
 use Rattle.tsc_page.proofs.page.Page.added_span.Goals as goal
 
 pub returns-in_default-2 : goal.returns-in_default-2

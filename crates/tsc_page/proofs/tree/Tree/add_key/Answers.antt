@@ -12,21 +12,21 @@ use Rattle.tsc_page.proofs.TreeLists.{seen_of, seen_same, counted_added, counted
 use Rattle.tsc_page.proofs.tree.Tree.add_key.Goals as goal
 
 pub invariant_of-self : goal.invariant_of-self
-invariant_of-self c = counted_kept c.self.inside.root c.add_borrowed_key.new.self
-    c.self.inside.count c.self.inside.bytes c.self.invariant c.add_borrowed_key.ensures.whole
+invariant_of-self c = counted_kept c.self.inside.root c.add_key.new.self
+    c.self.inside.count c.self.inside.bytes c.self.invariant c.add_key.ensures.whole
     c.in_err-grown.ensures.told.0
 
 pub returns-in_err-grown : goal.returns-in_err-grown
 returns-in_err-grown c = record {
   told = refused_try c.from_residual.result _ _ _ c.args.most c.from_residual.ensures.0
-      (seen_same c.self.inside.root c.add_borrowed_key.new.self c.self.inside.bytes
+      (seen_same c.self.inside.root c.add_key.new.self c.self.inside.bytes
       c.in_err-grown.ensures.told.0 c.in_err-grown.ensures.told.1 ∙ c.self.view_is);
 }
 
 pub overflow_add-self : goal.overflow_add-self
 overflow_add-self c =
     let r = c.self.inside.root in
-    let q = c.add_borrowed_key.new.self in
+    let q = c.add_key.new.self in
     let a : InsertionView = at_key c.args.add.now in
     let room : ℕ = c.args.most - c.self.inside.bytes in
     let told = told_within {E = NoMemory} (Ok c.in_ok-grown.field-0) (root_nodes r) (root_nodes q)
@@ -49,7 +49,7 @@ overflow_add-self c =
 pub overflow_add-self-in-Some : goal.overflow_add-self-in-Some
 overflow_add-self-in-Some c =
     let r = c.self.inside.root in
-    let q = c.add_borrowed_key.new.self in
+    let q = c.add_key.new.self in
     let a : InsertionView = at_key c.args.add.now in
     let room : ℕ = c.args.most - c.self.inside.bytes in
     let told = told_within {E = NoMemory} (Ok c.in_ok-grown.field-0) (root_nodes r) (root_nodes q)
@@ -67,7 +67,7 @@ overflow_add-self-in-Some c =
 pub invariant_of-self-in-Some : goal.invariant_of-self-in-Some
 invariant_of-self-in-Some c =
     let r = c.self.inside.root in
-    let q = c.add_borrowed_key.new.self in
+    let q = c.add_key.new.self in
     let a : InsertionView = at_key c.args.add.now in
     let room : ℕ = c.args.most - c.self.inside.bytes in
     let told = told_within {E = NoMemory} (Ok c.in_ok-grown.field-0) (root_nodes r) (root_nodes q)
@@ -76,13 +76,13 @@ invariant_of-self-in-Some c =
     (root_nodes q) (root_sizes r) (root_sizes q) a room c.in-Some.is told in
     let ends = key_ends c.args.add.now in
     counted_added r q c.self.inside.count c.self.inside.bytes room c.in-Some.grown a
-    c.self.invariant c.add_borrowed_key.ensures.whole
+    c.self.invariant c.add_key.ensures.whole
     (ends_in_order a.from a.to a.first a.second ends.order ends.keys) adds
 
 pub returns-in-Some : goal.returns-in-Some
 returns-in-Some c =
     let r = c.self.inside.root in
-    let q = c.add_borrowed_key.new.self in
+    let q = c.add_key.new.self in
     let a : InsertionView = at_key c.args.add.now in
     let room : ℕ = c.args.most - c.self.inside.bytes in
     let told = told_within {E = NoMemory} (Ok c.in_ok-grown.field-0) (root_nodes r) (root_nodes q)
@@ -95,13 +95,13 @@ returns-in-Some c =
           (inserts_some r q c.self.inside.count c.self.inside.bytes c.args.most c.in-Some.grown a
           c.self.invariant (omega
           (arith, c.requires.within, ap (λ (t : TreeView). t.bytes) c.self.view_is))
-          c.add_borrowed_key.ensures.whole (key_ends c.args.add.now) adds);
+          c.add_key.ensures.whole (key_ends c.args.add.now) adds);
     }
 
 pub invariant_of-self-in-None : goal.invariant_of-self-in-None
 invariant_of-self-in-None c =
     let r = c.self.inside.root in
-    let q = c.add_borrowed_key.new.self in
+    let q = c.add_key.new.self in
     let a : InsertionView = at_key c.args.add.now in
     let room : ℕ = c.args.most - c.self.inside.bytes in
     let told = told_within {E = NoMemory} (Ok c.in_ok-grown.field-0) (root_nodes r) (root_nodes q)
@@ -109,12 +109,12 @@ invariant_of-self-in-None c =
     let left = tells_none NoMemory c.in_ok-grown.field-0 (root_nodes r) (root_nodes q)
     (root_sizes r) (root_sizes q) a room c.in-None.is told in
     counted_kept r q c.self.inside.count c.self.inside.bytes c.self.invariant
-    c.add_borrowed_key.ensures.whole left.0
+    c.add_key.ensures.whole left.0
 
 pub returns-in-None : goal.returns-in-None
 returns-in-None c =
     let r = c.self.inside.root in
-    let q = c.add_borrowed_key.new.self in
+    let q = c.add_key.new.self in
     let a : InsertionView = at_key c.args.add.now in
     let room : ℕ = c.args.most - c.self.inside.bytes in
     let told = told_within {E = NoMemory} (Ok c.in_ok-grown.field-0) (root_nodes r) (root_nodes q)

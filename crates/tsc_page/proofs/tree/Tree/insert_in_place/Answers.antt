@@ -1,14 +1,12 @@
 -- What the root tells of an insertion holds of the tree.
-use Rattle.std.proofs.Common.{◌-◌, ◌+◌, ◌∙◌, ℕ, ap, subst, Ok, arith}
+use Rattle.std.proofs.Common.{◌-◌, ◌+◌, ◌∙◌, ℕ, ap, subst, arith}
 use Rattle.tsc_time.specs.declared.memory.NoMemory.{NoMemory}
 use Rattle.tsc_page_nodes.specs.Insertions.{InsertionView}
 use Rattle.tsc_page_nodes.proofs.Costs.{node_costs}
 use Rattle.tsc_page_nodes.proofs.Ends.{ends_in_order}
-use Rattle.tsc_page_tree.specs.KeyAdds.{at_key}
-use Rattle.tsc_page_tree.proofs.KeyAdds.{told_within}
 use Rattle.tsc_page_tree.proofs.Wholes.{tells_some, tells_none}
 use Rattle.tsc_page.specs.Roots.{TreeView, root_nodes, root_sizes, Inserts}
-use Rattle.tsc_page.proofs.TreeLists.{seen_of, seen_same, counted_added, counted_kept, inserts_some, refused_try, key_ends}
+use Rattle.tsc_page.proofs.TreeLists.{seen_of, seen_same, counted_added, counted_kept, inserts_some, refused_try}
 use Rattle.tsc_page.proofs.tree.Tree.insert_in_place.Goals as goal
 
 pub invariant_of-self : goal.invariant_of-self
