@@ -11,20 +11,26 @@ use test_support::{marks, told, told_added, told_value, written};
 use tsc_span::Key;
 use tsc_striped::{AddFault, Busy, OpenFault, StripedCache, TryAddFault};
 
-/// Calls on three stripes. After each Add the other seat makes the next call. The last Add rotates
-/// the pages of its stripe.
+/// Calls on three stripes. After each Add the other seat makes the next call, and `number` tells
+/// which of its seat's own Adds that Add was. The last Add rotates the pages of its stripe.
 const CALLS: &str = "add [a] 20.0 A = 1 0 0
+number = 0
 get [a] = 20.0 A
 get [b] = 5.0 -
 add [a,d) 21.0 B = 1 0 0
+number = 0
 get (b,c) = 21.0 B
 get [d..] = 5.0 -
 batch [a] 22.0 A [d] 22.0 A = 1 0 0
+number = 1
 batch = 0 0 0
+number = 1
 get [a..] = 22.0 A
 tries 9 = done
 add [c] 23.0 B = 1 0 0
+number = 2
 batch [c] 23.0 A [e] 4.0 A = 1 0 0
+number = 2
 get [c] = 23.0 -
 get [c,z) = 23.0 -
 tries 0 = done
@@ -44,12 +50,30 @@ snapshot [a..] = 3
 sum_up [b,z) = 2
 take_over 0 = 1 0 0
 take_over 1 = 1 0 0
+number = 3
 get [c] = 23.0 -
 gated [c,z) 24.0 A = 1 0 0
+number = 4
 get [d] = 24.0 A
 gated_all [c,z) 24.0 A [a] 25.0 B = 1 0 0
+number = 4
 get [a] = 25.0 B
-meet = 10
+tries 0 = done
+gated [c] 26.0 B = busy
+gated [c,e) 26.0 B = busy
+gated_all [c] 26.0 B = busy
+take_over 0 = busy
+tries 9 = done
+gated [c,e) 26.0 B = 1 0 0
+number = 5
+gated_all [c] 26.0 A [d] 25.0 A = 1 0 0
+number = 5
+take_over 1 = 1 0 0
+number = 6
+get [c] = 26.0 -
+get [d] = 26.0 B
+tries all = done
+meet = 13
 add [e*4000] 26.0 A = 1 0 0
 add [f*4000] 26.0 A = 1 0 0
 add [g*4000] 26.0 A = 1 1 0
@@ -100,6 +124,7 @@ fn answer<R: Wait>(seats: &mut Seats<'_, R>, words: &[&str]) -> Told<String> {
         ["sum_up", text] => written(alloc, seats.sum_up(&span(alloc, text)?)?),
         ["take_over", number] => told_added(alloc, seats.take_over(number.parse()?)?),
         ["snapshot", text] => written(alloc, seats.snapshot(&span(alloc, text)?)?),
+        ["number"] => written(alloc, seats.number()?),
         ["meet"] => written(alloc, seats.meet()),
         _ => Err(Refusal::NoRow),
     }

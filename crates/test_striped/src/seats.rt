@@ -14,7 +14,7 @@ use tsc_span::{Key, Span, SpanRef};
 use tsc_striped::{
     AddFault, Busy, Dealer, Gate, Receipt, Seat, SnapshotFault, StripedCache, TryAddFault,
 };
-use tsc_striped_leases::{apply_in_stripes, summary_in_stripes};
+use tsc_striped_leases::{apply_in_stripes, summary_in_stripes, try_apply_in_stripes};
 use tsc_time::{Timestamp, Value};
 
 /// A gate that counts the Adds that it is told of.
@@ -43,7 +43,7 @@ impl Counted {
     }
 
     /// Whether it was told of an accepted Add once, and of a refused one never.
-    fn is_told(&self, added: &Result<Receipt, AddFault>) -> bool {
+    fn is_told(&self, added: &Told<Receipt>) -> bool {
         self.told.load(SeqCst) == u32::from(added.is_ok())
     }
 }
@@ -57,6 +57,8 @@ pub struct Seats<'a, R> {
     pub tries: Option<u32>,
     /// What the last `sum_up` told.
     summaries: Vec<ReadSummary>,
+    /// Which of its seat's own Adds the last Add was.
+    number: Option<u64>,
     striped: StripedCache,
     dealer: Dealer,
     seat: Seat,
@@ -110,6 +112,7 @@ impl<'a, R: Wait> Seats<'a, R> {
             alloc,
             tries: None,
             summaries: Vec::new(alloc),
+            number: None,
             striped,
             dealer,
             seat,
@@ -123,7 +126,13 @@ impl<'a, R: Wait> Seats<'a, R> {
     {
         self.striped.learn(&mut self.other, receipt.front);
         mem::swap(&mut self.seat, &mut self.other);
+        self.number = Some(receipt.number);
         receipt.added
+    }
+
+    /// Which of its seat's own Adds the last Add was.
+    pub fn number(&self) -> Told<u64> {
+        self.number.ok_or(Refusal::NoRow)
     }
 
     pub fn add(&mut self, mark: &Mark) -> Told<Added> {
@@ -174,22 +183,36 @@ impl<'a, R: Wait> Seats<'a, R> {
     pub fn add_gated(&mut self, mark: &Mark) -> Told<Added> {
         let (striped, seat, now) = (&self.striped, &mut self.seat, at(20, 0));
         let gate = Counted::new();
-        let added = striped.add_gated(self.rt, seat, &mark.span, mark.value, now, &gate);
+        let added = match self.tries {
+            Some(tries) => striped
+                .try_add_gated(seat, &mark.span, mark.value, now, tries, &gate)
+                .map_err(of_try),
+            None => striped
+                .add_gated(self.rt, seat, &mark.span, mark.value, now, &gate)
+                .map_err(of_add),
+        };
         if !gate.is_told(&added) {
             return Err(Refusal::NoRow);
         }
-        Ok(self.turn(added.map_err(of_add)?))
+        Ok(self.turn(added?))
     }
 
     /// Adds all of them with one gate.
     pub fn add_all_gated(&mut self, marks: &[Mark]) -> Told<Added> {
         let (striped, seat, now) = (&self.striped, &mut self.seat, at(20, 0));
         let gate = Counted::new();
-        let added = striped.add_all_gated(self.rt, seat, marks, now, &gate);
+        let added = match self.tries {
+            Some(tries) => striped
+                .try_add_all_gated(seat, marks, now, tries, &gate)
+                .map_err(of_try),
+            None => striped
+                .add_all_gated(self.rt, seat, marks, now, &gate)
+                .map_err(of_add),
+        };
         if !gate.is_told(&added) {
             return Err(Refusal::NoRow);
         }
-        Ok(self.turn(added.map_err(of_add)?))
+        Ok(self.turn(added?))
     }
 
     /// The floor and the figures of a stripe.
@@ -234,7 +257,10 @@ impl<'a, R: Wait> Seats<'a, R> {
     pub fn take_over(&mut self, number: usize) -> Told<Added> {
         let (striped, seat, now) = (&self.striped, &mut self.seat, at(20, 0));
         let one = self.summaries.get(number).ok_or(Refusal::NoRow)?;
-        let receipt = apply_in_stripes(self.rt, striped, seat, one, now).map_err(of_add)?;
+        let receipt = match self.tries {
+            Some(tries) => { try_apply_in_stripes(striped, seat, one, now, tries).map_err(of_try)? }
+            None => apply_in_stripes(self.rt, striped, seat, one, now).map_err(of_add)?,
+        };
         Ok(self.turn(receipt))
     }
 

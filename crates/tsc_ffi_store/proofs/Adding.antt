@@ -27,7 +27,8 @@ use Rattle.tsc_ffi_store.specs.declared.seats.kinds.AnySeat.TheVariants.{Shared,
 use Rattle.tsc_ffi_store.specs.Decode.{AskedAdd, AskedBatch, NamesAdd}
 use Rattle.tsc_ffi_store.specs.Marks.{NamesAddAll}
 use Rattle.tsc_ffi_store.specs.Kinds.{ByKind, config_of}
-use Rattle.tsc_ffi_store.specs.Asking.{AddsShared, AddsStriped, IsPlaced, IsPlacedAt, one_mark}
+use Rattle.tsc_ffi_store.specs.Asking.{AddsShared, AddsStriped, IsPlaced, IsPlacedInStripes}
+use Rattle.tsc_ffi_store.specs.Asking.{one_mark}
 use Rattle.tsc_ffi_store.specs.Asking.{LacksShared, LacksStriped}
 use Rattle.tsc_ffi_store.specs.SeatCalls.{SeatAccepts, RefusesTried, KeepsOnRefusal, IsCodeOf}
 use Rattle.tsc_ffi_store.specs.SeatCalls.{AnswersTriedAdd, AnswersTriedAddAll}
@@ -98,40 +99,43 @@ seat_spared ms now fit tries why old new a =
 
 -- ---- in stripes
 
-pub record AcceptedAt (place : ℕ) (told : Result StripedReceipt StripedFault) (placed : Placed) :
+pub record AcceptedInStripes (told : Result StripedReceipt StripedFault) (placed : Placed) :
     Type 0 where
   pub receipt : StripedReceipt
   pub is : told ≡ Ok receipt
-  pub place_is : placed.place ≡ place
+  pub place_is : placed.place ≡ receipt.number
   pub added : placed.added ≡ receipt.added
 
-accepted_at : (place : ℕ) (told : Result StripedReceipt StripedFault) (placed : Placed)
-    → IsPlacedAt place told (Ok placed) → AcceptedAt place told placed
-accepted_at place (Ok receipt) placed is =
+accepted_in_stripes : (told : Result StripedReceipt StripedFault) (placed : Placed)
+    → IsPlacedInStripes told (Ok placed) → AcceptedInStripes told placed
+accepted_in_stripes (Ok receipt) placed is =
     record { receipt = receipt; is = refl; place_is = is.0; added = is.1 }
-accepted_at place (Err fault) placed is = absurd is
+accepted_in_stripes (Err fault) placed is = absurd is
 
-pub record FaultedAt (told : Result StripedReceipt StripedFault) (why : Refusal) : Type 0 where
+pub record FaultedInStripes (told : Result StripedReceipt StripedFault) (why : Refusal) : Type
+    0 where
   pub fault : StripedFault
   pub is : told ≡ Err fault
   pub code : IsStripedCode fault why
 
-faulted_at : (place : ℕ) (told : Result StripedReceipt StripedFault) (why : Refusal)
-    → IsPlacedAt place told (Err why) → FaultedAt told why
-faulted_at place (Ok receipt) why is = absurd is
-faulted_at place (Err fault) why is = record { fault = fault; is = refl; code = is }
+faulted_in_stripes : (told : Result StripedReceipt StripedFault) (why : Refusal)
+    → IsPlacedInStripes told (Err why) → FaultedInStripes told why
+faulted_in_stripes (Ok receipt) why is = absurd is
+faulted_in_stripes (Err fault) why is = record { fault = fault; is = refl; code = is }
 
 striped_accepts : (ms : List Mark) (now : Time) (tries : ℕ) (placed : Placed) (added : Added)
     (old new : StripedSeat) → placed.added ≡ added → AddsStriped ms now tries old new (Ok placed)
     → StripedAccepts old new ms now placed.place added
 striped_accepts ms now tries placed added old new same a =
-    let t = accepted_at old.count a.told placed a.is in
+    let t = accepted_in_stripes a.told placed a.is in
+    let accepts : striped.Accepts old new ms now t.receipt =
+    subst (λ (r : Result StripedReceipt StripedFault). IfOk r
+    (λ receipt. striped.Accepts old new ms now receipt)) t.is a.answers.accepted in
     record {
       receipt = t.receipt;
-      accepts = subst (λ (r : Result StripedReceipt StripedFault). IfOk r
-          (λ receipt. striped.Accepts old new ms now receipt)) t.is a.answers.accepted;
+      accepts = accepts;
       goes_on = a.answers.seat;
-      place_is = t.place_is;
+      place_is = t.place_is ∙ accepts.number;
       added_is = sym same ∙ t.added;
     }
 
@@ -145,7 +149,7 @@ striped_refuses : (ms : List Mark) (now : Time) (tries : ℕ) (why : Refusal)
     (old new : StripedSeat) → AddsStriped ms now tries old new (Err why)
     → RefusesInStripes why old
 striped_refuses ms now tries why old new a =
-    let t = faulted_at old.count a.told why a.is in
+    let t = faulted_in_stripes a.told why a.is in
     why_in_stripes why old t.fault t.code
     (subst (λ (r : Result StripedReceipt StripedFault). IfErr r
     (λ fault. striped.TryRefusedFor old fault)) t.is a.answers.why)
@@ -153,7 +157,7 @@ striped_refuses ms now tries why old new a =
 striped_same : (ms : List Mark) (now : Time) (tries : ℕ) (why : Refusal) (old new : StripedSeat)
     → AddsStriped ms now tries old new (Err why) → new ≡ old
 striped_same ms now tries why old new a =
-    let t = faulted_at old.count a.told why a.is in
+    let t = faulted_in_stripes a.told why a.is in
     subst (λ (r : Result StripedReceipt StripedFault). OnErr r (new ≡ old)) t.is a.answers.refused
 
 -- ---- an Add of a span

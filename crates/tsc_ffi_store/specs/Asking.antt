@@ -115,18 +115,18 @@ pub record AddsShared (marks : List Mark) (now : Time) (fit : Bool) (tries : ℕ
   pub is : IsPlaced told did
 
 -- What a cache in stripes says of an Add is told: its place among the seat's own, and what it did.
-abbrev pub IsPlacedAt : ℕ → Result StripedReceipt StripedFault → Result Placed Refusal → Type 0
-IsPlacedAt place (Ok receipt) (Ok placed) =
-    (placed.place ≡ place) × (placed.added ≡ receipt.added)
-IsPlacedAt place (Ok receipt) (Err why) = ⊥
-IsPlacedAt place (Err fault) (Ok placed) = ⊥
-IsPlacedAt place (Err fault) (Err why) = IsStripedCode fault why
+abbrev pub IsPlacedInStripes : Result StripedReceipt StripedFault → Result Placed Refusal → Type 0
+IsPlacedInStripes (Ok receipt) (Ok placed) =
+    (placed.place ≡ receipt.number) × (placed.added ≡ receipt.added)
+IsPlacedInStripes (Ok receipt) (Err why) = ⊥
+IsPlacedInStripes (Err fault) (Ok placed) = ⊥
+IsPlacedInStripes (Err fault) (Err why) = IsStripedCode fault why
 
 pub record AddsStriped (marks : List Mark) (now : Time) (tries : ℕ) (old new : StripedSeat)
     (did : Result Placed Refusal) : Type 0 where
   pub told : Result StripedReceipt StripedFault
   pub answers : striped.AnswersTriedAdd old new marks now (Some tries) told
-  pub is : IsPlacedAt old.count told did
+  pub is : IsPlacedInStripes told did
 
 -- There is no memory for an Add: it is refused as it would be that was tried.
 pub record LacksShared (old new : SharedSeat) (why : Refusal) : Type 0 where

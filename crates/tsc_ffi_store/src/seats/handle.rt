@@ -213,8 +213,7 @@ impl SeatHandle {
                 let AnyCache::Striped(cache) = &self.shared.cache else {
                     unreachable!()
                 };
-                let place = seat.count();
-                striped_calls::placed(cache.try_add(seat, span, value, now, tries), place)
+                striped_calls::placed(cache.try_add(seat, span, value, now, tries))
             }
         }
     }
@@ -244,8 +243,7 @@ impl SeatHandle {
                 let AnyCache::Striped(cache) = &self.shared.cache else {
                     unreachable!()
                 };
-                let place = seat.count();
-                striped_calls::placed(cache.try_add_all(seat, marks, now, tries), place)
+                striped_calls::placed(cache.try_add_all(seat, marks, now, tries))
             }
         }
     }

@@ -2,7 +2,7 @@
 //! that others were in the way.
 ghost use Rattle.std.specs.Prelude.{◌≡◌, ◌⊎◌};
 ghost use Rattle.tsc_striped_leases.specs.Merging.{earlier};
-ghost use Rattle.tsc_ffi_store.specs.Asking.{LooksStriped, TellsFloorStriped, CountsStriped, SumsUpStriped, IsPlacedAt};
+ghost use Rattle.tsc_ffi_store.specs.Asking.{LooksStriped, TellsFloorStriped, CountsStriped, SumsUpStriped, IsPlacedInStripes};
 ghost use Rattle.tsc_ffi_store.specs.declared.refusal.Refusal.TheVariants as refusal;
 ghost use Rattle.tsc_ffi_store.specs.StripedCalls.{both_figures, no_figures, LooksOn, RefusesInStripes};
 
@@ -166,13 +166,13 @@ fn of_snapshot_fault(fault: SnapshotFault) -> Refusal
     }
 }
 
-/// What became of an Add that would have this place among the seat's own.
-pub(crate) fn placed(did: Result<Receipt, TryAddFault>, place: u64) -> Result<Placed, Refusal>
-    ensures { IsPlacedAt place did result }
+/// What became of an Add.
+pub(crate) fn placed(did: Result<Receipt, TryAddFault>) -> Result<Placed, Refusal>
+    ensures { IsPlacedInStripes did result }
 {
     match did {
         Ok(receipt) => Ok(Placed {
-            place,
+            place: receipt.number,
             added: receipt.added,
         }),
         Err(TryAddFault::Busy) => Err(Refusal::Busy),
