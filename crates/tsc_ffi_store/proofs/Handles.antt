@@ -1,5 +1,5 @@
 -- A handle for each seat, with a token.
-use Rattle.std.proofs.Common.{◌≡◌, ◌∙◌, refl, sym, ap, ℕ, zero, suc, ◌+◌, ◌<◌, List, [], ◌∷◌, ◌++◌, length, map, append_assoc, append-nil, arith}
+use Rattle.std.proofs.Common.{◌≡◌, ◌∙◌, refl, sym, ap, Some, ℕ, zero, suc, ◌+◌, ◌<◌, List, [], ◌∷◌, ◌++◌, length, map, append_assoc, append-nil, arith}
 use Rattle.std.proofs.lemmas.List.{length_push}
 use Rattle.tsc_ffi_store.specs.declared.seats.kinds.AnyCache.{AnyCache}
 use Rattle.tsc_ffi_store.specs.declared.seats.kinds.AnyCache.TheVariants as kind
@@ -17,10 +17,10 @@ pub record Dealing (cache : AnyCache) (table : TableId) (seats : ℕ) (me : At)
   pub all : length handles + left ≡ seats
   pub others : rest ≡ new_any_seats cache (length handles) left
   pub made : handles ++ map (handle_of table) rest ≡ map (handle_of table) (new_any_seats cache 0 seats)
-  pub tokens : me ≡ (dealing (length handles) seats 0, [])
+  pub tokens : me ≡ (dealing (Some cache) (length handles) (seats + seats) 0, [])
 
 pub none_dealt : (cache : AnyCache) (table : TableId) (seats : ℕ) (me : At)
-    (all : List AnySeat) → all ≡ new_any_seats cache 0 seats → me ≡ (dealing 0 seats 0, []) →
+    (all : List AnySeat) → all ≡ new_any_seats cache 0 seats → me ≡ (dealing (Some cache) 0 (seats + seats) 0, []) →
     Dealing cache table seats me [] all
 none_dealt cache table seats me all is known = record {
   left = seats;
@@ -99,7 +99,7 @@ pub next_dealt : (cache : AnyCache) (table : TableId) (seats : ℕ) (me me' : At
     (handles handles' : List HandleView) (rest rest' : List AnySeat) (seat : AnySeat) →
     Dealing cache table seats me handles rest → rest ≡ seat ∷ rest'
     → handles' ≡ handles ++ handle_of table seat ∷ [] →
-    me' ≡ (dealing ((number_of seat) + 1) seats 0, []) → Dealing cache table seats me' handles' rest'
+    me' ≡ (dealing (Some cache) ((number_of seat) + 1) (seats + seats) 0, []) → Dealing cache table seats me' handles' rest'
 next_dealt cache table seats me me' handles handles' rest rest' seat d is pushed known =
     let k = next_of cache table seats me handles rest rest' seat d is in let all = k.all in
     let long : length handles' ≡ suc (length handles) = ap length pushed ∙
@@ -111,7 +111,7 @@ next_dealt cache table seats me me' handles handles' rest rest' seat d is pushed
       made = ap (λ (cs : List HandleView). cs ++ map (handle_of table) rest') pushed ∙
           append_assoc handles (handle_of table seat ∷ []) (map (handle_of table) rest') ∙
           ap (λ (cs : List AnySeat). handles ++ map (handle_of table) cs) (sym is) ∙ d.made;
-      tokens = known ∙ ap (λ (n : ℕ). (dealing n seats 0, []))
+      tokens = known ∙ ap (λ (n : ℕ). (dealing (Some cache) n (seats + seats) 0, []))
           (omega (arith, long, next_number cache table seats me handles rest rest' seat d is));
     }
 
@@ -123,10 +123,10 @@ pub all_dealt : (cache : AnyCache) (table : TableId) (seats : ℕ) (me : At)
     (handles : List HandleView) (rest : List AnySeat) →
     Dealing cache table seats me handles rest → rest ≡ [] →
     (handles ≡ map (handle_of table) (new_any_seats cache 0 seats)) ×
-    (me ≡ (keeping seats 0 [], []))
+    (me ≡ (keeping cache seats 0 [], []))
 all_dealt cache table seats me handles rest d is =
     let none = none_left cache (length handles) d.left (sym is ∙ d.others) in let all = d.all in (
       sym (append-nil handles) ∙ ap (λ (cs : List AnySeat). handles ++ map (handle_of table) cs) (sym is) ∙
           d.made,
-      d.tokens ∙ ap (λ (n : ℕ). (dealing n seats 0, [])) (omega (arith, all, none)),
+      d.tokens ∙ ap (λ (n : ℕ). (dealing (Some cache) n (seats + seats) 0, [])) (omega (arith, all, none)),
     )

@@ -57,14 +57,14 @@ joined_free token other token' other' free is (inr keep) =
 
 -- ---- the owner
 
-pub keeper_learns : (table its : TableId) (seats returned : ℕ) (w : Known) (me me' : At) →
-    me ≡ (keeping seats returned me.0.back, []) → LearnsBy table its w me me' →
-    me' ≡ (keeping seats returned me'.0.back, [])
-keeper_learns table its seats returned w me me' known (inl told) =
-    by_itself seats returned (me.0.back ++ w.back) me'
+pub keeper_learns : (cache : AnyCache) (table its : TableId) (seats returned : ℕ) (w : Known)
+    (me me' : At) → me ≡ (keeping cache seats returned me.0.back, []) →
+    LearnsBy table its w me me' → me' ≡ (keeping cache seats returned me'.0.back, [])
+keeper_learns cache table its seats returned w me me' known (inl told) =
+    by_itself cache seats returned (me.0.back ++ w.back) me'
     (told.1 ∙ ap (λ (m : At). (also_back m.0 w, m.1)) known)
-keeper_learns table its seats returned w me me' known (inr told) =
-    by_itself seats returned me.0.back me' (told.1 ∙ known)
+keeper_learns cache table its seats returned w me me' known (inr told) =
+    by_itself cache seats returned me.0.back me' (told.1 ∙ known)
 
 pub owner_learns : (cache : AnyCache) (table its : TableId) (w : Known) (me me' : At) →
     LearnsBy table its w me me' → LearnsOf its w.back
@@ -86,7 +86,7 @@ pub keeps_itself : (shared : SharedHandleView) (table : TableId) (me : At) (seat
 keeps_itself shared table me seats returned back k = record {
   its_table = k.its_table;
   all = k.all;
-  known = by_itself seats returned back me k.known;
+  known = by_itself shared.cache seats returned back me k.known;
   some = k.some;
   any = k.any;
 }
@@ -99,7 +99,7 @@ pub keeps_on : (shared : SharedHandleView) (slots table table' its : TableId) (w
 keeps_on shared slots table table' its w me me' seats returned k same learns = record {
   its_table = same ∙ k.its_table;
   all = k.all;
-  known = keeper_learns slots its seats returned w me me' k.known learns;
+  known = keeper_learns shared.cache slots its seats returned w me me' k.known learns;
   some = k.some;
   any = k.any;
 }
@@ -107,17 +107,17 @@ keeps_on shared slots table table' its w me me' seats returned k same learns = r
 -- a keeper that looked on is one, and knows the same seats
 pub looks_on : (shared : SharedHandleView) (slots table table' : TableId) (me me' : At)
     (seats returned returned' : ℕ) → IsKeeper shared table me seats returned me.0.back →
-    slots ≡ shared.table → KnowsReturned slots table' me' seats returned' me.0.back →
+    slots ≡ shared.table → KnowsReturned shared.cache slots table' me' seats returned' me.0.back →
     IsKeeper shared table' me' seats returned' me'.0.back × (me'.0.back ≡ me.0.back)
 looks_on shared slots table table' me me' seats returned returned' k same knows = (
   record {
     its_table = knows.its_table ∙ same;
     all = k.all;
-    known = by_itself seats returned' me.0.back me' knows.known;
+    known = by_itself shared.cache seats returned' me.0.back me' knows.known;
     some = knows.some;
     any = k.any;
   },
-  known_of seats returned' me.0.back me' knows.known,
+  known_of shared.cache seats returned' me.0.back me' knows.known,
 )
 
 -- a cache that was opened has seats

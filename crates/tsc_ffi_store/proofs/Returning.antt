@@ -1,6 +1,6 @@
 -- The steps at the slots in which seats are returned keep their rule.
-use Rattle.std.proofs.Common.{◌≡◌, ◌≢◌, ◌⊎◌, ◌∙◌, inl, inr, refl, sym, ap, subst, true, true≢false, All, ℕ, zero, suc, ◌+◌, ◌<◌, List, [], ◌∷◌, ◌++◌, length, map, set, arith, slice_index, length-set, get_or-set_other, get_or-set_same, ◌≤◌, rules}
-use Rattle.std.specs.Prelude.{Some, None, replicate, slice_get}
+use Rattle.std.proofs.Common.{◌≡◌, ◌≢◌, ◌⊎◌, ◌∙◌, inl, inr, refl, sym, ap, subst, true, false, true≢false, All, ℕ, zero, suc, ◌+◌, ◌<◌, List, [], ◌∷◌, ◌++◌, length, map, set, arith, slice_index, length-set, get_or-set_other, get_or-set_same, ◌≤◌, rules}
+use Rattle.std.specs.Prelude.{Option, Some, None, replicate, slice_get, slice_index_or}
 use mathlib.Core.Logic.{dite}
 use native.Mathlib.Decide.{ℕ_discrete}
 use mathlib.Core.Option as maybe
@@ -15,8 +15,8 @@ use Rattle.tsc_ffi_store.specs.declared.seats.kinds.AnyCache.{AnyCache}
 use Rattle.tsc_ffi_store.specs.declared.seats.kinds.AnySeat.{AnySeat}
 use Rattle.tsc_ffi_store.specs.Kinds.{seats_of, cache_of, number_of}
 use Rattle.tsc_ffi_store.specs.declared.seats.return_slots.Known.{Known}
-use Rattle.tsc_ffi_store.specs.ReturnSlots.{Returned, dealing, token, spent, spare, came, keeping, also_back, first_known, IsAmong, IsReturned, IsFree, IsBack, Fits, IsKept}
-use Rattle.tsc_ffi_store.specs.ReturnSteps.{At, others, first, takes_slot, came_in, returns_seat, seen_returned, sees_returned}
+use Rattle.tsc_ffi_store.specs.ReturnSlots.{Returned, knowing, dealing, token, spent, spare, came, keeping, collecting, also_back, first_known, IsAmong, IsReturned, IsFree, IsBack, Fits, IsKept}
+use Rattle.tsc_ffi_store.specs.ReturnSteps.{At, others, first, takes_slot, came_in, returns_seat, seen_returned, sees_returned, collects}
 
 abbrev Slots : Type 0
 Slots = List (maybe.Option Returned)
@@ -53,6 +53,32 @@ stands views id left right j v e = elim (at_end (set views id left) right j v e)
   | inr last ↦ second_part (last.0 ∙ length-set views id left) last.1
 ]
 
+cache_or : AnyCache → Option AnyCache → AnyCache
+cache_or d None = d
+cache_or d (Some c) = c
+
+seat_or : AnySeat → Option AnySeat → AnySeat
+seat_or d None = d
+seat_or d (Some s) = s
+
+is_none : Option AnyCache → Type 0
+is_none None = Unit {0}
+is_none (Some c) = ⊥
+
+-- who deals no slots knows no cache
+no_cache : (c d : AnyCache) → None ≡ Some c → c ≡ d
+unfolding is_none
+no_cache c d e = absurd (subst is_none e tt)
+
+-- there is one cache that is known
+one_cache : (c d : AnyCache) → Some c ≡ Some d → d ≡ c
+unfolding cache_or
+one_cache c d e = ap (cache_or c) (sym e)
+
+one_seat : (x y : AnySeat) → Some x ≡ Some y → x ≡ y
+unfolding seat_or
+one_seat x y e = ap (seat_or x) e
+
 module _ (cache : AnyCache) where
   -- at the opening no seat is returned
   pub opens : (words : List ℕ) → words ≡ replicate (seats_of cache) 0 →
@@ -60,7 +86,7 @@ module _ (cache : AnyCache) where
   opens words is = record {
     wide = ap length is ∙ length-replicate (seats_of cache) 0;
     deep = deep;
-    returned = λ slot low one. let z = zeros slot low in absurd (omega (arith, z, one));
+    returned = λ slot low one two. absurd (one (zeros slot low));
     fits = fits;
     one = λ id other v w slot a b _ _. same id other v w a b;
   }
@@ -83,8 +109,10 @@ module _ (cache : AnyCache) where
       of_first : (v : Known) → first_known cache ≡ v → Fits cache words (map maybe.some all) v
       of_first v e = subst (Fits cache words (map maybe.some all)) e
           (record {
-            free = λ slot _ among. free slot among.to;
+            its = λ c e. one_cache cache c e;
+            free = λ slot _ low among. free slot low;
             out = λ slot taken. absurd (true≢false (sym taken));
+            left = λ slot low among two. absurd (omega (arith, zeros slot low, two));
             returned = λ slot low. absurd (omega (arith, low));
             back = All-nil (IsBack cache words (map maybe.some all));
           })
@@ -101,20 +129,20 @@ module _ (cache : AnyCache) where
       same (suc id) other v w a b = absurd (some-ne-none v (sym a))
 
   -- a token is dealt
-  module _ (s : Board) (k : IsKept cache s) (id from to : ℕ)
-      (at : get_elem? s.views id ≡ maybe.some (dealing from to 0)) (some : from < to) where
+  module _ (s : Board) (k : IsKept cache s) (id : ℕ) (its : Option AnyCache) (from to : ℕ)
+      (at : get_elem? s.views id ≡ maybe.some (dealing its from to 0)) (some : from < to) where
     abbrev dealer : Known
-    dealer = dealing from to 0
+    dealer = dealing its from to 0
 
-    of_dealer : (v : Known) (slot : ℕ) → Fits cache s.words s.homes dealer → IsAmong dealer slot →
-        IsFree cache s.words s.homes slot
-    of_dealer v slot f among = f.free slot refl among
-
-    part_fits : (v : Known) → v.returned ≡ 0 → v.back ≡ [] →
+    part_fits : (v : Known) → ((c : AnyCache) → v.cache ≡ Some c → c ≡ cache) → v.taken ≡ false →
+        v.returned ≡ 0 → v.back ≡ [] →
         ((slot : ℕ) → IsAmong v slot → IsAmong dealer slot) → Fits cache s.words s.homes v
-    part_fits v none unknown within = record {
-      free = λ slot _ among. (k.fits id dealer at).free slot refl (within slot among);
-      out = λ slot _ among. ((k.fits id dealer at).free slot refl (within slot among)).word;
+    part_fits v whose idle none unknown within = record {
+      its = whose;
+      free = λ slot _ low among. (k.fits id dealer at).free slot refl low (within slot among);
+      out = λ slot taken. absurd (true≢false (sym taken ∙ idle));
+      left = λ slot low among.
+          (k.fits id dealer at).left slot low (within (seats_of cache + slot) among);
       returned = λ slot low. absurd (omega (arith, low, none));
       back = subst (All (IsBack cache s.words s.homes)) (sym unknown)
           (All-nil (IsBack cache s.words s.homes));
@@ -134,10 +162,10 @@ module _ (cache : AnyCache) where
     part : (j : ℕ) (v : Known) → Stands s.views id (others dealer) (first dealer) j v →
         Fits cache s.words s.homes v
     part j v (first_part e is) = subst (Fits cache s.words s.homes) is
-        (part_fits (others dealer) refl refl in_others)
+        (part_fits (others dealer) (k.fits id dealer at).its refl refl refl in_others)
     part j v (as_before e is) = k.fits j v is
     part j v (second_part e is) = subst (Fits cache s.words s.homes) is
-        (part_fits (first dealer) refl refl in_first)
+        (part_fits (first dealer) (λ c e. no_cache c cache e) refl refl refl in_first)
 
     among_is : (v w : Known) (slot : ℕ) → v ≡ w → IsAmong w slot → IsAmong v slot
     among_is v w slot e among = subst (λ (u : Known). IsAmong u slot) (sym e) among
@@ -183,17 +211,18 @@ module _ (cache : AnyCache) where
           (stands s.views id (others dealer) (first dealer) j w b) p q;
     }
 
-  pub deal_at : (id : ℕ) (v : Known) → v ≡ dealing v.from v.to 0 → v.from < v.to →
+  pub deal_at : (id : ℕ) (v : Known) → v ≡ dealing v.cache v.from v.to 0 → v.from < v.to →
       Splits (IsKept cache) id v (others v) (first v)
   deal_at id v is some = subst (λ (u : Known). Splits (IsKept cache) id u (others u) (first u))
-      (sym is) (λ s k at. deals s k id v.from v.to at some)
+      (sym is) (λ s k at. deals s k id v.cache v.from v.to at some)
 
   -- one view changes, and may take no slot that it might not take before
   moved : (s : Board) (k : IsKept cache s) (id : ℕ) (v w : Known) (words : List ℕ) (slots : Slots) →
       get_elem? s.views id ≡ maybe.some v
       → ((slot : ℕ) → IsAmong w slot → IsAmong v slot) → length words ≡ (seats_of cache) →
       length slots ≡ (seats_of cache)
-      → ((slot : ℕ) → slot < (seats_of cache) → slice_index words slot ≡ 1 → IsReturned cache slots slot)
+      → ((slot : ℕ) → slot < (seats_of cache) → slice_index words slot ≢ 0 →
+      slice_index words slot ≢ 2 → IsReturned cache slots slot)
       → Fits cache words slots w
       → ((other : ℕ) (u : Known) → other ≢ id → get_elem? s.views other ≡ maybe.some u →
       Fits cache words slots u)
@@ -236,12 +265,14 @@ module _ (cache : AnyCache) where
   spent_own : (number : ℕ) → IsAmong (spent number) number
   spent_own number = record { from = omega arith; to = omega arith }
 
-  spent_fits : (words : List ℕ) (slots : Slots) (number : ℕ) → slice_index words number ≡ 0 →
-      Fits cache words slots (spent number)
-  spent_fits words slots number word = record {
-    free = λ slot taken among. absurd (true≢false taken);
+  spent_fits : (words : List ℕ) (slots : Slots) (number : ℕ) → number < seats_of cache →
+      slice_index words number ≡ 0 → Fits cache words slots (spent number)
+  spent_fits words slots number below word = record {
+    its = λ c e. no_cache c cache e;
+    free = λ slot taken low among. absurd (true≢false taken);
     out = λ slot _ among. let a = among.from in let b = among.to in
         ap (λ (n : ℕ). slice_index words n) (omega (arith, a, b)) ∙ word;
+    left = λ slot low among. let a = among.to in absurd (omega (arith, a, below));
     returned = λ slot low. absurd (omega (arith, low));
     back = All-nil (IsBack cache words slots);
   }
@@ -252,8 +283,10 @@ module _ (cache : AnyCache) where
 
   spare_fits : (words : List ℕ) (slots : Slots) → Fits cache words slots spare
   spare_fits words slots = record {
-    free = λ slot _ among. absurd (none_of spare refl refl slot among);
+    its = λ c e. no_cache c cache e;
+    free = λ slot _ low among. absurd (none_of spare refl refl slot among);
     out = λ slot taken. absurd (true≢false (sym taken));
+    left = λ slot low among. absurd (none_of spare refl refl (seats_of cache + slot) among);
     returned = λ slot low. absurd (omega (arith, low));
     back = All-nil (IsBack cache words slots);
   }
@@ -261,8 +294,10 @@ module _ (cache : AnyCache) where
   came_fits : (words : List ℕ) (slots : Slots) (seat : AnySeat) → IsBack cache words slots seat →
       Fits cache words slots (came seat)
   came_fits words slots seat lies = record {
-    free = λ slot _ among. absurd (none_of (came seat) refl refl slot among);
+    its = λ c e. no_cache c cache e;
+    free = λ slot _ low among. absurd (none_of (came seat) refl refl slot among);
     out = λ slot taken. absurd (true≢false (sym taken));
+    left = λ slot low among. absurd (none_of (came seat) refl refl (seats_of cache + slot) among);
     returned = λ slot low. absurd (omega (arith, low));
     back = All-cons (IsBack cache words slots) seat [] lies (All-nil (IsBack cache words slots));
   }
@@ -280,15 +315,14 @@ module _ (cache : AnyCache) where
 
   -- a token takes its slot
   pub take_slot_allowed : (slots : ℕ) (st : Step Returned) (id number : ℕ) →
-      Allows (IsKept cache) slots id (token number, []) number (λ n. n)
+      number < seats_of cache → Allows (IsKept cache) slots id (token number, []) number (λ n. n)
       (takes_slot st (token number, []))
-  take_slot_allowed slots st id number s k _ at _ =
-      let free = (k.fits id (token number) at).free number refl (its_own number) in
+  take_slot_allowed slots st id number below s k _ at _ =
+      let free = (k.fits id (token number) at).free number refl below (its_own number) in
       let word = free.word in
       let slots : Slots = set s.homes number maybe.none in
-      let apart : (slot : ℕ) → slice_index s.words slot ≡ 1 → slot ≢ number =
-      λ slot one e. let w : slice_index s.words number ≡ 1 =
-      subst (λ (n : ℕ). slice_index s.words n ≡ 1) e one in omega (arith, w, word) in (
+      let apart : (slot : ℕ) → slice_index s.words slot ≢ 0 → slot ≢ number =
+      λ slot one e. one (ap (λ (n : ℕ). slice_index s.words n) e ∙ word) in (
         spent number,
         act_takes number free.held,
         free.lies,
@@ -296,15 +330,16 @@ module _ (cache : AnyCache) where
             (moved s k id (token number) (spent number) s.words slots at
             (λ slot among. record { from = among.from; to = among.to }) k.wide
             (length-set s.homes number maybe.none ∙ k.deep)
-            (λ slot low one. let h = k.returned slot low one
+            (λ slot low one two. let h = k.returned slot low one two
             in record {
               seat = h.seat;
               lies = set_else s.homes number slot maybe.none (apart slot one) ∙ h.lies;
               its_cache = h.its_cache;
             })
-            (spent_fits s.words slots number free.word)
+            (spent_fits s.words slots number below free.word)
             (λ other u ne at'. let f = k.fits other u at' in record {
-              free = λ slot idle among. let g = f.free slot idle among in let ne' =
+              its = f.its;
+              free = λ slot idle low among. let g = f.free slot idle low among in let ne' =
                   others_apart s k id number (token number) at (its_own number) other u ne at' slot
                   among in
                   record {
@@ -314,13 +349,14 @@ module _ (cache : AnyCache) where
                     lies = set_else s.homes number slot maybe.none ne' ∙ g.lies;
                   };
               out = f.out;
+              left = f.left;
               returned = f.returned;
               back = All-weaker (IsBack cache s.words s.homes) (IsBack cache s.words slots)
                   (λ seat b. record {
                     low = b.low;
                     word = b.word;
-                    lies = set_else s.homes number (number_of seat) maybe.none
-                        (apart (number_of seat) b.word) ∙ b.lies;
+                    lies = λ two. set_else s.homes number (number_of seat) maybe.none
+                        (apart (number_of seat) b.word) ∙ b.lies two;
                   }) u.back f.back;
             })),
         (free.held, refl),
@@ -343,9 +379,8 @@ module _ (cache : AnyCache) where
       λ slot ne. get_or-set_other s.words number slot 1 0 ne in
       let zero_is : slice_index s.words number ≡ 0 =
       (k.fits id (spent number) at).out number refl (spent_own number) in
-      let apart : (slot : ℕ) → slice_index s.words slot ≡ 1 → slot ≢ number =
-      λ slot one e. let w : slice_index s.words number ≡ 1 =
-      subst (λ (n : ℕ). slice_index s.words n ≡ 1) e one in omega (arith, w, zero_is) in (
+      let apart : (slot : ℕ) → slice_index s.words slot ≢ 0 → slot ≢ number =
+      λ slot one e. one (ap (λ (n : ℕ). slice_index s.words n) e ∙ zero_is) in (
         came seat,
         act_gives,
         tt,
@@ -353,26 +388,28 @@ module _ (cache : AnyCache) where
             (λ slot among. absurd (none_of (came seat) refl refl slot among))
             (length-set s.words number 1 ∙ k.wide)
             (length-set s.homes number (maybe.some (Some seat)) ∙ k.deep)
-            (λ slot low' one. dite (ℕ_discrete slot number)
+            (λ slot low' one two. dite (ℕ_discrete slot number)
             (λ e. record {
               seat = seat;
               lies = ap (λ (n : ℕ). get_elem? slots n) e ∙
                   set_here s.homes number (maybe.some (Some seat)) (omega (arith, deep, low));
               its_cache = its;
             })
-            (λ ne. let h = k.returned slot low' (sym (there slot ne) ∙ one)
-            in record {
+            (λ ne. let h = k.returned slot low' (λ z. one (there slot ne ∙ z))
+            (λ z. two (there slot ne ∙ z)) in record {
               seat = h.seat;
               lies = set_else s.homes number slot (maybe.some (Some seat)) ne ∙ h.lies;
               its_cache = h.its_cache;
             }))
             (came_fits words slots seat (record {
               low = low;
-              word = here;
-              lies = set_here s.homes number (maybe.some (Some seat)) (omega (arith, deep, low));
+              word = λ z. omega (arith, here, z);
+              lies = λ _.
+                  set_here s.homes number (maybe.some (Some seat)) (omega (arith, deep, low));
             }))
             (λ other u ne at'. let f = k.fits other u at' in record {
-              free = λ slot idle among. let g = f.free slot idle among in let ne' =
+              its = f.its;
+              free = λ slot idle low' among. let g = f.free slot idle low' among in let ne' =
                   others_apart s k id number (spent number) at (spent_own number) other u ne at'
                   slot among in
                   record {
@@ -384,15 +421,19 @@ module _ (cache : AnyCache) where
               out = λ slot taken among. there slot
                   (others_apart s k id number (spent number) at (spent_own number) other u ne at'
                   slot among) ∙ f.out slot taken among;
-              returned = λ slot low'. dite (ℕ_discrete slot number)
-                  (λ e. ap (λ (n : ℕ). slice_index words n) e ∙ here)
-                  (λ ne. there slot ne ∙ f.returned slot low');
+              left = λ slot low' among two. dite (ℕ_discrete slot number)
+                  (λ e. omega (arith, ap (λ (n : ℕ). slice_index words n) e, here, two))
+                  (λ ne. f.left slot low' among (sym (there slot ne) ∙ two));
+              returned = λ slot low' none. dite (ℕ_discrete slot number)
+                  (λ e. omega (arith, ap (λ (n : ℕ). slice_index words n) e, here, none))
+                  (λ ne. f.returned slot low' (sym (there slot ne) ∙ none));
               back = All-weaker (IsBack cache s.words s.homes) (IsBack cache words slots)
                   (λ other b. let ne = apart (number_of other) b.word in record {
                     low = b.low;
-                    word = there (number_of other) ne ∙ b.word;
-                    lies = set_else s.homes number (number_of other) (maybe.some (Some seat)) ne ∙
-                        b.lies;
+                    word = λ z. b.word (sym (there (number_of other) ne) ∙ z);
+                    lies = λ two.
+                        set_else s.homes number (number_of other) (maybe.some (Some seat)) ne ∙
+                        b.lies (λ z. two (there (number_of other) ne ∙ z));
                   }) u.back f.back;
             }),
         refl,
@@ -449,9 +490,12 @@ module _ (cache : AnyCache) where
       }) = moved s k id v both s.words s.homes at
       (λ slot among. record { from = among.from; to = among.to }) k.wide k.deep k.returned
       (record {
-        free = λ slot idle among. f.free slot idle (record { from = among.from; to = among.to });
+        its = f.its;
+        free = λ slot idle low among.
+            f.free slot idle low (record { from = among.from; to = among.to });
         out = λ slot taken among. f.out slot taken
             (record { from = among.from; to = among.to });
+        left = λ slot low among. f.left slot low (record { from = among.from; to = among.to });
         returned = f.returned;
         back = All-append P v.back w.back f.back g.back;
       }) (λ o u ne is. k.fits o u is) in
@@ -460,61 +504,165 @@ module _ (cache : AnyCache) where
       k.wide k.deep k.returned (spare_fits s.words s.homes) (λ o u ne is. first.fits o u is)
 
   -- it is seen whether the next seat is returned
-  none_among : (seats returned : ℕ) (back : List AnySeat) (slot : ℕ) →
-      IsAmong (keeping seats returned back) slot → ⊥
-  none_among seats returned back slot among = let a = among.from in let b =
-      among.to in omega (arith, a, b)
-
   one_more : (s : Board) (k : IsKept cache s) (id seats returned : ℕ) (back : List AnySeat) →
-      get_elem? s.views id ≡ maybe.some (keeping seats returned back) →
-      slice_index s.words returned ≡ 1
-      → Fits cache s.words s.homes (keeping seats (returned + 1) back)
-  one_more s k id seats returned back at one = record {
-    free = λ slot idle among. absurd
-        (none_among seats (returned + 1) back slot (record { from = among.from; to = among.to }));
-    out = λ slot taken. absurd (true≢false (sym taken));
-    returned = λ slot low. dite (ℕ_discrete slot returned)
-        (λ e. ap (λ (n : ℕ). slice_index s.words n) e ∙ one)
-        (λ ne. (k.fits id (keeping seats returned back) at).returned slot (omega (arith, low, ne)));
-    back = (k.fits id (keeping seats returned back) at).back;
-  }
+      get_elem? s.views id ≡ maybe.some (keeping cache seats returned back) →
+      slice_index s.words returned ≢ 0
+      → Fits cache s.words s.homes (keeping cache seats (returned + 1) back)
+  one_more s k id seats returned back at one =
+      let f = k.fits id (keeping cache seats returned back) at in
+      record {
+        its = f.its;
+        free = λ slot idle low among.
+            f.free slot idle low (record { from = among.from; to = among.to });
+        out = λ slot taken. absurd (true≢false (sym taken));
+        left = λ slot low among. f.left slot low (record { from = among.from; to = among.to });
+        returned = λ slot low. dite (ℕ_discrete slot returned)
+            (λ e z. one (ap (λ (n : ℕ). slice_index s.words n) (sym e) ∙ z))
+            (λ ne. f.returned slot (omega (arith, low, ne)));
+        back = f.back;
+      }
 
   pub look_allowed : (slots : ℕ) (st : Step Returned) (id seats returned : ℕ)
-      (back : List AnySeat) →
-      Allows (IsKept cache) slots id (keeping seats returned back, []) returned (λ n. n)
-      (sees_returned st (keeping seats returned back, []))
-  look_allowed slots st id seats returned back s k _ at _ =
-      dite (ℕ_discrete (slice_index s.words returned) 1)
-      (λ one. looked (keeping seats (returned + 1) back) (one_more s k id seats returned back at one)
+      (back : List AnySeat) → st.word ≡ returned →
+      Allows (IsKept cache) slots id (keeping cache seats returned back, []) returned (λ n. n)
+      (sees_returned st (keeping cache seats returned back, []))
+  look_allowed slots st id seats returned back word s k _ at _ =
+      dite (ℕ_discrete (slice_index s.words returned) 0)
+      (λ no. looked (keeping cache seats returned back)
+      (k.fits id (keeping cache seats returned back) at) (λ slot among. among) (search rules))
+      (λ one. looked (keeping cache seats (returned + 1) back)
+      (one_more s k id seats returned back at one)
       (λ slot among. record { from = among.from; to = among.to }) (search rules))
-      (λ no. looked (keeping seats returned back) (k.fits id (keeping seats returned back) at)
-      (λ slot among. among) (search rules))
     where
       looked : (w : Known) → Fits cache s.words s.homes w →
-          ((slot : ℕ) → IsAmong w slot → IsAmong (keeping seats returned back) slot) →
-          seen_returned (keeping seats returned back) (slice_index s.words returned) ≡ w
+          ((slot : ℕ) → IsAmong w slot → IsAmong (keeping cache seats returned back) slot) →
+          seen_returned (keeping cache seats returned back) (slice_index s.words returned) ≡ w
           → (w : Known) × (a : Act Returned) × Valid s.homes [] a ×
           IsKept cache (stepped s returned (slice_index s.words returned) id [] w a) ×
-          sees_returned st (keeping seats returned back, []) (slice_index s.words returned)
+          sees_returned st (keeping cache seats returned back, []) (slice_index s.words returned)
           (w, carried_after [] a)
       looked w fits within is = (
         w,
         act_keeps,
         tt,
         same_words s returned s.homes (set s.views id w)
-            (moved s k id (keeping seats returned back) w s.words s.homes at within k.wide k.deep
-            k.returned fits (λ other u _ at'. k.fits other u at')),
-        (λ i. (sym is i, [])),
+            (moved s k id (keeping cache seats returned back) w s.words s.homes at within k.wide
+            k.deep k.returned fits (λ other u _ at'. k.fits other u at')),
+        (
+          (λ i. (sym is i, [])),
+          (λ zero_is. All-weaker (IsBack cache s.words s.homes)
+              (λ (o : AnySeat). number_of o ≢ st.word)
+              (λ o b e. b.word (ap (λ (n : ℕ). slice_index s.words n) (e ∙ word) ∙ zero_is)) back
+              (k.fits id (keeping cache seats returned back) at).back),
+        ),
+      )
+
+  -- the next seat is collected
+  pub collect_allowed : (slots : ℕ) (st : Step Returned) (id done : ℕ) (back : List AnySeat)
+      (hand : List (ℕ × Returned)) → st.word ≡ done → done < seats_of cache →
+      Allows (IsKept cache) slots id
+      (collecting cache (seats_of cache) done (seats_of cache) back, hand) done (λ _. 2)
+      (λ _. collects st (collecting cache (seats_of cache) done (seats_of cache) back, hand) 2)
+  collect_allowed slots st id done back hand word low s k _ at _ =
+      let v : Known = collecting cache (seats_of cache) done (seats_of cache) back in
+      let w : Known = record v { from = v.from + 1 } in
+      let f = k.fits id v at in
+      let busy : slice_index s.words done ≢ 0 = f.returned done low in
+      let mine : IsAmong v (seats_of cache + done) =
+      record { from = omega arith; to = omega (arith, low) } in
+      let fresh : slice_index s.words done ≢ 2 = f.left done low mine in
+      let h = k.returned done low busy fresh in
+      let slots : Slots = set s.homes done maybe.none in
+      let words : List ℕ = set s.words done 2 in
+      let wide = k.wide in
+      let here : slice_index words done ≡ 2 =
+      get_or-set_same s.words done 2 0 (omega (arith, wide, low)) in
+      let there : (slot : ℕ) → slot ≢ done → slice_index words slot ≡ slice_index s.words slot =
+      λ slot ne. get_or-set_other s.words done slot 2 0 ne in
+      let apart : (slot : ℕ) → slice_index words slot ≢ 2 → slot ≢ done =
+      λ slot two e. two (ap (λ (n : ℕ). slice_index words n) e ∙ here) in
+      let still : (slot : ℕ) → slice_index s.words slot ≢ 0 → slice_index words slot ≢ 0 =
+      λ slot one z. dite (ℕ_discrete slot done)
+      (λ e. omega (arith, ap (λ (n : ℕ). slice_index words n) e, here, z))
+      (λ ne. one (sym (there slot ne) ∙ z)) in
+      let left_back : (o : AnySeat) → IsBack cache s.words s.homes o → IsBack cache words slots o =
+      λ o b. record {
+        low = b.low;
+        word = still (number_of o) b.word;
+        lies = λ two. let ne = apart (number_of o) two in
+            set_else s.homes done (number_of o) maybe.none ne ∙
+            b.lies (λ z. two (there (number_of o) ne ∙ z));
+      } in (
+        w,
+        act_takes done (Some h.seat),
+        h.lies,
+        moved s k id v w words slots at
+            (λ slot among. let a = among.from in record { from = omega (arith, a); to = among.to })
+            (length-set s.words done 2 ∙ k.wide) (length-set s.homes done maybe.none ∙ k.deep)
+            (λ slot low' one two. let ne = apart slot two in
+            let g = k.returned slot low' (λ z. one (there slot ne ∙ z))
+            (λ z. two (there slot ne ∙ z)) in record {
+              seat = g.seat;
+              lies = set_else s.homes done slot maybe.none ne ∙ g.lies;
+              its_cache = g.its_cache;
+            })
+            (record {
+              its = f.its;
+              free = λ slot idle low' among. let a = among.from in absurd (omega (arith, a, low'));
+              out = λ slot taken. absurd (true≢false (sym taken));
+              left = λ slot low' among two. let a = among.from in
+                  let ne : slot ≢ done = (λ e. omega (arith, a, e)) in
+                  f.left slot low' (record { from = omega (arith, a); to = among.to })
+                  (sym (there slot ne) ∙ two);
+              returned = λ slot low'. still slot (f.returned slot low');
+              back = All-weaker (IsBack cache s.words s.homes) (IsBack cache words slots) left_back
+                  back f.back;
+            })
+            (λ other u ne at'. let g = k.fits other u at' in record {
+              its = g.its;
+              free = λ slot idle low' among. let x = g.free slot idle low' among in
+                  let ne' : slot ≢ done =
+                  (λ e. busy (ap (λ (n : ℕ). slice_index s.words n) (sym e) ∙ x.word)) in
+                  record {
+                    low = x.low;
+                    word = there slot ne' ∙ x.word;
+                    held = x.held;
+                    lies = set_else s.homes done slot maybe.none ne' ∙ x.lies;
+                  };
+              out = λ slot taken among. let z = g.out slot taken among in
+                  there slot (λ e. busy (ap (λ (n : ℕ). slice_index s.words n) (sym e) ∙ z)) ∙ z;
+              left = λ slot low' among two. dite (ℕ_discrete slot done)
+                  (λ e. others_apart s k id (seats_of cache + done) v at mine other u ne at'
+                  (seats_of cache + slot) among (omega (arith, e)))
+                  (λ ne'. g.left slot low' among (sym (there slot ne') ∙ two));
+              returned = λ slot low'. still slot (g.returned slot low');
+              back = All-weaker (IsBack cache s.words s.homes) (IsBack cache words slots) left_back
+                  u.back g.back;
+            }),
+        (h.seat, record {
+          its = λ c e. h.its_cache ∙ sym (one_cache cache c e);
+          known = All-weaker (IsBack cache s.words s.homes)
+              (λ (o : AnySeat). number_of o ≡ st.word → o ≡ h.seat)
+              (λ o b e. let n : number_of o ≡ done = e ∙ word in
+              one_seat o h.seat (some-injective (Some o) (Some h.seat)
+              (some-injective (maybe.some (Some o)) (maybe.some (Some h.seat))
+              (sym (b.lies (λ two. fresh (ap (λ (m : ℕ). slice_index s.words m) (sym n) ∙ two))) ∙
+              ap (λ (m : ℕ). get_elem? s.homes m) n ∙ h.lies)))) back f.back;
+          low = λ c e. All-weaker (IsBack cache s.words s.homes)
+              (λ (o : AnySeat). number_of o < seats_of c)
+              (λ o b. subst (λ (k : AnyCache). number_of o < seats_of k)
+              (sym (one_cache cache c e)) b.low) back f.back;
+        }, (λ i. (w, (sym word i, Some h.seat) ∷ hand))),
       )
 
   -- the same in the shape that the calls ask for, and what the calls leave
   pub take_slot_at : (slots : ℕ) (st : Step Returned) (id number i : ℕ) (me : At) →
-      me ≡ (token number, []) → i ≡ number →
+      me ≡ (token number, []) → i ≡ number → number < seats_of cache →
       Allows (IsKept cache) slots id me i (λ n. n) (takes_slot st me)
-  take_slot_at slots st id number i me is same =
+  take_slot_at slots st id number i me is same low =
       subst (λ (j : ℕ). Allows (IsKept cache) slots id me j (λ n. n) (takes_slot st me)) (sym same)
       (subst (λ (m : At). Allows (IsKept cache) slots id m number (λ n. n) (takes_slot st m))
-      (sym is) (take_slot_allowed slots st id number))
+      (sym is) (take_slot_allowed slots st id number low))
 
   pub return_seat_at : (slots : ℕ) (st : Step Returned) (id i : ℕ) (seat : AnySeat) (me : At) →
       me ≡ (spent (number_of seat), ((number_of seat), Some seat) ∷ []) → i ≡ (number_of seat) →
@@ -528,25 +676,21 @@ module _ (cache : AnyCache) where
       (return_seat_allowed slots st id seat low its))
 
   pub look_at : (slots : ℕ) (st : Step Returned) (id seats returned : ℕ) (back : List AnySeat)
-      (me : At) → me ≡ (keeping seats returned back, []) →
+      (me : At) → me ≡ (keeping cache seats returned back, []) → st.word ≡ returned →
       Allows (IsKept cache) slots id me returned (λ n. n) (sees_returned st me)
-  look_at slots st id seats returned back me is =
+  look_at slots st id seats returned back me is word =
       subst (λ (m : At). Allows (IsKept cache) slots id m returned (λ n. n) (sees_returned st m))
-      (sym is) (look_allowed slots st id seats returned back)
+      (sym is) (look_allowed slots st id seats returned back word)
 
-  -- who knows that all seats are returned finds a seat of the cache in each slot
-  pub slot_has : (id seats : ℕ) (back : List AnySeat) (words : List ℕ) (slots : List Returned) →
-      seats ≡ (seats_of cache) → Final (Seen (IsKept cache) id (keeping seats seats back)) words slots
-      → (slot : ℕ) (x : Returned) → slot < seats → get_elem? slots slot ≡ maybe.some x →
-      (seat : AnySeat) × (x ≡ Some seat) × ((cache_of seat) ≡ cache)
-  slot_has id seats back words slots all end_ slot x low is =
-      let s = end_.0 in let k = end_.1.0 in
-      let h = k.returned slot (subst (λ (n : ℕ). slot < n) all low)
-      ((k.fits id (keeping seats seats back) end_.1.1).returned slot low) in (
-        h.seat,
-        some-injective x (Some h.seat) (sym is ∙ end_.4 slot (Some h.seat) h.lies),
-        h.its_cache,
-      )
+  pub collect_at : (slots : ℕ) (st : Step Returned) (id seats done : ℕ) (back : List AnySeat)
+      (me : At) → me.0 ≡ collecting cache seats done seats back → seats ≡ seats_of cache →
+      st.word ≡ done → done < seats →
+      Allows (IsKept cache) slots id me done (λ _. 2) (λ _. collects st me 2)
+  collect_at slots st id seats done back me is all word low =
+      subst (λ (v : Known).
+      Allows (IsKept cache) slots id (v, me.1) done (λ _. 2) (λ _. collects st (v, me.1) 2))
+      (sym (is ∙ ap (λ (n : ℕ). collecting cache n done n back) all))
+      (collect_allowed slots st id done back me.1 word (subst (λ (n : ℕ). done < n) all low))
 
 pub picked : (st : Step Returned) (number found : ℕ) (me me' : At) → me ≡ (token number, []) →
     takes_slot st me found me' → (x : Returned) × (me' ≡ (spent number, (number, x) ∷ []))
@@ -565,46 +709,64 @@ pub laid : (number i : ℕ) (x y : Returned) (me me' : At) → me ≡ (spent num
     i ≡ number → me' ≡ (me.0, (i, y) ∷ rest me.1) → me' ≡ (spent number, (number, y) ∷ [])
 laid number i x y me me' is same e = e ∙ (λ k. ((is k).0, (same k, y) ∷ rest (is k).1))
 
-pub its_cache : (cache : AnyCache) (x : Returned) (seat : AnySeat) →
-    ((other : AnySeat) × (x ≡ Some other) × ((cache_of other) ≡ cache)) → x ≡ Some seat →
-    (cache_of seat) ≡ cache
-its_cache cache x seat has is = ap (cache_or cache) (sym is ∙ has.1) ∙ has.2
-  where
-    cache_or : AnyCache → Returned → AnyCache
-    cache_or c None = c
-    cache_or c (Some s) = cache_of s
+-- what is in hand once a seat was collected
+pub in_hand_then : (st : Step Returned) (me me' : At) → collects st me 2 me' →
+    (y : Returned) × (me'.1 ≡ (st.word, y) ∷ rest me'.1)
+in_hand_then st me me' c = (
+  Some c.0,
+  ap (λ (m : At). m.1) c.2 ∙ ap (λ (m : At). (st.word, Some c.0) ∷ rest m.1) (sym c.2),
+)
 
--- the same of a keeper whose view is told by an equation
-pub slot_of : (cache : AnyCache) (id seats : ℕ) (back : List AnySeat) (me : At)
-    (words : List ℕ) (slots others : List Returned) → me ≡ (keeping seats seats back, []) →
-    seats ≡ (seats_of cache) → Final (Seen (IsKept cache) id me.0) words slots → others ≡ slots
-    → (slot : ℕ) (x : Returned) → slot < seats → get_elem? others slot ≡ maybe.some x →
-    (seat : AnySeat) × (x ≡ Some seat) × ((cache_of seat) ≡ cache)
-slot_of cache id seats back me words slots others is all end_ same slot x low at =
-    slot_has cache id seats back words slots all
-    (subst (λ (m : At). Final (Seen (IsKept cache) id m.0) words slots) is end_) slot x low
-    (ap (λ (xs : List Returned). get_elem? xs slot) (sym same) ∙ at)
+first_or : Returned → List (ℕ × Returned) → Returned
+first_or d [] = d
+first_or d (p ∷ ps) = p.1
 
--- A seat that is known lies in its slot at the end.
-pub record LiesThere (cache : AnyCache) (slots : List Returned) (seat : AnySeat) : Type 0 where
-  pub low : (number_of seat) < (seats_of cache)
-  pub lies : get_elem? slots (number_of seat) ≡ maybe.some (Some seat)
+-- a seat was in the slot
+pub found_there : (st : Step Returned) (me me' : At) (done : ℕ) (x : Returned) →
+    (c : collects st me 2 me') → me'.1 ≡ (done, x) ∷ rest me'.1 → x ≡ Some c.0
+unfolding first_or
+found_there st me me' done x c now =
+    sym (ap (first_or x) now) ∙ ap (λ (m : At). first_or x m.1) c.2
 
-pub known_lie : (cache : AnyCache) (id seats : ℕ) (back : List AnySeat) (me : At)
-    (words : List ℕ) (slots : List Returned) → me ≡ (keeping seats seats back, [])
-    → Final (Seen (IsKept cache) id me.0) words slots → All (LiesThere cache slots) back
-known_lie cache id seats back me words slots is end_ =
-    let final : Final (Seen (IsKept cache) id (keeping seats seats back)) words slots =
-    subst (λ (m : At). Final (Seen (IsKept cache) id m.0) words slots) is end_ in
-    let s = final.0 in
-    All-weaker (IsBack cache s.words s.homes) (LiesThere cache slots)
-    (λ seat b. record { low = b.low; lies = final.4 (number_of seat) (Some seat) b.lies }) back
-    (final.1.0.fits id (keeping seats seats back) final.1.1).back
+-- What was collected is of the cache. If a seat of its number is known, it is that one.
+pub record Brought (cache : AnyCache) (seats done : ℕ) (back : List AnySeat) (seat : AnySeat) :
+    Type 0 where
+  pub its : cache_of seat ≡ cache
+  pub known : All (λ (s : AnySeat). number_of s ≡ done → s ≡ seat) back
+  pub low : All (λ (s : AnySeat). number_of s < seats) back
 
--- Each slot below `done` has what stands at its number.
-abbrev pub AreCollected : List Returned → ℕ → List AnySeat → Type 0
-AreCollected slots done items = (k : ℕ) (seat : AnySeat) → k < done →
-    get_elem? slots k ≡ maybe.some (Some seat) → slice_get items k ≡ Some seat
+pub brought : (cache : AnyCache) (seats done : ℕ) (back : List AnySeat) (st : Step Returned)
+    (me me' : At) (x : Returned) (seat : AnySeat) → me.0 ≡ collecting cache seats done seats back →
+    seats ≡ seats_of cache → st.word ≡ done → collects st me 2 me' →
+    me'.1 ≡ (done, x) ∷ rest me'.1 → x ≡ Some seat → Brought cache seats done back seat
+brought cache seats done back st me me' x seat is all word c now got =
+    let same : seat ≡ c.0 = one_seat seat c.0 (sym got ∙ found_there st me me' done x c now) in
+    let back_is : me.0.back ≡ back = ap (λ (v : Known). v.back) is in
+    record {
+      its = ap (λ (s : AnySeat). cache_of s) same ∙ c.1.its cache (ap (λ (v : Known). v.cache) is);
+      known = subst (λ (l : List AnySeat). All (λ (s : AnySeat). number_of s ≡ done → s ≡ seat) l)
+          back_is (All-weaker (λ (s : AnySeat). number_of s ≡ st.word → s ≡ c.0)
+          (λ (s : AnySeat). number_of s ≡ done → s ≡ seat)
+          (λ s f e. f (e ∙ sym word) ∙ sym same) me.0.back c.1.known);
+      low = subst (λ (l : List AnySeat). All (λ (s : AnySeat). number_of s < seats) l) back_is
+          (subst (λ (n : ℕ). All (λ (s : AnySeat). number_of s < n) me.0.back) (sym all)
+          (c.1.low cache (ap (λ (v : Known). v.cache) is)));
+    }
+
+-- one seat more was collected, as the keeper's token knows
+pub collects_on : (cache : AnyCache) (seats done : ℕ) (back : List AnySeat) (st : Step Returned)
+    (me me' : At) (new : At) (x : Returned) → me.0 ≡ collecting cache seats done seats back →
+    collects st me 2 me' → new ≡ (me'.0, (done, x) ∷ rest me'.1) →
+    new.0 ≡ collecting cache seats (done + 1) seats back
+collects_on cache seats done back st me me' new x is c then' =
+    ap (λ (m : At). m.0) then' ∙ ap (λ (m : At). m.0) c.2 ∙
+    ap (λ (v : Known). record v { from = v.from + 1 }) is ∙
+    ap (λ (n : ℕ). knowing (Some cache) n (seats + seats) seats back) (omega arith)
+
+-- Of the seats that are known to be back, each whose number is below `done` stands at it.
+abbrev pub AreCollected : ℕ → List AnySeat → List AnySeat → Type 0
+AreCollected done items back =
+    All (λ (s : AnySeat). number_of s < done → slice_get items (number_of s) ≡ Some s) back
 
 get_before : (items : List AnySeat) (x : AnySeat) (k : ℕ) → k < length items →
     slice_get (items ++ x ∷ []) k ≡ slice_get items k
@@ -619,28 +781,25 @@ get_last [] x (suc k) is = absurd (omega (arith, is))
 get_last (y ∷ ys) x zero is = absurd (omega (arith, is))
 get_last (y ∷ ys) x (suc k) is = get_last ys x k (omega (arith, is))
 
--- one slot more is emptied
-pub one_collected : (slots : List Returned) (done : ℕ) (items items' : List AnySeat)
-    (x : Returned) (seat : AnySeat) → AreCollected slots done items → length items ≡ done →
-    get_elem? slots done ≡ maybe.some x → x ≡ Some seat → items' ≡ items ++ seat ∷ [] →
-    AreCollected slots (done + 1) items'
-one_collected slots done items items' x seat so_far long at is pushed k other low lies =
-    ap (λ (l : List AnySeat). slice_get l k) pushed ∙ dite (ℕ_discrete k done)
-    (λ e. get_last items seat k (omega (arith, e, long)) ∙ sym is ∙ some-injective x (Some other)
-    (sym at ∙ ap (λ (n : ℕ). get_elem? slots n) (sym e) ∙ lies))
-    (λ ne. get_before items seat k (omega (arith, low, ne, long)) ∙
-    so_far k other (omega (arith, low, ne)) lies)
+-- one seat more is collected
+pub one_collected : (done : ℕ) (items items' back : List AnySeat) (seat : AnySeat) →
+    AreCollected done items back → length items ≡ done → items' ≡ items ++ seat ∷ [] →
+    All (λ (s : AnySeat). number_of s ≡ done → s ≡ seat) back → AreCollected (done + 1) items' back
+one_collected done items items' back seat so_far long pushed known i d lt low =
+    let s : AnySeat = slice_index_or back i d in
+    ap (λ (l : List AnySeat). slice_get l (number_of s)) pushed ∙
+    dite (ℕ_discrete (number_of s) done)
+    (λ e. get_last items seat (number_of s) (omega (arith, e, long)) ∙
+    ap (λ (x : AnySeat). Some x) (sym (known i d lt e)))
+    (λ ne. get_before items seat (number_of s) (omega (arith, low, ne, long)) ∙
+    so_far i d lt (omega (arith, low, ne)))
 
 -- at the end each seat that is known stands at its number
-pub known_stand : (cache : AnyCache) (slots others : List Returned) (seats done : ℕ)
-    (items back : List AnySeat) → seats ≡ (seats_of cache) → seats ≤ done → others ≡ slots →
-    AreCollected others done items → All (LiesThere cache slots) back →
-    All (λ (seat : AnySeat). slice_get items (number_of seat) ≡ Some seat) back
-known_stand cache slots others seats done items back all past same collected known =
-    All-weaker (LiesThere cache slots)
-    (λ (seat : AnySeat). slice_get items (number_of seat) ≡ Some seat)
-    (λ seat l. let low = l.low in collected (number_of seat) seat (omega (arith, low, all, past))
-    (ap (λ (xs : List Returned). get_elem? xs (number_of seat)) same ∙ l.lies)) back known
+pub known_stand : (seats done : ℕ) (items back : List AnySeat) → seats ≤ done →
+    AreCollected done items back → All (λ (s : AnySeat). number_of s < seats) back →
+    All (λ (s : AnySeat). slice_get items (number_of s) ≡ Some s) back
+known_stand seats done items back past collected low i d lt =
+    collected i d lt (omega (arith, past, low i d lt))
 
 -- what a returned seat's token knows, by how it was laid
 pub came_home : (number i : ℕ) (seat : AnySeat) (me me' : At) →
@@ -648,11 +807,18 @@ pub came_home : (number i : ℕ) (seat : AnySeat) (me me' : At) →
 came_home number i seat me me' is e = e ∙ ap (λ (m : At). (came_in m.1, [])) is
 
 -- what a keeper knows of seats, by its view
-pub known_of : (seats returned : ℕ) (back : List AnySeat) (me : At) →
-    me ≡ (keeping seats returned back, []) → me.0.back ≡ back
-known_of seats returned back me is = ap (λ (m : At). m.0.back) is
+pub known_of : (cache : AnyCache) (seats returned : ℕ) (back : List AnySeat) (me : At) →
+    me ≡ (keeping cache seats returned back, []) → me.0.back ≡ back
+known_of cache seats returned back me is = ap (λ (m : At). m.0.back) is
 
-pub by_itself : (seats returned : ℕ) (back : List AnySeat) (me : At) →
-    me ≡ (keeping seats returned back, []) → me ≡ (keeping seats returned me.0.back, [])
-by_itself seats returned back me is = is ∙ ap (λ (b : List AnySeat). (keeping seats returned b, []))
-    (sym (known_of seats returned back me is))
+pub by_itself : (cache : AnyCache) (seats returned : ℕ) (back : List AnySeat) (me : At) →
+    me ≡ (keeping cache seats returned back, []) → me ≡ (keeping cache seats returned me.0.back, [])
+by_itself cache seats returned back me is =
+    is ∙ ap (λ (b : List AnySeat). (keeping cache seats returned b, []))
+    (sym (known_of cache seats returned back me is))
+
+-- before the first seat is collected
+pub starts : (cache : AnyCache) (seats : ℕ) (back : List AnySeat) (me : At) →
+    me ≡ (keeping cache seats seats back, []) → me.0 ≡ collecting cache seats 0 seats back
+starts cache seats back me is = ap (λ (m : At). m.0) is ∙
+    ap (λ (n : ℕ). knowing (Some cache) n (seats + seats) seats back) (omega arith)

@@ -145,7 +145,7 @@ ends_so (cache.Striped c) seats back adds long are ends = record {
   seats = ends.own;
   all = sym (length-map ends.own Striped) ∙ ap length (sym ends.are) ∙ long;
   back_are = subst (λ (xs : List AnySeat). AreBack xs back) ends.are are;
-  ended = ends.ended;
-  closes = ends.closes;
+  caches = ends.caches;
+  retires = ends.retires;
   long = ends.long;
 }

@@ -1,12 +1,12 @@
 -- What it takes to end a cache, whose seats are all there. (For private contracts and the models.)
 use Rattle.std.specs.Prelude.{◌≡◌, ℕ, ◌≤◌, List, [], All, map, length, Some}
 use Rattle.std.specs.Vec.{vec_capacity}
+use Rattle.tsc_cache.specs.CacheView.{CacheView}
 use Rattle.tsc_shared.specs.Seats.{SharedView, SeatView}
 use Rattle.tsc_shared.specs.declared.answers.Closed.{Closed}
 use Rattle.tsc_shared.specs.Answers.{Closes}
 use Rattle.tsc_striped.specs.Seats.{StripedView, DealerView, SeatView as StripedSeat}
-use Rattle.tsc_striped.specs.declared.answers.Closed.{Closed as StripesClosed}
-use Rattle.tsc_striped.specs.Answers.{Closes as ClosesStripes}
+use Rattle.tsc_striped.specs.Answers.{Retires}
 use Rattle.tsc_ffi_store.specs.declared.seats.kinds.AnyCache.{AnyCache}
 use Rattle.tsc_ffi_store.specs.declared.seats.kinds.AnyCache.TheVariants as cache
 use Rattle.tsc_ffi_store.specs.declared.seats.kinds.AnySeat.{AnySeat}
@@ -52,8 +52,8 @@ pub record SharedEnds (c : SharedView) (seats : List AnySeat) (adds : ℕ) : Typ
 pub record StripedEnds (c : StripedView) (seats : List AnySeat) (adds : ℕ) : Type 0 where
   pub own : List StripedSeat
   pub are : seats ≡ map any.Striped own
-  pub ended : StripesClosed
-  pub closes : ClosesStripes (record { cache = c; dealt = c.terms.seats }) own ended
+  pub caches : List CacheView
+  pub retires : Retires (record { cache = c; dealt = c.terms.seats }) own caches
   pub long : adds ≡ adds_of own
 
 abbrev pub EndsWithSeats : AnyCache → List AnySeat → ℕ → Type 0

@@ -4,13 +4,13 @@ use Rattle.atomic_table.specs.Seated.{TableId}
 use Rattle.tsc_span.specs.Span.{KeyBytes}
 use Rattle.std.specs.List.{sum_by}
 use Rattle.tsc_cache.specs.Settings.{Settings}
+use Rattle.tsc_cache.specs.CacheView.{CacheView}
 use Rattle.tsc_cache.specs.Counts.{up_to_end}
 use Rattle.tsc_shared.specs.Seats.{SharedView, SeatView, is_seat_count}
 use Rattle.tsc_shared.specs.declared.answers.Closed.{Closed}
 use Rattle.tsc_shared.specs.Answers.{Closes}
 use Rattle.tsc_striped.specs.Seats.{StripedView, SeatView as StripedSeat, IsSettled}
-use Rattle.tsc_striped.specs.declared.answers.Closed.{Closed as StripesClosed}
-use Rattle.tsc_striped.specs.Answers.{Closes as ClosesStripes}
+use Rattle.tsc_striped.specs.Answers.{Retires}
 use Rattle.tsc_ffi_store.specs.declared.seats.kinds.AnyCache.{AnyCache}
 use Rattle.tsc_ffi_store.specs.declared.seats.kinds.AnyCache.TheVariants.{Shared, Striped}
 use Rattle.tsc_ffi_store.specs.declared.seats.kinds.AnySeat.{AnySeat}
@@ -76,6 +76,12 @@ LearnsOf returns seats old new =
     ((old.returns ≡ returns) × (new ≡ record old { back = old.back ++ seats }))
     ⊎ ((old.returns ≢ returns) × (new ≡ old))
 
+-- Some seat of `seats` is not among those that are known to be back.
+pub record IsMissing (seats : ℕ) (back : List AnySeat) : Type 0 where
+  pub number : ℕ
+  pub low : number < seats
+  pub out : All (λ s. number_of s ≢ number) back
+
 -- Each seat that is known to be back is one of some seats, at its number, as it was then.
 abbrev pub AreBack : List AnySeat → List AnySeat → Type 0
 AreBack seats back = All (λ s. slice_get seats (number_of s) ≡ Some s) back
@@ -97,8 +103,8 @@ pub record EndsInStripes (cache : StripedView) (back : List AnySeat) (adds : ℕ
   pub seats : List StripedSeat
   pub all : length seats ≡ cache.terms.seats
   pub back_are : AreBack (map seat.Striped seats) back
-  pub ended : StripesClosed
-  pub closes : ClosesStripes (record { cache = cache; dealt = cache.terms.seats }) seats ended
+  pub caches : List CacheView
+  pub retires : Retires (record { cache = cache; dealt = cache.terms.seats }) seats caches
   pub long : adds ≡ adds_of seats
 
 -- A cache ended, with so many Adds.

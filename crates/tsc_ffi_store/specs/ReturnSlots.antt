@@ -1,6 +1,6 @@
 -- The rule of the slots in which the seats of a cache are returned: what holds between any two
 -- steps of any threads.
-use Rattle.std.specs.Prelude.{◌≡◌, ℕ, ◌+◌, ◌<◌, ◌≤◌, List, [], ◌∷◌, ◌++◌, All, length, slice_index, true, false, Option, Some}
+use Rattle.std.specs.Prelude.{◌≡◌, ◌≢◌, ℕ, ◌+◌, ◌<◌, ◌≤◌, List, [], ◌∷◌, ◌++◌, All, length, slice_index, true, false, Option, Some, None}
 use mathlib.Core.Option as maybe
 use lib.ListN.{get_elem?}
 use Rattle.atomic_table.specs.Table.{State}
@@ -13,44 +13,62 @@ use Rattle.tsc_ffi_store.specs.Kinds.{seats_of, cache_of, number_of}
 abbrev pub Returned : Type 0
 Returned = Option AnySeat
 
--- who may take the slots from one on, up to another, knows how many seats from 0 on are returned,
--- and some that lie in their slots
-abbrev pub knowing : ℕ → ℕ → ℕ → List AnySeat → Known
-knowing from to returned back =
-    record { from = from; to = to; taken = false; returned = returned; back = back }
+-- Who may take the slots from one on, up to another, knows how many seats from 0 on are returned,
+-- and some that lie in their slots. The right to collect the seat of a slot has a number of its
+-- own: that of the slot, and as many more as there are seats. Who deals these knows the cache.
+abbrev pub knowing : Option AnyCache → ℕ → ℕ → ℕ → List AnySeat → Known
+knowing cache from to returned back = record {
+  cache = cache;
+  from = from;
+  to = to;
+  taken = false;
+  returned = returned;
+  back = back;
+}
 
-abbrev pub dealing : ℕ → ℕ → ℕ → Known
-dealing from to returned = knowing from to returned []
+abbrev pub dealing : Option AnyCache → ℕ → ℕ → ℕ → Known
+dealing cache from to returned = knowing cache from to returned []
 
 -- the token of a seat, which may take its slot
 abbrev pub token : ℕ → Known
-token number = dealing number (number + 1) 0
+token number = dealing None number (number + 1) 0
 
 -- what an owner knows once it has taken its token
 abbrev pub spent : ℕ → Known
-spent number =
-    record { from = number; to = number + 1; taken = true; returned = 0; back = [] }
+spent number = record {
+  cache = None;
+  from = number;
+  to = number + 1;
+  taken = true;
+  returned = 0;
+  back = [];
+}
 
 -- a token that may take no slot, and knows nothing
 abbrev pub spare : Known
-spare = dealing 0 0 0
+spare = dealing None 0 0 0
 
 -- the token of a seat that was returned
 abbrev pub came : AnySeat → Known
-came seat = knowing 0 0 0 (seat ∷ [])
+came seat = knowing None 0 0 0 (seat ∷ [])
 
--- who has dealt the tokens of all `seats` seats, and knows that the first `returned` seats are
--- returned, and some of them as what
-abbrev pub keeping : ℕ → ℕ → List AnySeat → Known
-keeping seats returned back = knowing seats seats returned back
+-- who has dealt the tokens of all `seats` seats, knows that the first `returned` ones are returned,
+-- and some of them as what, and has collected the first `done` ones
+abbrev pub collecting : AnyCache → ℕ → ℕ → ℕ → List AnySeat → Known
+collecting cache seats done returned back =
+    knowing (Some cache) (seats + done) (seats + seats) returned back
+
+-- the same before it has collected any
+abbrev pub keeping : AnyCache → ℕ → ℕ → List AnySeat → Known
+keeping cache seats returned back = knowing (Some cache) seats (seats + seats) returned back
 
 -- one who knows of the seats, too, that another knows of
 abbrev pub also_back : Known → Known → Known
 also_back v w = record v { back = v.back ++ w.back }
 
--- the first of all may take all slots
+-- the first of all may take all slots, and collect all seats
 abbrev pub first_known : AnyCache → Known
-first_known cache = dealing 0 (seats_of cache) 0
+first_known cache = dealing (Some cache) 0 (seats_of cache + seats_of cache) 0
 
 -- A slot is one of these.
 pub record IsAmong (v : Known) (slot : ℕ) : Type 0 where
@@ -72,29 +90,36 @@ pub record IsFree (cache : AnyCache) (words : List ℕ) (slots : List (maybe.Opt
   pub held : Returned
   pub lies : get_elem? slots slot ≡ maybe.some (maybe.some held)
 
--- This very seat lies in its slot.
+-- This very seat was returned in its slot, and lies there until it is collected.
 pub record IsBack (cache : AnyCache) (words : List ℕ) (slots : List (maybe.Option Returned))
     (seat : AnySeat) : Type 0 where
   pub low : number_of seat < seats_of cache
-  pub word : slice_index words (number_of seat) ≡ 1
-  pub lies : get_elem? slots (number_of seat) ≡ maybe.some (maybe.some (Some seat))
+  pub word : slice_index words (number_of seat) ≢ 0
+  pub lies : slice_index words (number_of seat) ≢ 2
+      → get_elem? slots (number_of seat) ≡ maybe.some (maybe.some (Some seat))
 
--- What one knows fits: the slots that it may take are there, in one that it has taken no seat is
--- returned, the first `v.returned` seats are returned, and those that it knows of lie there.
+-- What one knows fits: its cache is this one, the slots that it may take are there, in one that it
+-- has taken no seat is returned, the seats that it may collect are not collected, the first
+-- `v.returned` seats are returned, and so are those that it knows of.
 pub record Fits (cache : AnyCache) (words : List ℕ) (slots : List (maybe.Option Returned))
     (v : Known) : Type 0 where
-  pub free : (slot : ℕ) → v.taken ≡ false → IsAmong v slot → IsFree cache words slots slot
+  pub its : (c : AnyCache) → v.cache ≡ Some c → c ≡ cache
+  pub free : (slot : ℕ) → v.taken ≡ false → slot < seats_of cache → IsAmong v slot
+      → IsFree cache words slots slot
   pub out : (slot : ℕ) → v.taken ≡ true → IsAmong v slot → slice_index words slot ≡ 0
-  pub returned : (slot : ℕ) → slot < v.returned → slice_index words slot ≡ 1
+  pub left : (slot : ℕ) → slot < seats_of cache → IsAmong v (seats_of cache + slot)
+      → slice_index words slot ≢ 2
+  pub returned : (slot : ℕ) → slot < v.returned → slice_index words slot ≢ 0
   pub back : All (IsBack cache words slots) v.back
 
--- There is a word and a slot for each seat. Where a word is 1, its slot has a seat of the cache. No
--- two may take, or have taken, one slot.
+-- There is a word and a slot for each seat. A word is 0 until the seat is returned, and 2 once it
+-- is collected. In between a seat of the cache lies in the slot. No two may take, or have taken,
+-- one slot, and no two may collect one seat.
 pub record IsKept (cache : AnyCache) (s : State Returned Known) : Type 0 where
   pub wide : length s.words ≡ seats_of cache
   pub deep : length s.homes ≡ seats_of cache
-  pub returned : (slot : ℕ) → slot < seats_of cache → slice_index s.words slot ≡ 1 →
-      IsReturned cache s.homes slot
+  pub returned : (slot : ℕ) → slot < seats_of cache → slice_index s.words slot ≢ 0
+      → slice_index s.words slot ≢ 2 → IsReturned cache s.homes slot
   pub fits : (id : ℕ) (v : Known) → get_elem? s.views id ≡ maybe.some v →
       Fits cache s.words s.homes v
   pub one : (id other : ℕ) (v w : Known) (slot : ℕ) → get_elem? s.views id ≡ maybe.some v →

@@ -25,8 +25,8 @@ use Rattle.tsc_ffi_store.specs.CacheCalls.{IsTooLarge, AreTooLarge, LacksMemoryF
 use Rattle.tsc_ffi_store.specs.declared.counts.CountedSeat.{CountedSeat}
 use Rattle.tsc_ffi_store.specs.declared.counts.Counts.{Counts}
 use Rattle.tsc_ffi_store.specs.declared.seats.kinds.AnySeat.{AnySeat}
-use Rattle.tsc_ffi_store.specs.Kinds.{new_any_seats}
-use Rattle.tsc_ffi_store.specs.Owners.{HandleView, OwnerView, handle_of, IsShared, EndsSo}
+use Rattle.tsc_ffi_store.specs.Kinds.{seats_of, new_any_seats}
+use Rattle.tsc_ffi_store.specs.Owners.{HandleView, OwnerView, handle_of, IsShared, IsMissing, EndsSo}
 use Rattle.tsc_ffi_store.specs.Counts.{no_counts}
 use Rattle.tsc_ffi_store.specs.Store.{cache_at, shared_at, seat_at, Keeps, RefusesHandles}
 use Rattle.atomic_table.specs.Seated.{TableId}
@@ -324,10 +324,17 @@ pub record ClosesShared (held after : Option OwnerView) (adds : ℕ) : Type 0 wh
   pub none : after ≡ None
   pub ends : EndsSo owner.cache owner.back adds
 
+-- There is a shared cache, and of some seat of it its owner does not know that it is back. Where
+-- the owner knows of each seat that it was handed in, the cache closes.
+pub record IsStillOut (held : Option OwnerView) : Type 0 where
+  pub owner : OwnerView
+  pub holds : held ≡ Some owner
+  pub missing : IsMissing (seats_of owner.cache) owner.back
+
 -- Why a shared cache was not closed: there is none, or a seat is still out.
 abbrev pub RefusesCloseShared : Refusal → Option OwnerView → Type 0
 RefusesCloseShared why held = ((why ≡ refusal.Closed) × (held ≡ None)) ⊎
-    ((why ≡ refusal.StillOut) × (held ≢ None))
+    ((why ≡ refusal.StillOut) × IsStillOut held)
 
 -- What becomes of a shared cache that is to be closed, and how many Adds its history has.
 pub record EndsShared {A : Type 0} (adds : ℕ) (held after : Option OwnerView)

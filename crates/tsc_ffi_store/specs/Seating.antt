@@ -1,5 +1,5 @@
 -- A shared cache, the handles of its seats, and its owner. (For private contracts and the models.)
-use Rattle.std.specs.Prelude.{◌≡◌, ℕ, ◌<◌, List, [], ◌≤◌}
+use Rattle.std.specs.Prelude.{◌≡◌, ℕ, ◌+◌, ◌<◌, List, [], ◌≤◌, Some}
 use Rattle.atomic_table.specs.Seated.{TableId}
 use Rattle.tsc_ffi_store.specs.declared.seats.kinds.AnyCache.{AnyCache}
 use Rattle.tsc_ffi_store.specs.declared.seats.kinds.AnySeat.{AnySeat}
@@ -29,7 +29,7 @@ pub record Sits (shared : SharedHandleView) (seat : AnySeat) (table : TableId) (
 pub record DealsOn (table its : TableId) (me : At) : Type 0 where
   pub its_table : its ≡ table
   pub words : 0 < table.words
-  pub unused : me ≡ (dealing me.0.from me.0.to 0, [])
+  pub unused : me ≡ (dealing me.0.cache me.0.from me.0.to 0, [])
   pub some : me.0.from < me.0.to
 
 -- The token from which the seats of this cache get theirs, from a number on.
@@ -37,15 +37,18 @@ pub record Deals (shared : SharedHandleView) (table : TableId) (me : At) (number
     0 where
   pub its_table : table ≡ shared.table
   pub sized : IsSized shared.table (seats_of shared.cache)
-  pub others : me ≡ (dealing number (seats_of shared.cache) 0, [])
+  pub others : me ≡ (
+    dealing (Some shared.cache) number (seats_of shared.cache + seats_of shared.cache) 0,
+    [],
+  )
 
--- A token of a table for `seats` seats, which knows that the first `returned` of them are returned,
--- and of some as what.
-pub record KnowsReturned (table its : TableId) (me : At) (seats returned : ℕ)
+-- A token of a table for the `seats` seats of a cache, which knows that the first `returned` of
+-- them are returned, and of some as what.
+pub record KnowsReturned (cache : AnyCache) (table its : TableId) (me : At) (seats returned : ℕ)
     (back : List AnySeat) : Type 0 where
   pub its_table : its ≡ table
   pub sized : IsSized table seats
-  pub known : me ≡ (keeping seats returned back, [])
+  pub known : me ≡ (keeping cache seats returned back, [])
   pub some : returned ≤ seats
 
 -- An empty list, which has room for `seats` seats.
@@ -58,6 +61,6 @@ pub record IsKeeper (shared : SharedHandleView) (table : TableId) (me : At) (sea
     (back : List AnySeat) : Type 0 where
   pub its_table : table ≡ shared.table
   pub all : seats ≡ (seats_of shared.cache)
-  pub known : me ≡ (keeping seats returned back, [])
+  pub known : me ≡ (keeping shared.cache seats returned back, [])
   pub some : returned ≤ seats
   pub any : 0 < seats

@@ -13,19 +13,19 @@ use tsc_shared::Seat;
 use tsc_striped::Seat as StripedSeat;
 
 /// Ends a cache with all its seats, and tells how many Adds it had.
-pub(crate) fn end(cache: AnyCache, ending: Ending, seats: Vec<AnySeat>) -> u64
-    requires ending { CanEnd cache ending }
-    requires seats { All (λ seat. cache_of seat ≡ cache) seats.items }
-    requires all { length seats.items ≡ seats_of cache }
-    ensures { EndsWithSeats cache seats.items result }
+pub(crate) fn end(cache: &AnyCache, ending: Ending, seats: Vec<AnySeat>) -> u64
+    requires ending { CanEnd cache.now ending }
+    requires seats { All (λ seat. cache_of seat ≡ cache.now) seats.items }
+    requires all { length seats.items ≡ seats_of cache.now }
+    ensures { EndsWithSeats cache.now seats.items result }
 {
     match cache {
         AnyCache::Shared(cache) => {
             let Ending::Shared(room) = ending else {
                 unreachable!()
             };
-            match cache.finish(shared_seats(seats, room)) {
-                Ok(closed) => closed.adds,
+            match cache.retire(shared_seats(seats, room)) {
+                Ok(adds) => adds,
                 Err(_) => unreachable!(),
             }
         }
@@ -35,8 +35,8 @@ pub(crate) fn end(cache: AnyCache, ending: Ending, seats: Vec<AnySeat>) -> u64
             };
             let seats = striped_seats(seats, room);
             let adds = count_adds(&seats);
-            match cache.close(dealer, seats) {
-                Ok(_) => adds,
+            match cache.retire(dealer, seats) {
+                Ok(()) => adds,
                 Err(_) => unreachable!(),
             }
         }

@@ -1,9 +1,10 @@
 //! A cache as its seats share it, and its owner.
-ghost use Rattle.std.specs.Prelude.{◌≡◌, [], IfOk, IfErr, ◌<◌};
+ghost use Rattle.std.specs.Prelude.{◌≡◌, [], IfOk, IfErr, OnErr, ◌<◌};
 ghost use Rattle.std.specs.Vec.{vec_capacity};
 ghost use Rattle.tsc_shared.specs.Answers.{open_fault};
 ghost use Rattle.tsc_striped.specs.Answers.{open_fault as striped_fault};
-ghost use Rattle.tsc_ffi_store.specs.Owners.{OpensAt, OpensInStripes, LearnsOf, EndsSo};
+ghost use Rattle.tsc_ffi_store.specs.Owners.{OpensAt, OpensInStripes, LearnsOf, IsMissing, EndsSo};
+ghost use Rattle.tsc_ffi_store.specs.Kinds.{seats_of};
 ghost use Rattle.tsc_ffi_store.specs.Seating.{IsKeeper, IsRoomFor};
 ghost use Rattle.tsc_ffi_store.specs.Endings.{CanEnd};
 
@@ -147,14 +148,15 @@ impl Owner {
         learn_back(&self.shared.slots.shared, &mut self.keeper, token);
     }
 
-    /// Ends the cache if all its seats are returned and nobody else has it, and tells how many Adds
-    /// it had. Otherwise it hands itself back. A handle that was dropped, and not
-    /// [closed](SeatHandle::close), is missing for good.
+    /// Ends the cache if all its seats are returned, and tells how many Adds it had. Otherwise it
+    /// hands itself back, which it may where it does not know of each seat that it is back. A
+    /// handle that was dropped, and not [closed](SeatHandle::close), is missing for good.
     ///
     /// The call takes no memory, and does not wait.
     pub fn close(mut self) -> Result<u64, Owner>
         ensures closed { IfOk result (λ adds. EndsSo self.cache self.back adds) }
         ensures still_out { IfErr result (λ owner. owner ≡ self) }
+        ensures missing { OnErr result (IsMissing (seats_of self.cache) self.back) }
     {
         let slots = &self.shared.slots.shared;
         if !are_all_returned(slots, &mut self.keeper, self.seats, &mut self.returned) {
@@ -164,33 +166,24 @@ impl Owner {
             shared,
             keeper,
             seats,
-            returned,
+            returned: _,
             room,
             ending,
         } = self;
-        match Arc::try_unwrap(shared) {
-            Ok(shared) => Ok(shared.end(keeper, seats, room, ending)),
-            Err(shared) => Err(Owner {
-                shared,
-                keeper,
-                seats,
-                returned,
-                room,
-                ending,
-            }),
-        }
+        Ok(shared.end(keeper, seats, room, ending))
     }
 }
 
 impl SharedHandle {
     /// Ends the cache with all its seats, which are returned, and tells how many Adds it had.
-    fn end(self, keeper: SlotToken, seats: u32, room: Vec<AnySeat>, ending: Ending) -> u64
-        requires known { IsKeeper self keeper.table_id keeper.me seats seats keeper.me.0.back }
+    fn end(&self, keeper: SlotToken, seats: u32, room: Vec<AnySeat>, ending: Ending) -> u64
+        requires known { IsKeeper self.now keeper.table_id keeper.me seats seats
+            keeper.me.0.back }
         requires room { IsRoomFor room.items (vec_capacity room) seats }
-        requires ending { CanEnd self.cache ending }
-        ensures { EndsSo self.cache keeper.me.0.back result }
+        requires ending { CanEnd self.now.cache ending }
+        ensures { EndsSo self.now.cache keeper.me.0.back result }
     {
-        let SharedHandle { cache, slots } = self;
-        end(cache, ending, collect_seats(slots, keeper, seats, room))
+        let all = collect_seats(&self.slots.shared, keeper, seats, room);
+        end(&self.cache, ending, all)
     }
 }

@@ -3,15 +3,17 @@
 //! The slots are in a table with a word and a slot for each seat of the cache. Each seat has a
 //! *slot token*, which alone may take the slot of that number. A return has three steps: the token
 //! takes the slot, lays the seat there, and gives the slot back as the word becomes 1. The keeper
-//! reads the words one after another, and counts the seats that are returned.
+//! reads the words one after another, and counts the seats that are returned. Once all are, it
+//! collects them: it takes each slot as the word becomes 2.
 //!
 //! A token has no bytes. That of a returned seat knows what lies in the slot, and the keeper learns
 //! it where it gets the token.
-ghost use Rattle.std.specs.Prelude.{◌≡◌, [], ◌<◌, ◌+◌, length, All, IfOk, Some, slice_get, true};
+ghost use Rattle.std.specs.Prelude.{◌≡◌, [], ◌<◌, ◌+◌, length, All, IfOk, Some, slice_get, true, false};
 ghost use Rattle.std.specs.Vec.{vec_capacity};
 ghost use Rattle.tsc_ffi_store.specs.Kinds.{cache_of, number_of, seats_of};
 ghost use Rattle.tsc_ffi_store.specs.ReturnSlots.{IsKept, first_known, dealing, token, spare, came, also_back};
-ghost use Rattle.tsc_ffi_store.specs.ReturnSteps.{others, first, takes_slot, returns_seat, sees_returned, LearnsBy};
+ghost use Rattle.tsc_ffi_store.specs.ReturnSteps.{others, first, takes_slot, returns_seat, sees_returned, collects, LearnsBy};
+ghost use Rattle.tsc_ffi_store.specs.Owners.{IsMissing};
 ghost use Rattle.tsc_ffi_store.specs.Seating.{IsSized, DealsOn, KnowsReturned, IsRoomFor};
 
 use crate::seats::kinds::{AnyCache, AnySeat};
@@ -21,9 +23,11 @@ use std::alloc::Global;
 use std::collections::LinkedList;
 use tsc_time::NoMemory;
 
-/// What a token knows: which slots it alone may take, whether it has taken them, how many seats
-/// from 0 on are returned, and some of these as they lie there. No value of it is made.
+/// What a token knows: which slots it alone may take, and which seats it alone may collect,
+/// whether it has taken them, how many seats from 0 on are returned, and some of these as they were
+/// returned. The keeper's knows the cache, too. No value of it is made.
 pub struct Known {
+    pub cache: Option<AnyCache>,
     pub from: u32,
     pub to: u32,
     pub taken: bool,
@@ -31,7 +35,8 @@ pub struct Known {
     pub back: LinkedList<AnySeat>,
 }
 
-/// The slot of each word that is 1 has a seat. No two tokens may take one slot.
+/// The slot of each word that is 1 has a seat. No two tokens may take one slot, or collect one
+/// seat.
 pub struct ReturnRule;
 
 impl TableRule<Option<AnySeat>, Known, AnyCache> for ReturnRule {
@@ -97,6 +102,13 @@ impl Play<Option<AnySeat>, Known> for SeeReturned {
     ghost then = { sees_returned };
 }
 
+/// The keeper collects the next seat.
+struct Collect;
+
+impl Play<Option<AnySeat>, Known> for Collect {
+    ghost then = { collects };
+}
+
 /// Slots for the seats of a cache, none of which is returned, and the token from which all others
 /// are dealt.
 pub(crate) fn new_return_slots(
@@ -108,7 +120,7 @@ pub(crate) fn new_return_slots(
     ensures slots { IfOk result (λ made. IsSized made.0.shared.table_id seats ×
         (made.0.shared.key ≡ cache.now)) }
     ensures dealer { IfOk result (λ made. (made.1.table_id ≡ made.0.shared.table_id) ×
-        (made.1.me ≡ (dealing 0 seats 0, []))) }
+        (made.1.me ≡ (dealing (Some cache.now) 0 (seats + seats) 0, []))) }
 {
     let words = vec![in alloc; 0; seats as usize]?;
     Ok(Table::vacant(alloc, words.as_slice(), seats as usize, cache)?)
@@ -118,7 +130,8 @@ pub(crate) fn new_return_slots(
 pub(crate) fn next_token(slots: &SharedSlots, dealer: &mut SlotToken) -> SlotToken
     requires dealer { DealsOn slots.now.table_id dealer.old.table_id dealer.old.me }
     ensures table { dealer.new.table_id ≡ dealer.old.table_id }
-    ensures others { dealer.new.me ≡ (dealing (dealer.old.me.0.from + 1) dealer.old.me.0.to 0, []) }
+    ensures others { dealer.new.me ≡ (dealing dealer.old.me.0.cache (dealer.old.me.0.from + 1)
+        dealer.old.me.0.to 0, []) }
     ensures its_table { result.table_id ≡ dealer.old.table_id }
     ensures token { result.me ≡ (token dealer.old.me.0.from, []) }
 {
@@ -162,14 +175,15 @@ pub(crate) fn are_all_returned(
     seats: u32,
     returned: &mut u32,
 ) -> bool
-    requires known { KnowsReturned slots.now.table_id keeper.old.table_id keeper.old.me seats
-        returned.old keeper.old.me.0.back }
-    ensures known { KnowsReturned slots.now.table_id keeper.new.table_id keeper.new.me seats
-        returned.new keeper.old.me.0.back }
+    requires known { KnowsReturned slots.now.key slots.now.table_id keeper.old.table_id
+        keeper.old.me seats returned.old keeper.old.me.0.back }
+    ensures known { KnowsReturned slots.now.key slots.now.table_id keeper.new.table_id
+        keeper.new.me seats returned.new keeper.old.me.0.back }
     ensures all { result ≡ true → returned.new ≡ seats }
+    ensures missing { result ≡ false → IsMissing seats keeper.old.me.0.back }
 {
     while *returned < seats {
-        if slots.load::<SeeReturned>(keeper, *returned as usize) != 1 {
+        if slots.load::<SeeReturned>(keeper, *returned as usize) == 0 {
             return false;
         }
         *returned += 1;
@@ -180,29 +194,28 @@ pub(crate) fn are_all_returned(
 /// The seats, all of which are returned, in the order of their slots, in a list that has room for
 /// them.
 pub(crate) fn collect_seats(
-    slots: ReturnSlots,
-    keeper: SlotToken,
+    slots: &SharedSlots,
+    mut keeper: SlotToken,
     seats: u32,
     mut room: Vec<AnySeat>,
 ) -> Vec<AnySeat>
-    requires seats { seats ≡ seats_of slots.shared.key }
-    requires known { KnowsReturned slots.shared.table_id keeper.table_id keeper.me seats seats
-        keeper.me.0.back }
+    requires seats { (seats ≡ seats_of slots.now.key) × (0 < seats) }
+    requires known { KnowsReturned slots.now.key slots.now.table_id keeper.table_id keeper.me seats
+        seats keeper.me.0.back }
     requires room { IsRoomFor room.items (vec_capacity room) seats }
-    ensures cache { All (λ seat. cache_of seat ≡ slots.shared.key) result.items }
+    ensures cache { All (λ seat. cache_of seat ≡ slots.now.key) result.items }
     ensures all { length result.items ≡ seats }
     ensures back { All (λ seat. slice_get result.items (number_of seat) ≡ Some seat)
         keeper.me.0.back }
 {
-    let mut closed = slots.close_with(keeper);
     for slot in 0..seats as usize {
-        let Some(seat) = closed.take(slot) else {
+        slots.store::<Collect>(&mut keeper, slot, 2);
+        let Some(seat) = slots.exchange(&mut keeper, slot, None) else {
             unreachable!()
         };
         let Ok(()) = room.push(seat) else {
             unreachable!()
         };
     }
-    closed.free();
     room
 }

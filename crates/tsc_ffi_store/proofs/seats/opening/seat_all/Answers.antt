@@ -1,5 +1,5 @@
 -- One handle more was made.
-use Rattle.std.proofs.Common.{◌≡◌, ◌∙◌, ◌∷◌, [], ◌++◌, ◌<◌, ℕ, sym, ap, subst, arith, rules}
+use Rattle.std.proofs.Common.{◌≡◌, ◌∙◌, ◌∷◌, [], ◌++◌, ◌+◌, ◌<◌, ℕ, Some, sym, ap, subst, arith, rules}
 use Rattle.std.specs.Arc.{arc_value}
 use Rattle.std.specs.Vec.Iter.{into_iter_items}
 use Rattle.tsc_ffi_store.specs.Kinds.{number_of}
@@ -26,8 +26,14 @@ seat_one-requires-clause-dealer c =
       its_table = c.loop-seat.invariant.2;
       sized = c.requires.dealer.sized;
       others = c.loop-seat.invariant.3.tokens
-          ∙ ap (λ (n : ℕ). (dealing n c.args.seats 0, [])) (sym same)
-          ∙ ap (λ (n : ℕ). (dealing (number_of c.in-Some.seat) n 0, [])) c.requires.seats;
+          ∙ ap (λ (n : ℕ). (
+            dealing (Some (arc_value c.args.shared.now).cache) n (c.args.seats + c.args.seats) 0,
+            [],
+          )) (sym same)
+          ∙ ap (λ (n : ℕ). (
+            dealing (Some (arc_value c.args.shared.now).cache) (number_of c.in-Some.seat) (n + n) 0,
+            [],
+          )) c.requires.seats;
     }
 
 pub seat_one-requires-clause-low : goal.seat_one-requires-clause-low

@@ -15,7 +15,7 @@ load-requires c =
       take_slot_at c.args.slots.now.key c.args.slots.now.table_id.slots
           (step c.args.slots.now.table_id.slots c.number-number.result 0 0 maybe.none) c.args.at.id
           (number_of c.args.seat) c.number-number.result c.args.at.me
-          c.requires.token.1 c.number-number.ensures.value,
+          c.requires.token.1 c.number-number.ensures.value c.requires.low,
     )
 
 pub exchange-requires : goal.exchange-requires

@@ -9,9 +9,10 @@ use Rattle.tsc_ffi_store.proofs.seats.owner.SharedHandle.end.Goals as goal
 
 pub returns : goal.returns
 returns c =
-    let same : c.self.inside.cache ≡ c.args.self.cache =
+    let same : c.self.inside.cache ≡ c.args.self.now.cache =
     ap (λ (v : SharedHandleView). v.cache) c.self.view_is in
     subst (λ (k : AnyCache). EndsSo k c.args.keeper.me.0.back c.end.result) same
-    (ends_so c.self.inside.cache c.collect_seats.result.items c.args.keeper.me.0.back c.end.result
-    (c.collect_seats.ensures.all ∙ c.requires.known.all ∙ ap seats_of (sym same))
-    c.collect_seats.ensures.back c.end.ensures)
+    (ends_so c.self.inside.cache c.collect_seats-all.result.items c.args.keeper.me.0.back
+    c.end.result
+    (c.collect_seats-all.ensures.all ∙ c.requires.known.all ∙ ap seats_of (sym same))
+    c.collect_seats-all.ensures.back c.end.ensures)
