@@ -639,20 +639,24 @@ module _ (cache : AnyCache) where
               back = All-weaker (IsBack cache s.words s.homes) (IsBack cache words slots) left_back
                   u.back g.back;
             }),
-        (h.seat, record {
-          its = λ c e. h.its_cache ∙ sym (one_cache cache c e);
-          known = All-weaker (IsBack cache s.words s.homes)
-              (λ (o : AnySeat). number_of o ≡ st.word → o ≡ h.seat)
-              (λ o b e. let n : number_of o ≡ done = e ∙ word in
-              one_seat o h.seat (some-injective (Some o) (Some h.seat)
-              (some-injective (maybe.some (Some o)) (maybe.some (Some h.seat))
-              (sym (b.lies (λ two. fresh (ap (λ (m : ℕ). slice_index s.words m) (sym n) ∙ two))) ∙
-              ap (λ (m : ℕ). get_elem? s.homes m) n ∙ h.lies)))) back f.back;
-          low = λ c e. All-weaker (IsBack cache s.words s.homes)
-              (λ (o : AnySeat). number_of o < seats_of c)
-              (λ o b. subst (λ (k : AnyCache). number_of o < seats_of k)
-              (sym (one_cache cache c e)) b.low) back f.back;
-        }, (λ i. (w, (sym word i, Some h.seat) ∷ hand))),
+        (
+          h.seat,
+          record {
+            its = λ c e. h.its_cache ∙ sym (one_cache cache c e);
+            known = All-weaker (IsBack cache s.words s.homes)
+                (λ (o : AnySeat). number_of o ≡ st.word → o ≡ h.seat)
+                (λ o b e. let n : number_of o ≡ done = e ∙ word in
+                one_seat o h.seat (some-injective (Some o) (Some h.seat)
+                (some-injective (maybe.some (Some o)) (maybe.some (Some h.seat))
+                (sym (b.lies (λ two. fresh (ap (λ (m : ℕ). slice_index s.words m) (sym n) ∙ two))) ∙
+                ap (λ (m : ℕ). get_elem? s.homes m) n ∙ h.lies)))) back f.back;
+            low = λ c e. All-weaker (IsBack cache s.words s.homes)
+                (λ (o : AnySeat). number_of o < seats_of c)
+                (λ o b. subst (λ (k : AnyCache). number_of o < seats_of k)
+                (sym (one_cache cache c e)) b.low) back f.back;
+          },
+          (λ i. (w, (sym word i, Some h.seat) ∷ hand)),
+        ),
       )
 
   -- the same in the shape that the calls ask for, and what the calls leave

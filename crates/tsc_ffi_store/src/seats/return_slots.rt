@@ -130,8 +130,11 @@ pub(crate) fn new_return_slots(
 pub(crate) fn next_token(slots: &SharedSlots, dealer: &mut SlotToken) -> SlotToken
     requires dealer { DealsOn slots.now.table_id dealer.old.table_id dealer.old.me }
     ensures table { dealer.new.table_id ≡ dealer.old.table_id }
-    ensures others { dealer.new.me ≡ (dealing dealer.old.me.0.cache (dealer.old.me.0.from + 1)
-        dealer.old.me.0.to 0, []) }
+    ensures others { dealer.new.me ≡ (
+      dealing dealer.old.me.0.cache (dealer.old.me.0.from + 1)
+          dealer.old.me.0.to 0,
+      [],
+    ) }
     ensures its_table { result.table_id ≡ dealer.old.table_id }
     ensures token { result.me ≡ (token dealer.old.me.0.from, []) }
 {

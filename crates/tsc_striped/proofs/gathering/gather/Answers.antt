@@ -45,9 +45,9 @@ loop-seat-preserved c =
           c.seat.invariant.rest
           (ap state_of_seat c.seat.view_is) c.loop-seat.invariant.4 c.merge.ensures.both,
       (λ all. merged_cache c.merge.new.who c.seat.inside.participant c.in-Some.seat
-      (cache_of c.args.others) c.merge.ensures.table
-      (ap (λ (m : At). m.0.setup) c.merge.ensures.both) c.seat.view_is
-      (all_middle (λ seat. seat.cache ≡ cache_of c.args.others) c.pop.new.self.items
-      c.loop-seat.invariant.0 c.args.seats.items c.loop-seat.seats.items c.in-Some.seat
-      c.loop-seat.invariant.1 c.in-Some.ensures.items all)),
+          (cache_of c.args.others) c.merge.ensures.table
+          (ap (λ (m : At). m.0.setup) c.merge.ensures.both) c.seat.view_is
+          (all_middle (λ seat. seat.cache ≡ cache_of c.args.others) c.pop.new.self.items
+          c.loop-seat.invariant.0 c.args.seats.items c.loop-seat.seats.items c.in-Some.seat
+          c.loop-seat.invariant.1 c.in-Some.ensures.items all)),
     )

@@ -31,12 +31,13 @@ returns-clause-retired c =
     let whose : cache_of p ≡ c.args.self.now =
     ap (λ (d : DealerView). d.cache) c.dealer.view_is ∙ c.requires.dealer in
     let own = c.gather-all.ensures.own (its_own c.args.seats.items (cache_of p) c.args.self.now whose
-    c.requires.seats) in
-    (c.see_end.ensures.caches,
-    subst (λ (d : DealerView). Retires d c.args.seats.items c.see_end.ensures.caches)
-    c.dealer.view_is
-    (retires _ c.args.seats.items c.gather-all.result.me.0.states _ c.see_end.ensures.caches
-    (ap (λ (x : StripedView). x.terms) own) c.dealer.invariant.some
-    (gathered_states c.gather-all.result.me p.me c.args.seats.items c.dealer.inside.dealt
-    c.gather-all.ensures.all.1 c.dealer.invariant.states)
-    c.see_end.ensures.end_is))
+    c.requires.seats) in (
+      c.see_end.ensures.caches,
+      subst (λ (d : DealerView). Retires d c.args.seats.items c.see_end.ensures.caches)
+          c.dealer.view_is
+          (retires _ c.args.seats.items c.gather-all.result.me.0.states _ c.see_end.ensures.caches
+          (ap (λ (x : StripedView). x.terms) own) c.dealer.invariant.some
+          (gathered_states c.gather-all.result.me p.me c.args.seats.items c.dealer.inside.dealt
+          c.gather-all.ensures.all.1 c.dealer.invariant.states)
+          c.see_end.ensures.end_is),
+    )
