@@ -53,7 +53,7 @@ static void of_a_cache(void)
     tsc_mark marks[2] = {{0, 1, 0, 0, {30, 0, {0}}, TSC_POINT}, {1, 1, 0, 0, {31, 0, {0}}, TSC_POINT}};
     asks("tsc_open", tsc_checked_open(&store, 1024, 1024, 2, 10, &LOW, &n), 5, 900);
     asks("tsc_open of a second one", tsc_checked_open(&store, 1024, 1024, 2, 10, &LOW, &second), 2, 132);
-    asks("tsc_add of a first key", tsc_checked_add(&store, n, "x", 1, NULL, 0, TSC_POINT, &READ, &NOW, &added), 8, 315);
+    asks("tsc_add of a first key", tsc_checked_add(&store, n, "x", 1, NULL, 0, TSC_POINT, &READ, &NOW, &added), 7, 305);
     asks("tsc_add of a second key", tsc_checked_add(&store, n, "y", 1, NULL, 0, TSC_POINT, &READ, &NOW, &added), 4, 430);
     asks("tsc_add of a known key", tsc_checked_add(&store, n, "x", 1, NULL, 0, TSC_POINT, &LATER, &NOW, &added), 0, 0);
     asks("tsc_get_max", tsc_checked_get_max(&store, n, "x", 1, NULL, 0, TSC_POINT, &value), 0, 0);
@@ -86,7 +86,7 @@ static void of_seats(void)
     uint64_t n = 77, moved = 77, at = 77, seen = 77;
     tsc_added added;
     tsc_value value;
-    asks("tsc_open_shared", tsc_checked_open_shared(&store, 1024, 1024, 2, 10, &LOW, 2, 9, &n), 24, 5190);
+    asks("tsc_open_shared", tsc_checked_open_shared(&store, 1024, 1024, 2, 10, &LOW, 2, 9, &n), 25, 5200);
     asks("tsc_seat_add of a first key", tsc_checked_seat_add(&store, n + 1, "x", 1, NULL, 0, TSC_POINT, &READ, &NOW, 1, &at, &added), 9, 316);
     asks("tsc_seat_add of a second key", tsc_checked_seat_add(&store, n + 1, "y", 1, NULL, 0, TSC_POINT, &READ, &NOW, 1, &at, &added), 13, 745);
     asks("tsc_seat_add of a known key", tsc_checked_seat_add(&store, n + 1, "y", 1, NULL, 0, TSC_POINT, &LATER, &NOW, 1, &at, &added), 6, 430);
@@ -115,7 +115,7 @@ static void of_stripes(void)
     uint64_t n = 77, at = 77, seen = 77;
     tsc_added added;
     tsc_value value;
-    asks("tsc_open_striped", tsc_checked_open_striped(&store, 1024, 8256, 2, 10, &LOW, "gp", 2, ONES, 2, 2, &n), 29, 4220);
+    asks("tsc_open_striped", tsc_checked_open_striped(&store, 1024, 8256, 2, 10, &LOW, "gp", 2, ONES, 2, 2, &n), 30, 4220);
     asks("tsc_seat_add of a first key in stripes", tsc_checked_seat_add(&store, n + 1, "x", 1, NULL, 0, TSC_POINT, &READ, &NOW, 64, &at, &added), 8, 312);
     asks("tsc_seat_add of a known key in stripes", tsc_checked_seat_add(&store, n + 1, "x", 1, NULL, 0, TSC_POINT, &LATER, &NOW, 64, &at, &added), 1, 1);
     asks("tsc_seat_add over stripes", tsc_checked_seat_add(&store, n + 1, "a", 1, "x", 1, 0, &LATER, &NOW, 64, &at, &added), 48, 4290);
