@@ -136,9 +136,11 @@ void examples(Cache &cache, Cache &former, tscache::Config config, Owner reader,
 {
 %s}
 """
+# (of two accesses in the very same moment the sanitizer may see none)
 RACE = """#include <thread>
 int count;
-int main() { std::thread other([] { count++; }); count++; other.join(); return 0; }
+void add() { for (int turn = 0; turn < 10000; turn++) count++; }
+int main() { std::thread other(add); add(); other.join(); return 0; }
 """
 # What the sanitizers have to find, and by which word.
 FAULTS = {
