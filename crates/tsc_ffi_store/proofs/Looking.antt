@@ -11,11 +11,11 @@ use Rattle.tsc_ffi_store.specs.Seating.{MissesOne}
 use Rattle.tsc_ffi_store.proofs.Returning.{known_of}
 
 -- a look that found the word 0 adds its slot to those that were missed
-looks_on : (cache : AnyCache) (seats returned : ℕ) (was : Known) (st : Step Returned) (found : ℕ)
+one_missed : (cache : AnyCache) (seats returned : ℕ) (was : Known) (st : Step Returned) (found : ℕ)
     (me me' : At) → me ≡ (keeping cache seats returned was.back was.missed, []) → found ≡ 0 →
     sees_returned st me found me' →
     me' ≡ (keeping cache seats returned was.back (was.missed ++ st.word ∷ []), [])
-looks_on cache seats returned was st found me me' is none sees =
+one_missed cache seats returned was st found me me' is none sees =
     sees.0 ∙ ap (λ (n : ℕ). (seen_returned me.0 st.word n, me.1)) none
     ∙ ap (λ (m : At). (record m.0 { missed = m.0.missed ++ st.word ∷ [] }, m.1)) is
 
@@ -24,7 +24,7 @@ pub still_keeps : (cache : AnyCache) (seats returned : ℕ) (was : Known) (st : 
     found ≡ 0 → sees_returned st me found me' →
     me' ≡ (keeping cache seats returned was.back me'.0.missed, [])
 still_keeps cache seats returned was st found me me' is none sees =
-    let now = looks_on cache seats returned was st found me me' is none sees in
+    let now = one_missed cache seats returned was st found me me' is none sees in
     now ∙ ap (λ (l : List ℕ). (keeping cache seats returned was.back l, []))
     (sym (ap (λ (m : At). m.0.missed) now))
 
@@ -40,5 +40,5 @@ looks_in_vain cache seats returned was st found me me' is low word none sees = r
         (known_of cache seats returned was.back was.missed me is) (sees.1 none);
   };
   looked = ap (λ (m : At). m.0.missed)
-      (looks_on cache seats returned was st found me me' is none sees);
+      (one_missed cache seats returned was st found me me' is none sees);
 }
