@@ -474,9 +474,11 @@ uint32_t tsc_seat_close(tsc_store *store, uint64_t seat);
 
 /* Closes a shared cache, or one in stripes, where all its seats were handed in, and writes how
  * many Adds it had: as many as its seats counted. The seats that it knows are among these, as they
- * were. Else the call is refused by TSC_STILL_OUT, and the cache stays as it is. A cache that
- * knows all its seats closes. That seats which were handed in elsewhere are out no more is tested
- * and not proved. In stripes the number stays at 2^64 - 1 once it is there. */
+ * were. Else the call is refused by TSC_STILL_OUT, and the cache stays as it is. It is refused so
+ * only where the call looked for a seat that the cache does not know, and saw that the seat was
+ * not returned then. So a cache that knows all its seats closes. That `tsc_seat_close` returns a
+ * seat in another store, too, is tested and not proved. In stripes the number stays at 2^64 - 1
+ * once it is there. */
 uint32_t tsc_close_shared(tsc_store *store, uint64_t handle, uint64_t *length);
 
 /* Recorded traces, from bytes to bytes. These two calls take no store, and threads may make them

@@ -77,7 +77,8 @@ none_ended {A} adds old new handle was is =
     (Err refusal.Closed)) (sym was)
     (subst (λ (n : Option (List Slot)). AnswersCloseShared {A = A} adds handle [] (slots_of n)
     (Err refusal.Closed)) (sym is) (record {
-      ended = record { closed = tt; refused = inl (refl, refl) };
+      closed = tt;
+      refused = inl (refl, refl, refl);
       others = keeps_none handle;
     }))
 

@@ -298,14 +298,13 @@ pub extern "C" fn tsc_seat_close(store: &mut StorePtr, handle: u64) -> u32
 }
 
 /// Closes the shared cache of a handle if all its seats were handed in, and writes how many Adds
-/// its history has.
+/// its history has. It is refused only where it looked for a seat, and saw that it was not handed
+/// in.
 #[unsafe(no_mangle)]
 pub extern "C" fn tsc_close_shared(store: &mut StorePtr, handle: u64, length: &mut u64) -> u32
     ensures answers { Tells
         (AnswersCloseShared length.new handle (slots_of store.old.owned)
-        (slots_of store.new.owned))
-        ((slots_of store.new.owned ≡ slots_of store.old.owned) × (length.new ≡ length.old))
-        result }
+        (slots_of store.new.owned)) (length.new ≡ length.old) result }
 {
     match store.store_mut() {
         Some(held) => code(held.close_shared(handle, length)),

@@ -123,10 +123,13 @@ pub all_dealt : (cache : AnyCache) (table : TableId) (seats : ℕ) (me : At)
     (handles : List HandleView) (rest : List AnySeat) →
     Dealing cache table seats me handles rest → rest ≡ [] →
     (handles ≡ map (handle_of table) (new_any_seats cache 0 seats)) ×
-    (me ≡ (keeping cache seats 0 [], []))
+    (me ≡ (keeping cache seats 0 [] me.0.missed, [])) × (me.0.missed ≡ [])
 all_dealt cache table seats me handles rest d is =
-    let none = none_left cache (length handles) d.left (sym is ∙ d.others) in let all = d.all in (
+    let none = none_left cache (length handles) d.left (sym is ∙ d.others) in let all = d.all in
+    let known : me ≡ (keeping cache seats 0 [] [], []) = d.tokens ∙
+    ap (λ (n : ℕ). (dealing (Some cache) n (seats + seats) 0, [])) (omega (arith, all, none)) in (
       sym (append-nil handles) ∙ ap (λ (cs : List AnySeat). handles ++ map (handle_of table) cs) (sym is) ∙
           d.made,
-      d.tokens ∙ ap (λ (n : ℕ). (dealing (Some cache) n (seats + seats) 0, [])) (omega (arith, all, none)),
+      known ∙ ap (λ (m : At). (keeping cache seats 0 [] m.0.missed, [])) (sym known),
+      ap (λ (m : At). m.0.missed) known,
     )

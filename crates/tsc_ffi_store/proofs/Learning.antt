@@ -7,15 +7,16 @@ use Rattle.tsc_ffi_store.specs.declared.seats.kinds.AnyCache.{AnyCache}
 use Rattle.tsc_ffi_store.specs.declared.seats.kinds.AnySeat.{AnySeat}
 use Rattle.tsc_shared.specs.Seats.{is_seat_count}
 use Rattle.tsc_ffi_store.specs.declared.seats.return_slots.Known.{Known}
+use Rattle.tsc_ffi_store.specs.Kinds.{seats_of}
 use Rattle.tsc_ffi_store.specs.declared.store.Slot.{Slot}
 use Rattle.tsc_ffi_store.specs.declared.store.Slot.TheVariants.{Closed, Own, Shared, Seat}
 use Rattle.tsc_ffi_store.specs.SameTable.{SwapsIfSame}
 use Rattle.tsc_ffi_store.specs.ReturnSlots.{Returned, spare, keeping, also_back}
 use Rattle.tsc_ffi_store.specs.ReturnSteps.{At, LearnsBy}
-use Rattle.tsc_ffi_store.specs.Owners.{OwnerView, LearnsOf}
+use Rattle.tsc_ffi_store.specs.Owners.{OwnerView, LearnsOf, MissesSeat}
 use Rattle.tsc_ffi_store.specs.SeatCalls.{Learns, LearnsIf, LearnsAt}
 use Rattle.tsc_ffi_store.specs.Store.{shared_of}
-use Rattle.tsc_ffi_store.specs.Seating.{SharedHandleView, IsKeeper, KnowsReturned}
+use Rattle.tsc_ffi_store.specs.Seating.{SharedHandleView, IsKeeper, KnowsReturned, MissesOne}
 use Rattle.tsc_ffi_store.proofs.Returning.{by_itself, known_of}
 use Rattle.tsc_ffi_store.proofs.AtHandle.{at_handle, keeps_others, keeps_all}
 
@@ -58,26 +59,45 @@ joined_free token other token' other' free is (inr keep) =
 -- ---- the owner
 
 pub keeper_learns : (cache : AnyCache) (table its : TableId) (seats returned : ℕ) (w : Known)
-    (me me' : At) → me ≡ (keeping cache seats returned me.0.back, []) →
-    LearnsBy table its w me me' → me' ≡ (keeping cache seats returned me'.0.back, [])
+    (me me' : At) → me ≡ (keeping cache seats returned me.0.back me.0.missed, []) →
+    LearnsBy table its w me me' →
+    me' ≡ (keeping cache seats returned me'.0.back me'.0.missed, [])
 keeper_learns cache table its seats returned w me me' known (inl told) =
-    by_itself cache seats returned (me.0.back ++ w.back) me'
+    by_itself cache seats returned (me.0.back ++ w.back) me.0.missed me'
     (told.1 ∙ ap (λ (m : At). (also_back m.0 w, m.1)) known)
 keeper_learns cache table its seats returned w me me' known (inr told) =
-    by_itself cache seats returned me.0.back me' (told.1 ∙ known)
+    by_itself cache seats returned me.0.back me.0.missed me' (told.1 ∙ known)
+
+-- an owner, by what its keeper's token knows
+abbrev pub owner_of : AnyCache → TableId → At → OwnerView
+owner_of cache table me = record {
+  cache = cache;
+  returns = table;
+  back = me.0.back;
+  missed = me.0.missed;
+}
 
 pub owner_learns : (cache : AnyCache) (table its : TableId) (w : Known) (me me' : At) →
-    LearnsBy table its w me me' → LearnsOf its w.back
-    (record { cache = cache; returns = table; back = me.0.back })
-    (record { cache = cache; returns = table; back = me'.0.back })
-owner_learns cache table its w me me' (inl told) = inl (
-  told.0,
-  ap (λ (m : At). record { cache = cache; returns = table; back = m.0.back }) told.1,
-)
-owner_learns cache table its w me me' (inr told) = inr (
-  told.0,
-  ap (λ (m : At). record { cache = cache; returns = table; back = m.0.back }) told.1,
-)
+    LearnsBy table its w me me' →
+    LearnsOf its w.back (owner_of cache table me) (owner_of cache table me')
+owner_learns cache table its w me me' (inl told) = inl (told.0, ap (owner_of cache table) told.1)
+owner_learns cache table its w me me' (inr told) = inr (told.0, ap (owner_of cache table) told.1)
+
+-- an owner whose keeper looked in vain
+pub owner_misses : (cache key : AnyCache) (table slots its : TableId) (me me' : At)
+    (seats returned : ℕ) → seats ≡ seats_of cache →
+    KnowsReturned key slots its me' seats returned me.0.back → MissesOne seats me.0 me'.0 →
+    MissesSeat (owner_of cache table me) (owner_of cache table me')
+owner_misses cache key table slots its me me' seats returned all knows misses = record {
+  missing = record {
+    number = misses.missing.number;
+    low = subst (λ (n : ℕ). misses.missing.number < n) all misses.missing.low;
+    out = misses.missing.out;
+  };
+  looked = ap (λ (b : List AnySeat). record (owner_of cache table me') { back = b })
+      (known_of key seats returned me.0.back me'.0.missed me' knows.known)
+      ∙ ap (λ (l : List ℕ). record (owner_of cache table me) { missed = l }) misses.looked;
+}
 
 -- a keeper knows what its view has
 pub keeps_itself : (shared : SharedHandleView) (table : TableId) (me : At) (seats returned : ℕ)
@@ -86,7 +106,7 @@ pub keeps_itself : (shared : SharedHandleView) (table : TableId) (me : At) (seat
 keeps_itself shared table me seats returned back k = record {
   its_table = k.its_table;
   all = k.all;
-  known = by_itself shared.cache seats returned back me k.known;
+  known = by_itself shared.cache seats returned back me.0.missed me k.known;
   some = k.some;
   any = k.any;
 }
@@ -113,11 +133,11 @@ looks_on shared slots table table' me me' seats returned returned' k same knows 
   record {
     its_table = knows.its_table ∙ same;
     all = k.all;
-    known = by_itself shared.cache seats returned' me.0.back me' knows.known;
+    known = by_itself shared.cache seats returned' me.0.back me'.0.missed me' knows.known;
     some = knows.some;
     any = k.any;
   },
-  known_of shared.cache seats returned' me.0.back me' knows.known,
+  known_of shared.cache seats returned' me.0.back me'.0.missed me' knows.known,
 )
 
 -- a cache that was opened has seats

@@ -14,6 +14,7 @@ mod BoundsCut
 mod ByKinds
 mod Laying
 mod Learning
+mod Looking
 mod MarksMade
 mod NamedSpans
 mod MayWrite

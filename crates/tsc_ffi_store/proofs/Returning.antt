@@ -10,7 +10,7 @@ use lib.Seq.{set-get_or}
 use Rattle.std.proofs.lemmas.List.{get_or-replicate, length-replicate, length-map}
 use Rattle.std.proofs.lemmas.List.Elements.{All-nil, All-cons, All-append, All-weaker}
 use Rattle.atomic_table.proofs.Lists.{at_set, set_here, set_else, some_there}
-use Rattle.atomic_table.specs.Table.{State, Step, Act, takes as act_takes, gives as act_gives, keeps as act_keeps, Allows, Splits, Joins, opening, Valid, stepped, carried_after, rest, Final, Seen}
+use Rattle.atomic_table.specs.Table.{State, Step, Act, takes as act_takes, gives as act_gives, keeps as act_keeps, Allows, Splits, Joins, opening, Valid, stepped, carried_after, rest}
 use Rattle.tsc_ffi_store.specs.declared.seats.kinds.AnyCache.{AnyCache}
 use Rattle.tsc_ffi_store.specs.declared.seats.kinds.AnySeat.{AnySeat}
 use Rattle.tsc_ffi_store.specs.Kinds.{seats_of, cache_of, number_of}
@@ -504,67 +504,74 @@ module _ (cache : AnyCache) where
       k.wide k.deep k.returned (spare_fits s.words s.homes) (λ o u ne is. first.fits o u is)
 
   -- it is seen whether the next seat is returned
-  one_more : (s : Board) (k : IsKept cache s) (id seats returned : ℕ) (back : List AnySeat) →
-      get_elem? s.views id ≡ maybe.some (keeping cache seats returned back) →
-      slice_index s.words returned ≢ 0
-      → Fits cache s.words s.homes (keeping cache seats (returned + 1) back)
-  one_more s k id seats returned back at one =
-      let f = k.fits id (keeping cache seats returned back) at in
+  looked_fits : (s : Board) (k : IsKept cache s) (id seats returned returned' : ℕ)
+      (back : List AnySeat) (missed missed' : List ℕ) →
+      get_elem? s.views id ≡ maybe.some (keeping cache seats returned back missed) →
+      ((slot : ℕ) → slot < returned' → slice_index s.words slot ≢ 0)
+      → Fits cache s.words s.homes (keeping cache seats returned' back missed')
+  looked_fits s k id seats returned returned' back missed missed' at some =
+      let f = k.fits id (keeping cache seats returned back missed) at in
       record {
         its = f.its;
         free = λ slot idle low among.
             f.free slot idle low (record { from = among.from; to = among.to });
         out = λ slot taken. absurd (true≢false (sym taken));
         left = λ slot low among. f.left slot low (record { from = among.from; to = among.to });
-        returned = λ slot low. dite (ℕ_discrete slot returned)
-            (λ e z. one (ap (λ (n : ℕ). slice_index s.words n) (sym e) ∙ z))
-            (λ ne. f.returned slot (omega (arith, low, ne)));
+        returned = some;
         back = f.back;
       }
 
   pub look_allowed : (slots : ℕ) (st : Step Returned) (id seats returned : ℕ)
-      (back : List AnySeat) → st.word ≡ returned →
-      Allows (IsKept cache) slots id (keeping cache seats returned back, []) returned (λ n. n)
-      (sees_returned st (keeping cache seats returned back, []))
-  look_allowed slots st id seats returned back word s k _ at _ =
+      (back : List AnySeat) (missed : List ℕ) → st.word ≡ returned →
+      Allows (IsKept cache) slots id (keeping cache seats returned back missed, []) returned
+      (λ n. n) (sees_returned st (keeping cache seats returned back missed, []))
+  look_allowed slots st id seats returned back missed word s k _ at _ =
+      let f = k.fits id (keeping cache seats returned back missed) at in
       dite (ℕ_discrete (slice_index s.words returned) 0)
-      (λ no. looked (keeping cache seats returned back)
-      (k.fits id (keeping cache seats returned back) at) (λ slot among. among) (search rules))
-      (λ one. looked (keeping cache seats (returned + 1) back)
-      (one_more s k id seats returned back at one)
+      (λ no. looked (keeping cache seats returned back (missed ++ st.word ∷ []))
+      (looked_fits s k id seats returned returned back missed (missed ++ st.word ∷ []) at
+      f.returned)
+      (λ slot among. record { from = among.from; to = among.to }) (search rules))
+      (λ one. looked (keeping cache seats (returned + 1) back missed)
+      (looked_fits s k id seats returned (returned + 1) back missed missed at
+      (λ slot low. dite (ℕ_discrete slot returned)
+      (λ e z. one (ap (λ (n : ℕ). slice_index s.words n) (sym e) ∙ z))
+      (λ ne. f.returned slot (omega (arith, low, ne)))))
       (λ slot among. record { from = among.from; to = among.to }) (search rules))
     where
       looked : (w : Known) → Fits cache s.words s.homes w →
-          ((slot : ℕ) → IsAmong w slot → IsAmong (keeping cache seats returned back) slot) →
-          seen_returned (keeping cache seats returned back) (slice_index s.words returned) ≡ w
+          ((slot : ℕ) → IsAmong w slot → IsAmong (keeping cache seats returned back missed) slot) →
+          seen_returned (keeping cache seats returned back missed) st.word
+          (slice_index s.words returned) ≡ w
           → (w : Known) × (a : Act Returned) × Valid s.homes [] a ×
           IsKept cache (stepped s returned (slice_index s.words returned) id [] w a) ×
-          sees_returned st (keeping cache seats returned back, []) (slice_index s.words returned)
-          (w, carried_after [] a)
+          sees_returned st (keeping cache seats returned back missed, [])
+          (slice_index s.words returned) (w, carried_after [] a)
       looked w fits within is = (
         w,
         act_keeps,
         tt,
         same_words s returned s.homes (set s.views id w)
-            (moved s k id (keeping cache seats returned back) w s.words s.homes at within k.wide
-            k.deep k.returned fits (λ other u _ at'. k.fits other u at')),
+            (moved s k id (keeping cache seats returned back missed) w s.words s.homes at within
+            k.wide k.deep k.returned fits (λ other u _ at'. k.fits other u at')),
         (
           (λ i. (sym is i, [])),
           (λ zero_is. All-weaker (IsBack cache s.words s.homes)
               (λ (o : AnySeat). number_of o ≢ st.word)
               (λ o b e. b.word (ap (λ (n : ℕ). slice_index s.words n) (e ∙ word) ∙ zero_is)) back
-              (k.fits id (keeping cache seats returned back) at).back),
+              (k.fits id (keeping cache seats returned back missed) at).back),
         ),
       )
 
   -- the next seat is collected
   pub collect_allowed : (slots : ℕ) (st : Step Returned) (id done : ℕ) (back : List AnySeat)
-      (hand : List (ℕ × Returned)) → st.word ≡ done → done < seats_of cache →
+      (missed : List ℕ) (hand : List (ℕ × Returned)) → st.word ≡ done → done < seats_of cache →
       Allows (IsKept cache) slots id
-      (collecting cache (seats_of cache) done (seats_of cache) back, hand) done (λ _. 2)
-      (λ _. collects st (collecting cache (seats_of cache) done (seats_of cache) back, hand) 2)
-  collect_allowed slots st id done back hand word low s k _ at _ =
-      let v : Known = collecting cache (seats_of cache) done (seats_of cache) back in
+      (collecting cache (seats_of cache) done (seats_of cache) back missed, hand) done (λ _. 2)
+      (λ _. collects st
+      (collecting cache (seats_of cache) done (seats_of cache) back missed, hand) 2)
+  collect_allowed slots st id done back missed hand word low s k _ at _ =
+      let v : Known = collecting cache (seats_of cache) done (seats_of cache) back missed in
       let w : Known = record v { from = v.from + 1 } in
       let f = k.fits id v at in
       let busy : slice_index s.words done ≢ 0 = f.returned done low in
@@ -680,21 +687,21 @@ module _ (cache : AnyCache) where
       (return_seat_allowed slots st id seat low its))
 
   pub look_at : (slots : ℕ) (st : Step Returned) (id seats returned : ℕ) (back : List AnySeat)
-      (me : At) → me ≡ (keeping cache seats returned back, []) → st.word ≡ returned →
-      Allows (IsKept cache) slots id me returned (λ n. n) (sees_returned st me)
-  look_at slots st id seats returned back me is word =
+      (missed : List ℕ) (me : At) → me ≡ (keeping cache seats returned back missed, []) →
+      st.word ≡ returned → Allows (IsKept cache) slots id me returned (λ n. n) (sees_returned st me)
+  look_at slots st id seats returned back missed me is word =
       subst (λ (m : At). Allows (IsKept cache) slots id m returned (λ n. n) (sees_returned st m))
-      (sym is) (look_allowed slots st id seats returned back word)
+      (sym is) (look_allowed slots st id seats returned back missed word)
 
   pub collect_at : (slots : ℕ) (st : Step Returned) (id seats done : ℕ) (back : List AnySeat)
-      (me : At) → me.0 ≡ collecting cache seats done seats back → seats ≡ seats_of cache →
-      st.word ≡ done → done < seats →
+      (missed : List ℕ) (me : At) → me.0 ≡ collecting cache seats done seats back missed →
+      seats ≡ seats_of cache → st.word ≡ done → done < seats →
       Allows (IsKept cache) slots id me done (λ _. 2) (λ _. collects st me 2)
-  collect_at slots st id seats done back me is all word low =
+  collect_at slots st id seats done back missed me is all word low =
       subst (λ (v : Known).
       Allows (IsKept cache) slots id (v, me.1) done (λ _. 2) (λ _. collects st (v, me.1) 2))
-      (sym (is ∙ ap (λ (n : ℕ). collecting cache n done n back) all))
-      (collect_allowed slots st id done back me.1 word (subst (λ (n : ℕ). done < n) all low))
+      (sym (is ∙ ap (λ (n : ℕ). collecting cache n done n back missed) all))
+      (collect_allowed slots st id done back missed me.1 word (subst (λ (n : ℕ). done < n) all low))
 
 pub picked : (st : Step Returned) (number found : ℕ) (me me' : At) → me ≡ (token number, []) →
     takes_slot st me found me' → (x : Returned) × (me' ≡ (spent number, (number, x) ∷ []))
@@ -739,11 +746,12 @@ pub record Brought (cache : AnyCache) (seats done : ℕ) (back : List AnySeat) (
   pub known : All (λ (s : AnySeat). number_of s ≡ done → s ≡ seat) back
   pub low : All (λ (s : AnySeat). number_of s < seats) back
 
-pub brought : (cache : AnyCache) (seats done : ℕ) (back : List AnySeat) (st : Step Returned)
-    (me me' : At) (x : Returned) (seat : AnySeat) → me.0 ≡ collecting cache seats done seats back →
+pub brought : (cache : AnyCache) (seats done : ℕ) (back : List AnySeat) (missed : List ℕ)
+    (st : Step Returned) (me me' : At) (x : Returned) (seat : AnySeat) →
+    me.0 ≡ collecting cache seats done seats back missed →
     seats ≡ seats_of cache → st.word ≡ done → collects st me 2 me' →
     me'.1 ≡ (done, x) ∷ rest me'.1 → x ≡ Some seat → Brought cache seats done back seat
-brought cache seats done back st me me' x seat is all word c now got =
+brought cache seats done back missed st me me' x seat is all word c now got =
     let same : seat ≡ c.0 = one_seat seat c.0 (sym got ∙ found_there st me me' done x c now) in
     let back_is : me.0.back ≡ back = ap (λ (v : Known). v.back) is in
     record {
@@ -758,14 +766,15 @@ brought cache seats done back st me me' x seat is all word c now got =
     }
 
 -- one seat more was collected, as the keeper's token knows
-pub collects_on : (cache : AnyCache) (seats done : ℕ) (back : List AnySeat) (st : Step Returned)
-    (me me' : At) (new : At) (x : Returned) → me.0 ≡ collecting cache seats done seats back →
+pub collects_on : (cache : AnyCache) (seats done : ℕ) (back : List AnySeat) (missed : List ℕ)
+    (st : Step Returned) (me me' : At) (new : At) (x : Returned) →
+    me.0 ≡ collecting cache seats done seats back missed →
     collects st me 2 me' → new ≡ (me'.0, (done, x) ∷ rest me'.1) →
-    new.0 ≡ collecting cache seats (done + 1) seats back
-collects_on cache seats done back st me me' new x is c then' =
+    new.0 ≡ collecting cache seats (done + 1) seats back missed
+collects_on cache seats done back missed st me me' new x is c then' =
     ap (λ (m : At). m.0) then' ∙ ap (λ (m : At). m.0) c.2 ∙
     ap (λ (v : Known). record v { from = v.from + 1 }) is ∙
-    ap (λ (n : ℕ). knowing (Some cache) n (seats + seats) seats back) (omega arith)
+    ap (λ (n : ℕ). knowing (Some cache) n (seats + seats) seats back missed) (omega arith)
 
 -- Of the seats that are known to be back, each whose number is below `done` stands at it.
 abbrev pub AreCollected : ℕ → List AnySeat → List AnySeat → Type 0
@@ -811,18 +820,19 @@ pub came_home : (number i : ℕ) (seat : AnySeat) (me me' : At) →
 came_home number i seat me me' is e = e ∙ ap (λ (m : At). (came_in m.1, [])) is
 
 -- what a keeper knows of seats, by its view
-pub known_of : (cache : AnyCache) (seats returned : ℕ) (back : List AnySeat) (me : At) →
-    me ≡ (keeping cache seats returned back, []) → me.0.back ≡ back
-known_of cache seats returned back me is = ap (λ (m : At). m.0.back) is
+pub known_of : (cache : AnyCache) (seats returned : ℕ) (back : List AnySeat) (missed : List ℕ)
+    (me : At) → me ≡ (keeping cache seats returned back missed, []) → me.0.back ≡ back
+known_of cache seats returned back missed me is = ap (λ (m : At). m.0.back) is
 
-pub by_itself : (cache : AnyCache) (seats returned : ℕ) (back : List AnySeat) (me : At) →
-    me ≡ (keeping cache seats returned back, []) → me ≡ (keeping cache seats returned me.0.back, [])
-by_itself cache seats returned back me is =
-    is ∙ ap (λ (b : List AnySeat). (keeping cache seats returned b, []))
-    (sym (known_of cache seats returned back me is))
+pub by_itself : (cache : AnyCache) (seats returned : ℕ) (back : List AnySeat) (missed : List ℕ)
+    (me : At) → me ≡ (keeping cache seats returned back missed, []) →
+    me ≡ (keeping cache seats returned me.0.back me.0.missed, [])
+by_itself cache seats returned back missed me is =
+    is ∙ ap (λ (m : At). (keeping cache seats returned m.0.back m.0.missed, [])) (sym is)
 
 -- before the first seat is collected
-pub starts : (cache : AnyCache) (seats : ℕ) (back : List AnySeat) (me : At) →
-    me ≡ (keeping cache seats seats back, []) → me.0 ≡ collecting cache seats 0 seats back
-starts cache seats back me is = ap (λ (m : At). m.0) is ∙
-    ap (λ (n : ℕ). knowing (Some cache) n (seats + seats) seats back) (omega arith)
+pub starts : (cache : AnyCache) (seats : ℕ) (back : List AnySeat) (missed : List ℕ) (me : At) →
+    me ≡ (keeping cache seats seats back missed, []) →
+    me.0 ≡ collecting cache seats 0 seats back missed
+starts cache seats back missed me is = ap (λ (m : At). m.0) is ∙
+    ap (λ (n : ℕ). knowing (Some cache) n (seats + seats) seats back missed) (omega arith)

@@ -1,5 +1,5 @@
 -- What can be seen of a seat by its handle, and of who opened its cache.
-use Rattle.std.specs.Prelude.{◌≡◌, ◌≢◌, ◌⊎◌, ◌++◌, ℕ, ◌<◌, List, [], All, map, length, slice_get, true, Some}
+use Rattle.std.specs.Prelude.{◌≡◌, ◌≢◌, ◌⊎◌, ◌++◌, ◌∷◌, ℕ, ◌<◌, List, [], All, map, length, slice_get, true, Some}
 use Rattle.atomic_table.specs.Seated.{TableId}
 use Rattle.tsc_span.specs.Span.{KeyBytes}
 use Rattle.std.specs.List.{sum_by}
@@ -15,7 +15,7 @@ use Rattle.tsc_ffi_store.specs.declared.seats.kinds.AnyCache.{AnyCache}
 use Rattle.tsc_ffi_store.specs.declared.seats.kinds.AnyCache.TheVariants.{Shared, Striped}
 use Rattle.tsc_ffi_store.specs.declared.seats.kinds.AnySeat.{AnySeat}
 use Rattle.tsc_ffi_store.specs.declared.seats.kinds.AnySeat.TheVariants as seat
-use Rattle.tsc_ffi_store.specs.Kinds.{number_of, new_any_seats}
+use Rattle.tsc_ffi_store.specs.Kinds.{seats_of, number_of, new_any_seats}
 
 -- A seat by its handle, and the table in which it is returned. No other cache has that table.
 pub record HandleView : Type 0 where
@@ -23,11 +23,14 @@ pub record HandleView : Type 0 where
   pub returns : TableId
 
 -- The owner of a cache that threads share has the cache, and the table in which its seats are
--- returned. It knows which seats came back beside it, and as what.
+-- returned. It knows which seats came back beside it, and as what. And it knows the number of the
+-- seat for each time that it looked into a slot of the table, and no seat was returned there. The
+-- step `sees_returned` of that table alone adds to these.
 pub record OwnerView : Type 0 where
   pub cache : AnyCache
   pub returns : TableId
   pub back : List AnySeat
+  pub missed : List ℕ
 
 -- the handle of a seat that is returned there
 abbrev pub handle_of : TableId → AnySeat → HandleView
@@ -49,10 +52,12 @@ pub record IsStriped (settings : Settings) (count : ℕ) (bounds : List KeyBytes
   pub terms : striped.terms ≡ record { config = settings; seats = count; bounds = bounds }
   pub settled : IsSettled striped.terms
 
--- An owner has new seats, as many as these, which nobody has used, and none of which is back.
+-- An owner has new seats, as many as these, which nobody has used. None of them is back, and none
+-- was looked for.
 pub record HasSeats (count : ℕ) (owner : OwnerView) (handles : List HandleView) : Type 0 where
   pub in_order : handles ≡ map (handle_of owner.returns) (new_any_seats owner.cache 0 count)
   pub none_back : owner.back ≡ []
+  pub none_missed : owner.missed ≡ []
 
 -- A cache is opened with these settings, that many seats, which nobody has used, and that limit.
 -- None of the seats is back.
@@ -81,6 +86,12 @@ pub record IsMissing (seats : ℕ) (back : List AnySeat) : Type 0 where
   pub number : ℕ
   pub low : number < seats
   pub out : All (λ s. number_of s ≢ number) back
+
+-- An owner looked for a seat that is not among those which it knows to be back, and saw that it was
+-- not returned. That it saw so is all that changes.
+pub record MissesSeat (old new : OwnerView) : Type 0 where
+  pub missing : IsMissing (seats_of old.cache) old.back
+  pub looked : new ≡ record old { missed = old.missed ++ missing.number ∷ [] }
 
 -- Each seat that is known to be back is one of some seats, at its number, as it was then.
 abbrev pub AreBack : List AnySeat → List AnySeat → Type 0

@@ -14,20 +14,22 @@ abbrev pub Returned : Type 0
 Returned = Option AnySeat
 
 -- Who may take the slots from one on, up to another, knows how many seats from 0 on are returned,
--- and some that lie in their slots. The right to collect the seat of a slot has a number of its
--- own: that of the slot, and as many more as there are seats. Who deals these knows the cache.
-abbrev pub knowing : Option AnyCache → ℕ → ℕ → ℕ → List AnySeat → Known
-knowing cache from to returned back = record {
+-- some that lie in their slots, and which slots it looked at while no seat was returned there, one
+-- for each such look. The right to collect the seat of a slot has a number of its own: that of the
+-- slot, and as many more as there are seats. Who deals these knows the cache.
+abbrev pub knowing : Option AnyCache → ℕ → ℕ → ℕ → List AnySeat → List ℕ → Known
+knowing cache from to returned back missed = record {
   cache = cache;
   from = from;
   to = to;
   taken = false;
   returned = returned;
   back = back;
+  missed = missed;
 }
 
 abbrev pub dealing : Option AnyCache → ℕ → ℕ → ℕ → Known
-dealing cache from to returned = knowing cache from to returned []
+dealing cache from to returned = knowing cache from to returned [] []
 
 -- the token of a seat, which may take its slot
 abbrev pub token : ℕ → Known
@@ -42,6 +44,7 @@ spent number = record {
   taken = true;
   returned = 0;
   back = [];
+  missed = [];
 }
 
 -- a token that may take no slot, and knows nothing
@@ -50,17 +53,18 @@ spare = dealing None 0 0 0
 
 -- the token of a seat that was returned
 abbrev pub came : AnySeat → Known
-came seat = knowing None 0 0 0 (seat ∷ [])
+came seat = knowing None 0 0 0 (seat ∷ []) []
 
 -- who has dealt the tokens of all `seats` seats, knows that the first `returned` ones are returned,
--- and some of them as what, and has collected the first `done` ones
-abbrev pub collecting : AnyCache → ℕ → ℕ → ℕ → List AnySeat → Known
-collecting cache seats done returned back =
-    knowing (Some cache) (seats + done) (seats + seats) returned back
+-- some of them as what, and which it missed, and has collected the first `done` ones
+abbrev pub collecting : AnyCache → ℕ → ℕ → ℕ → List AnySeat → List ℕ → Known
+collecting cache seats done returned back missed =
+    knowing (Some cache) (seats + done) (seats + seats) returned back missed
 
 -- the same before it has collected any
-abbrev pub keeping : AnyCache → ℕ → ℕ → List AnySeat → Known
-keeping cache seats returned back = knowing (Some cache) seats (seats + seats) returned back
+abbrev pub keeping : AnyCache → ℕ → ℕ → List AnySeat → List ℕ → Known
+keeping cache seats returned back missed =
+    knowing (Some cache) seats (seats + seats) returned back missed
 
 -- one who knows of the seats, too, that another knows of
 abbrev pub also_back : Known → Known → Known
@@ -113,8 +117,9 @@ pub record Fits (cache : AnyCache) (words : List ℕ) (slots : List (maybe.Optio
   pub back : All (IsBack cache words slots) v.back
 
 -- There is a word and a slot for each seat. A word is 0 until the seat is returned, and 2 once it
--- is collected. In between a seat of the cache lies in the slot. No two may take, or have taken,
--- one slot, and no two may collect one seat.
+-- is collected. While it is 0, no token knows of a returned seat of that number: `fits` says so by
+-- `back`. In between a seat of the cache lies in the slot. No two may take, or have taken, one
+-- slot, and no two may collect one seat.
 pub record IsKept (cache : AnyCache) (s : State Returned Known) : Type 0 where
   pub wide : length s.words ≡ seats_of cache
   pub deep : length s.homes ≡ seats_of cache

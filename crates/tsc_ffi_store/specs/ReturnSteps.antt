@@ -1,5 +1,5 @@
 -- The steps at the slots in which seats are returned.
-use Rattle.std.specs.Prelude.{◌≡◌, ◌≢◌, ◌⊎◌, ℕ, ◌+◌, ◌<◌, ◌==◌, List, [], ◌∷◌, All, true, Some, None, if◌then◌else◌}
+use Rattle.std.specs.Prelude.{◌≡◌, ◌≢◌, ◌⊎◌, ℕ, ◌+◌, ◌<◌, ◌==◌, List, [], ◌∷◌, ◌++◌, All, true, Some, None, if◌then◌else◌}
 use Rattle.atomic_table.specs.Table.{Step, Me}
 use Rattle.atomic_table.specs.Seated.{TableId}
 use Rattle.tsc_ffi_store.specs.declared.seats.return_slots.Known.{Known}
@@ -37,14 +37,16 @@ came_in (x ∷ xs) = came_as x.1
 abbrev pub returns_seat : Step Returned → At → ℕ → At → Type 0
 returns_seat st me found me' = me' ≡ (came_in me.1, [])
 
--- one seat more is known to be returned, unless its word is 0
-abbrev pub seen_returned : Known → ℕ → Known
-seen_returned v found = if found == 0 then v else record v { returned = v.returned + 1 }
+-- What a look at the word of a slot tells: one seat more is returned. Where the word is 0, that
+-- slot is missed.
+abbrev pub seen_returned : Known → ℕ → ℕ → Known
+seen_returned v slot found = if found == 0 then record v { missed = v.missed ++ slot ∷ [] }
+    else record v { returned = v.returned + 1 }
 
 -- A look at whether the next seat is returned. Where it is not, no seat of that number is known to
 -- be.
 abbrev pub sees_returned : Step Returned → At → ℕ → At → Type 0
-sees_returned st me found me' = (me' ≡ (seen_returned me.0 found, me.1))
+sees_returned st me found me' = (me' ≡ (seen_returned me.0 st.word found, me.1))
     × (found ≡ 0 → All (λ s. number_of s ≢ st.word) me.0.back)
 
 -- A seat of this cache was collected. If a seat of its number is known to be back, it is that one.

@@ -25,10 +25,10 @@ use Rattle.tsc_ffi_store.specs.CacheCalls.{IsTooLarge, AreTooLarge, LacksMemoryF
 use Rattle.tsc_ffi_store.specs.declared.counts.CountedSeat.{CountedSeat}
 use Rattle.tsc_ffi_store.specs.declared.counts.Counts.{Counts}
 use Rattle.tsc_ffi_store.specs.declared.seats.kinds.AnySeat.{AnySeat}
-use Rattle.tsc_ffi_store.specs.Kinds.{seats_of, new_any_seats}
-use Rattle.tsc_ffi_store.specs.Owners.{HandleView, OwnerView, handle_of, IsShared, IsMissing, EndsSo}
+use Rattle.tsc_ffi_store.specs.Kinds.{new_any_seats}
+use Rattle.tsc_ffi_store.specs.Owners.{HandleView, OwnerView, handle_of, IsShared, MissesSeat, EndsSo}
 use Rattle.tsc_ffi_store.specs.Counts.{no_counts}
-use Rattle.tsc_ffi_store.specs.Store.{cache_at, shared_at, seat_at, Keeps, RefusesHandles}
+use Rattle.tsc_ffi_store.specs.Store.{cache_at, shared_of, shared_at, seat_at, Keeps, RefusesHandles}
 use Rattle.atomic_table.specs.Seated.{TableId}
 
 -- a seat of which nothing was asked, whose cache was opened at a handle
@@ -45,6 +45,7 @@ pub record OpensShared (old new : List Slot) (handle : ℕ) (settings : Settings
       map (λ s. Seat (unasked handle (handle_of owner.returns s))) (new_any_seats owner.cache 0 count)
   pub cache : IsShared settings count limit owner.cache
   pub none_back : owner.back ≡ []
+  pub none_missed : owner.missed ≡ []
 
 -- No shared cache may have `count` seats.
 abbrev pub RefusesSeats : Refusal → ℕ → Type 0
@@ -324,26 +325,44 @@ pub record ClosesShared (held after : Option OwnerView) (adds : ℕ) : Type 0 wh
   pub none : after ≡ None
   pub ends : EndsSo owner.cache owner.back adds
 
--- There is a shared cache, and of some seat of it its owner does not know that it is back. Where
--- the owner knows of each seat that it was handed in, the cache closes.
-pub record IsStillOut (held : Option OwnerView) : Type 0 where
+-- A slot holds a shared cache, whose owner looked for a seat in vain.
+pub record StaysOpen (old new : Slot) : Type 0 where
   pub owner : OwnerView
-  pub holds : held ≡ Some owner
-  pub missing : IsMissing (seats_of owner.cache) owner.back
+  pub after : OwnerView
+  pub held : old ≡ Shared owner
+  pub misses : MissesSeat owner after
+  pub left : new ≡ Shared after
 
--- Why a shared cache was not closed: there is none, or a seat is still out.
-abbrev pub RefusesCloseShared : Refusal → Option OwnerView → Type 0
-RefusesCloseShared why held = ((why ≡ refusal.Closed) × (held ≡ None)) ⊎
-    ((why ≡ refusal.StillOut) × IsStillOut held)
+-- Why the shared cache of a slot was not closed, and what the slot holds then.
+abbrev pub KeepsShared : Refusal → Slot → Slot → Type 0
+KeepsShared why old new = ((why ≡ refusal.Closed) × (shared_of old ≡ None) × (new ≡ old)) ⊎
+    ((why ≡ refusal.StillOut) × StaysOpen old new)
 
--- What becomes of a shared cache that is to be closed, and how many Adds its history has.
-pub record EndsShared {A : Type 0} (adds : ℕ) (held after : Option OwnerView)
-    (did : Result A Refusal) : Type 0 where
-  pub closed : IfOk did (λ _. ClosesShared held after adds)
-  pub refused : IfErr did (λ why. RefusesCloseShared why held)
+-- What becomes of a slot whose shared cache is to be closed, and how many Adds its history has.
+pub record EndsShared {A : Type 0} (adds : ℕ) (old new : Slot) (did : Result A Refusal) : Type
+    0 where
+  pub closed : IfOk did (λ _. ClosesShared (shared_of old) (shared_of new) adds)
+  pub refused : IfErr did (λ why. KeepsShared why old new)
 
--- What a call does that closes the shared cache that a handle names.
+-- There is a shared cache, and a seat of it is out: in this very call its owner looked for the
+-- seat, and saw that it was not returned. All is as before, but that the owner saw so.
+pub record IsStillOut (old new : List Slot) (handle : ℕ) : Type 0 where
+  pub owner : OwnerView
+  pub after : OwnerView
+  pub holds : shared_at old handle ≡ Some owner
+  pub misses : MissesSeat owner after
+  pub leaves : new ≡ slice_set old handle (Shared after)
+
+-- Why a shared cache was not closed: there is none, and all is as before, or a seat is still out.
+abbrev pub RefusesCloseShared : Refusal → List Slot → List Slot → ℕ → Type 0
+RefusesCloseShared why old new handle =
+    ((why ≡ refusal.Closed) × (shared_at old handle ≡ None) × (new ≡ old)) ⊎
+    ((why ≡ refusal.StillOut) × IsStillOut old new handle)
+
+-- What a call does that closes the shared cache that a handle names, and how many Adds its history
+-- has.
 pub record AnswersCloseShared {A : Type 0} (adds handle : ℕ) (old new : List Slot)
     (did : Result A Refusal) : Type 0 where
-  pub ended : EndsShared adds (shared_at old handle) (shared_at new handle) did
+  pub closed : IfOk did (λ _. ClosesShared (shared_at old handle) (shared_at new handle) adds)
+  pub refused : IfErr did (λ why. RefusesCloseShared why old new handle)
   pub others : Keeps old new handle

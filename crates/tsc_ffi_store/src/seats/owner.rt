@@ -1,10 +1,9 @@
 //! A cache as its seats share it, and its owner.
-ghost use Rattle.std.specs.Prelude.{◌≡◌, [], IfOk, IfErr, OnErr, ◌<◌};
+ghost use Rattle.std.specs.Prelude.{◌≡◌, [], IfOk, IfErr, ◌<◌};
 ghost use Rattle.std.specs.Vec.{vec_capacity};
 ghost use Rattle.tsc_shared.specs.Answers.{open_fault};
 ghost use Rattle.tsc_striped.specs.Answers.{open_fault as striped_fault};
-ghost use Rattle.tsc_ffi_store.specs.Owners.{OpensAt, OpensInStripes, LearnsOf, IsMissing, EndsSo};
-ghost use Rattle.tsc_ffi_store.specs.Kinds.{seats_of};
+ghost use Rattle.tsc_ffi_store.specs.Owners.{OpensAt, OpensInStripes, LearnsOf, MissesSeat, EndsSo};
 ghost use Rattle.tsc_ffi_store.specs.Seating.{IsKeeper, IsRoomFor};
 ghost use Rattle.tsc_ffi_store.specs.Endings.{CanEnd};
 
@@ -69,6 +68,7 @@ impl Model for Owner {
       cache = (arc_value h.shared).cache;
       returns = (arc_value h.shared).table;
       back = h.keeper.me.0.back;
+      missed = h.keeper.me.0.missed;
     } };
 
     ghost invariant = { λ h. IsKeeper (arc_value h.shared) h.keeper.table_id h.keeper.me h.seats
@@ -149,14 +149,14 @@ impl Owner {
     }
 
     /// Ends the cache if all its seats are returned, and tells how many Adds it had. Otherwise it
-    /// hands itself back, which it may where it does not know of each seat that it is back. A
-    /// handle that was dropped, and not [closed](SeatHandle::close), is missing for good.
+    /// hands itself back, which it may only where it looked for a seat and saw that it was not
+    /// returned. A handle that was dropped, and not [closed](SeatHandle::close), is missing for
+    /// good.
     ///
     /// The call takes no memory, and does not wait.
     pub fn close(mut self) -> Result<u64, Owner>
         ensures closed { IfOk result (λ adds. EndsSo self.cache self.back adds) }
-        ensures still_out { IfErr result (λ owner. owner ≡ self) }
-        ensures missing { OnErr result (IsMissing (seats_of self.cache) self.back) }
+        ensures still_out { IfErr result (λ owner. MissesSeat self owner) }
     {
         let slots = &self.shared.slots.shared;
         if !are_all_returned(slots, &mut self.keeper, self.seats, &mut self.returned) {

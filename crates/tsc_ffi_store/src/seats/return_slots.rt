@@ -3,8 +3,9 @@
 //! The slots are in a table with a word and a slot for each seat of the cache. Each seat has a
 //! *slot token*, which alone may take the slot of that number. A return has three steps: the token
 //! takes the slot, lays the seat there, and gives the slot back as the word becomes 1. The keeper
-//! reads the words one after another, and counts the seats that are returned. Once all are, it
-//! collects them: it takes each slot as the word becomes 2.
+//! reads the words one after another, and counts the seats that are returned. It notes each slot
+//! whose word is still 0. Once all are returned, it collects them: it takes each slot as the word
+//! becomes 2.
 //!
 //! A token has no bytes. That of a returned seat knows what lies in the slot, and the keeper learns
 //! it where it gets the token.
@@ -13,8 +14,7 @@ ghost use Rattle.std.specs.Vec.{vec_capacity};
 ghost use Rattle.tsc_ffi_store.specs.Kinds.{cache_of, number_of, seats_of};
 ghost use Rattle.tsc_ffi_store.specs.ReturnSlots.{IsKept, first_known, dealing, token, spare, came, also_back};
 ghost use Rattle.tsc_ffi_store.specs.ReturnSteps.{others, first, takes_slot, returns_seat, sees_returned, collects, LearnsBy};
-ghost use Rattle.tsc_ffi_store.specs.Owners.{IsMissing};
-ghost use Rattle.tsc_ffi_store.specs.Seating.{IsSized, DealsOn, KnowsReturned, IsRoomFor};
+ghost use Rattle.tsc_ffi_store.specs.Seating.{IsSized, DealsOn, KnowsReturned, MissesOne, IsRoomFor};
 
 use crate::seats::kinds::{AnyCache, AnySeat};
 use crate::seats::same_table::swap_if_same;
@@ -24,8 +24,9 @@ use std::collections::LinkedList;
 use tsc_time::NoMemory;
 
 /// What a token knows: which slots it alone may take, and which seats it alone may collect,
-/// whether it has taken them, how many seats from 0 on are returned, and some of these as they were
-/// returned. The keeper's knows the cache, too. No value of it is made.
+/// whether it has taken them, how many seats from 0 on are returned, some of these as they were
+/// returned, and of each look that found no seat in which slot that was. The keeper's knows the
+/// cache, too. No value of it is made.
 pub struct Known {
     pub cache: Option<AnyCache>,
     pub from: u32,
@@ -33,10 +34,11 @@ pub struct Known {
     pub taken: bool,
     pub returned: u32,
     pub back: LinkedList<AnySeat>,
+    pub missed: LinkedList<u32>,
 }
 
-/// The slot of each word that is 1 has a seat. No two tokens may take one slot, or collect one
-/// seat.
+/// The slot of each word that is 1 has a seat. A word is 0 until its seat is returned, and no token
+/// knows of that seat then. No two tokens may take one slot, or collect one seat.
 pub struct ReturnRule;
 
 impl TableRule<Option<AnySeat>, Known, AnyCache> for ReturnRule {
@@ -95,7 +97,7 @@ impl Join<Known> for LearnBack {
     ghost spent = { spare };
 }
 
-/// The keeper sees whether the next seat is returned.
+/// The keeper sees whether the next seat is returned. No other step notes a slot as missed.
 struct SeeReturned;
 
 impl Play<Option<AnySeat>, Known> for SeeReturned {
@@ -171,7 +173,8 @@ pub(crate) fn learn_back(slots: &SharedSlots, keeper: &mut SlotToken, mut token:
     slots.join_seat::<LearnBack>(keeper, other);
 }
 
-/// Whether all seats are returned. It counts on from those that were known to be.
+/// Whether all seats are returned. It counts on from those that were known to be, up to the first
+/// that it finds missing.
 pub(crate) fn are_all_returned(
     slots: &SharedSlots,
     keeper: &mut SlotToken,
@@ -183,7 +186,7 @@ pub(crate) fn are_all_returned(
     ensures known { KnowsReturned slots.now.key slots.now.table_id keeper.new.table_id
         keeper.new.me seats returned.new keeper.old.me.0.back }
     ensures all { result ≡ true → returned.new ≡ seats }
-    ensures missing { result ≡ false → IsMissing seats keeper.old.me.0.back }
+    ensures missed { result ≡ false → MissesOne seats keeper.old.me.0 keeper.new.me.0 }
 {
     while *returned < seats {
         if slots.load::<SeeReturned>(keeper, *returned as usize) == 0 {

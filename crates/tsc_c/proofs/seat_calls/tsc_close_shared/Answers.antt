@@ -1,6 +1,6 @@
 -- The number tells what the store did, or that there is none.
-use Rattle.std.proofs.Common.{◌≡◌, rules}
-use Rattle.std.specs.Prelude.{Err, OnErr, Some}
+use Rattle.std.proofs.Common.{rules}
+use Rattle.std.specs.Prelude.{Err, Some}
 use Rattle.tsc_ffi_store.specs.declared.refusal.Refusal.TheVariants as refusal
 use Rattle.tsc_ffi_store.specs.SeatCalls.{AnswersCloseShared}
 use Rattle.tsc_c.proofs.Held.{in_store, none_ended}
@@ -15,10 +15,7 @@ returns-in-Some c = record {
         c.close_shared.result) c.args.store.now.owned (Some c.close_shared.new.self)
         c.in-Some.held.now c.close_shared.new.self (search rules) (search rules)
         c.close_shared.ensures.answers;
-    kept = in_store (λ o n. OnErr c.close_shared.result ((n ≡ o) ×
-        (c.close_shared.new.length ≡ c.args.length.now))) c.args.store.now.owned
-        (Some c.close_shared.new.self) c.in-Some.held.now c.close_shared.new.self (search rules)
-        (search rules) c.close_shared.ensures.kept;
+    kept = c.close_shared.ensures.kept;
   };
 }
 

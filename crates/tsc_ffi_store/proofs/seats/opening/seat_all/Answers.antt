@@ -5,7 +5,6 @@ use Rattle.std.specs.Vec.Iter.{into_iter_items}
 use Rattle.tsc_ffi_store.specs.Kinds.{number_of}
 use Rattle.tsc_ffi_store.specs.Owners.{handle_of}
 use Rattle.tsc_ffi_store.specs.ReturnSlots.{dealing}
-use Rattle.tsc_ffi_store.specs.ReturnSteps.{At}
 use Rattle.tsc_ffi_store.proofs.Handles.{next_dealt, next_cache, next_number, next_low, all_dealt}
 use Rattle.tsc_ffi_store.proofs.seats.opening.seat_all.Goals as goal
 
@@ -66,11 +65,13 @@ pub returns-clause-keeper : goal.returns-clause-keeper
 returns-clause-keeper c =
     let all = all_dealt (arc_value c.args.shared.now).cache (arc_value c.args.shared.now).table
     c.args.seats c.loop-seat.dealer.me c.loop-seat.handles.items
-    (into_iter_items c.loop-seat.seat-iterator) c.loop-seat.invariant.3 (search rules) in
-    record {
-      its_table = c.loop-seat.invariant.2;
-      all = c.requires.seats;
-      known = all.1;
-      some = omega arith;
-      any = c.requires.any;
-    }
+    (into_iter_items c.loop-seat.seat-iterator) c.loop-seat.invariant.3 (search rules) in (
+      record {
+        its_table = c.loop-seat.invariant.2;
+        all = c.requires.seats;
+        known = all.1;
+        some = omega arith;
+        any = c.requires.any;
+      },
+      all.2,
+    )

@@ -1,5 +1,5 @@
 -- Each slot has a seat of the cache.
-use Rattle.std.proofs.Common.{◌≡◌, ◌∙◌, refl, ◌∷◌, [], ◌++◌, ◌+◌, ◌<◌, ℕ, List, length, All, Some, sym, ap, subst, arith, rules}
+use Rattle.std.proofs.Common.{◌≡◌, ◌∙◌, refl, ◌∷◌, [], ◌++◌, length, All, sym, ap, subst, arith, rules}
 use mathlib.Core.Option as maybe
 use Rattle.std.proofs.lemmas.List.Elements.{All-nil, All-push}
 use Rattle.atomic_table.specs.Table.{Step, step}
@@ -18,7 +18,8 @@ store-requires c =
       collect_at c.args.slots.now.key c.args.slots.now.table_id.slots
           (step c.args.slots.now.table_id.slots c.loop-slot.slot 2 0 maybe.none)
           c.loop-slot.keeper.id c.args.seats c.loop-slot.slot c.args.keeper.me.0.back
-          c.loop-slot.keeper.me c.loop-slot.invariant.1 c.requires.seats.0 refl low,
+          c.args.keeper.me.0.missed c.loop-slot.keeper.me c.loop-slot.invariant.1
+          c.requires.seats.0 refl low,
     )
 
 pub exchange-requires : goal.exchange-requires
@@ -41,15 +42,16 @@ loop-slot-preserved c =
     step c.args.slots.now.table_id.slots c.loop-slot.slot 2 0 maybe.none in
     let pushed : c.push.new.self.items ≡ c.loop-slot.room.items ++ c.in-Some.seat ∷ [] =
     search rules in
-    let now = brought c.args.slots.now.key c.args.seats c.loop-slot.slot c.args.keeper.me.0.back st
-    c.loop-slot.keeper.me c.store.new.seat.me c.exchange.result c.in-Some.seat
+    let now = brought c.args.slots.now.key c.args.seats c.loop-slot.slot c.args.keeper.me.0.back
+    c.args.keeper.me.0.missed st c.loop-slot.keeper.me c.store.new.seat.me c.exchange.result
+    c.in-Some.seat
     c.loop-slot.invariant.1 c.requires.seats.0 refl c.store.ensures.2 c.exchange.ensures.2
     c.in-Some.is in
     let three = c.loop-slot.invariant.3 in let four = c.loop-slot.invariant.4 in (
       c.exchange.ensures.0 ∙ c.store.ensures.0 ∙ c.loop-slot.invariant.0,
-      collects_on c.args.slots.now.key c.args.seats c.loop-slot.slot c.args.keeper.me.0.back st
-          c.loop-slot.keeper.me c.store.new.seat.me c.exchange.new.seat.me _
-          c.loop-slot.invariant.1 c.store.ensures.2 c.exchange.ensures.3,
+      collects_on c.args.slots.now.key c.args.seats c.loop-slot.slot c.args.keeper.me.0.back
+          c.args.keeper.me.0.missed st c.loop-slot.keeper.me c.store.new.seat.me
+          c.exchange.new.seat.me _ c.loop-slot.invariant.1 c.store.ensures.2 c.exchange.ensures.3,
       subst (All (λ (seat : AnySeat). cache_of seat ≡ c.args.slots.now.key)) (sym pushed)
           (All-push (λ (seat : AnySeat). cache_of seat ≡ c.args.slots.now.key)
           c.loop-slot.room.items c.in-Some.seat c.loop-slot.invariant.2 now.its),
@@ -64,8 +66,8 @@ pub loop-slot-init : goal.loop-slot-init
 loop-slot-init c =
     let none = c.requires.room.empty in let room = c.requires.room.room in (
       c.requires.known.its_table,
-      starts c.args.slots.now.key c.args.seats c.args.keeper.me.0.back c.args.keeper.me
-          c.requires.known.known,
+      starts c.args.slots.now.key c.args.seats c.args.keeper.me.0.back c.args.keeper.me.0.missed
+          c.args.keeper.me c.requires.known.known,
       subst (All (λ (seat : AnySeat). cache_of seat ≡ c.args.slots.now.key)) (sym none)
           (All-nil (λ (seat : AnySeat). cache_of seat ≡ c.args.slots.now.key)),
       ap length none,

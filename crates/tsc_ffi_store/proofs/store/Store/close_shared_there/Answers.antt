@@ -1,5 +1,5 @@
 -- What the slot at the handle answers, the store does.
-use Rattle.std.proofs.Common.{◌≤◌, subst, ℕ, List, length, set, arith}
+use Rattle.std.proofs.Common.{◌≤◌, ◌∙◌, sym, subst, ℕ, List, length, set, arith}
 use Rattle.tsc_ffi_store.specs.OpenHandles.{IsPlaceOf, named_by}
 use Rattle.tsc_ffi_store.proofs.AtPlace.{is_there, no_shared_there}
 use Rattle.tsc_ffi_store.proofs.Closing.{ended_there, none_ended_there}
@@ -20,7 +20,8 @@ returns-clause-answers c =
           (named_by c.self.inside.handles.items (set c.self.inside.slots.items
           c.place_of-place.result w.close_shared.new.self) c.self.inside.next) c.args.handle
           w.in-Some.slot.now w.close_shared.new.self w.close_shared.result at.there
-          (at.changed w.close_shared.new.self) w.close_shared.ensures.ended)
+          (at.changed w.close_shared.new.self) (sym (at.changed w.in-Some.slot.now) ∙ at.as_it_was)
+          w.close_shared.ensures.ended)
       | in-None w ↦
           let past : length c.self.inside.slots.items ≤ c.place_of-place.result =
           grind (arith, w.in-None.ensures.variant, w.in-None.ensures.item) in

@@ -75,4 +75,5 @@ returns-in-Ok-clause-opened c =
           (new_any_seats c.in-Ok.owner.cache 0 c.args.seats));
       cache = opened.cache;
       none_back = opened.seats.none_back;
+      none_missed = opened.seats.none_missed;
     }

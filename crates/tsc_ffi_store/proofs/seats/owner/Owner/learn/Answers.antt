@@ -5,7 +5,7 @@ use Rattle.atomic_table.specs.Seated.{TableId}
 use Rattle.tsc_ffi_store.specs.Owners.{OwnerView, LearnsOf}
 use Rattle.tsc_ffi_store.specs.ReturnSteps.{LearnsBy}
 use Rattle.tsc_ffi_store.specs.Seating.{SharedHandleView}
-use Rattle.tsc_ffi_store.proofs.Learning.{keeps_on, owner_learns}
+use Rattle.tsc_ffi_store.proofs.Learning.{keeps_on, owner_of, owner_learns}
 use Rattle.tsc_ffi_store.proofs.seats.owner.Owner.learn.Goals as goal
 
 pub invariant_of-self : goal.invariant_of-self
@@ -22,11 +22,8 @@ invariant_of-self c = (
 pub returns : goal.returns
 returns c =
     let shared : SharedHandleView = arc_value c.self.inside.shared in
-    subst (λ (o : OwnerView). LearnsOf c.args.token.table_id c.args.token.me.0.back o (record {
-      cache = shared.cache;
-      returns = shared.table;
-      back = c.learn_back.new.keeper.me.0.back;
-    })) c.self.view_is
+    subst (λ (o : OwnerView). LearnsOf c.args.token.table_id c.args.token.me.0.back o
+    (owner_of shared.cache shared.table c.learn_back.new.keeper.me)) c.self.view_is
     (owner_learns shared.cache shared.table c.args.token.table_id c.args.token.me.0
     c.self.inside.keeper.me c.learn_back.new.keeper.me
     (subst (λ (z : TableId). LearnsBy z c.args.token.table_id c.args.token.me.0
