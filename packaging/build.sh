@@ -48,7 +48,7 @@ build_unproved() {
     is_fresh unproved || {
         # (left by a build that was killed)
         rm -rf "$out"/unproved-*
-        waited "$root/scripts/build-unproved" tscache "$new" tscache 9<&- </dev/null || {
+        waited "$root/scripts/build" unproved tscache "$new" tscache 9<&- </dev/null || {
             status=$?
             case $status in 7[034]) exit "$status" ;; esac
             give_up 70 "the program was not built: it ended with status $status"

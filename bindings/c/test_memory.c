@@ -51,13 +51,13 @@ static void of_a_cache(void)
     tsc_added added;
     tsc_value value;
     tsc_mark marks[2] = {{0, 1, 0, 0, {30, 0, {0}}, TSC_POINT}, {1, 1, 0, 0, {31, 0, {0}}, TSC_POINT}};
-    asks("tsc_open", tsc_checked_open(&store, 1024, 1024, 2, 10, &LOW, &n), 5, 900);
-    asks("tsc_open of a second one", tsc_checked_open(&store, 1024, 1024, 2, 10, &LOW, &second), 2, 132);
+    asks("tsc_open", tsc_checked_open(&store, 1024, 1024, 2, 10, &LOW, &n), 5, 1030);
+    asks("tsc_open of a second one", tsc_checked_open(&store, 1024, 1024, 2, 10, &LOW, &second), 2, 260);
     asks("tsc_add of a first key", tsc_checked_add(&store, n, "x", 1, NULL, 0, TSC_POINT, &READ, &NOW, &added), 7, 305);
     asks("tsc_add of a second key", tsc_checked_add(&store, n, "y", 1, NULL, 0, TSC_POINT, &READ, &NOW, &added), 4, 430);
     asks("tsc_add of a known key", tsc_checked_add(&store, n, "x", 1, NULL, 0, TSC_POINT, &LATER, &NOW, &added), 0, 0);
     asks("tsc_get_max", tsc_checked_get_max(&store, n, "x", 1, NULL, 0, TSC_POINT, &value), 0, 0);
-    asks("tsc_add_all of known keys", tsc_checked_add_all(&store, n, "xy", 2, marks, 2, &NOW, &added), 7, 890);
+    asks("tsc_add_all of known keys", tsc_checked_add_all(&store, n, "xy", 2, marks, 2, &NOW, &added), 7, 1010);
     uint8_t told[300];
     size_t len = 0;
     tsc_span spans[2] = {{0, 1, 1, 1, 0}, {1, 1, 0, 0, TSC_POINT}};
@@ -66,8 +66,8 @@ static void of_a_cache(void)
     asks("tsc_earliest_write", tsc_checked_earliest_write(&store, n, "xy", 2, spans, 2, &LATER, &first), 0, 0);
     asks("tsc_may_write", tsc_checked_may_write(&store, n, "xy", 2, spans, 2, &LATER, &may), 0, 0);
     asks("tsc_summary of two keys", tsc_checked_summary(&store, n, "x", 1, "y", 1, 0, SIZE_MAX, told, sizeof told, &len), 18, 1060);
-    asks("tsc_apply of what is known", tsc_checked_apply(&store, n, told, len, &NOW, &added), 16, 1290);
-    asks("tsc_apply to an empty cache", tsc_checked_apply(&store, second, told, len, &NOW, &added), 24, 1620);
+    asks("tsc_apply of what is known", tsc_checked_apply(&store, n, told, len, &NOW, &added), 16, 1400);
+    asks("tsc_apply to an empty cache", tsc_checked_apply(&store, second, told, len, &NOW, &added), 24, 1730);
     asks("tsc_move to an empty store", tsc_checked_move(&store, n, &other, &moved), 3, 770);
     asks("tsc_move of a second one", tsc_checked_move(&store, second, &other, &moved), 0, 0);
     tsc_figures figures;
@@ -75,7 +75,7 @@ static void of_a_cache(void)
     asks("tsc_figures_of", tsc_checked_figures_of(&other, moved, &figures), 0, 0);
     asks("tsc_close", tsc_checked_close(&other, moved), 0, 0);
     asks("tsc_close of the other", tsc_checked_close(&other, moved - 1), 0, 0);
-    asks("tsc_open where two were closed", tsc_checked_open(&other, 1024, 1024, 2, 10, &LOW, &n), 2, 132);
+    asks("tsc_open where two were closed", tsc_checked_open(&other, 1024, 1024, 2, 10, &LOW, &n), 2, 260);
     tsc_checked_free(&store);
     tsc_checked_free(&other);
 }
@@ -86,7 +86,7 @@ static void of_seats(void)
     uint64_t n = 77, moved = 77, at = 77, seen = 77;
     tsc_added added;
     tsc_value value;
-    asks("tsc_open_shared", tsc_checked_open_shared(&store, 1024, 1024, 2, 10, &LOW, 2, 9, &n), 25, 5200);
+    asks("tsc_open_shared", tsc_checked_open_shared(&store, 1024, 1024, 2, 10, &LOW, 2, 9, &n), 25, 5480);
     asks("tsc_seat_add of a first key", tsc_checked_seat_add(&store, n + 1, "x", 1, NULL, 0, TSC_POINT, &READ, &NOW, 1, &at, &added), 9, 316);
     asks("tsc_seat_add of a second key", tsc_checked_seat_add(&store, n + 1, "y", 1, NULL, 0, TSC_POINT, &READ, &NOW, 1, &at, &added), 13, 745);
     asks("tsc_seat_add of a known key", tsc_checked_seat_add(&store, n + 1, "y", 1, NULL, 0, TSC_POINT, &LATER, &NOW, 1, &at, &added), 6, 430);
@@ -115,10 +115,10 @@ static void of_stripes(void)
     uint64_t n = 77, at = 77, seen = 77;
     tsc_added added;
     tsc_value value;
-    asks("tsc_open_striped", tsc_checked_open_striped(&store, 1024, 8256, 2, 10, &LOW, "gp", 2, ONES, 2, 2, &n), 30, 4220);
+    asks("tsc_open_striped", tsc_checked_open_striped(&store, 1024, 8256, 2, 10, &LOW, "gp", 2, ONES, 2, 2, &n), 30, 4620);
     asks("tsc_seat_add of a first key in stripes", tsc_checked_seat_add(&store, n + 1, "x", 1, NULL, 0, TSC_POINT, &READ, &NOW, 64, &at, &added), 8, 312);
     asks("tsc_seat_add of a known key in stripes", tsc_checked_seat_add(&store, n + 1, "x", 1, NULL, 0, TSC_POINT, &LATER, &NOW, 64, &at, &added), 1, 1);
-    asks("tsc_seat_add over stripes", tsc_checked_seat_add(&store, n + 1, "a", 1, "x", 1, 0, &LATER, &NOW, 64, &at, &added), 48, 4290);
+    asks("tsc_seat_add over stripes", tsc_checked_seat_add(&store, n + 1, "a", 1, "x", 1, 0, &LATER, &NOW, 64, &at, &added), 48, 4640);
     asks("tsc_seat_get_max in stripes", tsc_checked_seat_get_max(&store, n + 2, "x", 1, NULL, 0, TSC_POINT, &seen, &value), 0, 0);
     asks("tsc_seat_get_max over stripes", tsc_checked_seat_get_max(&store, n + 2, "a", 1, NULL, 0, TSC_ONWARD, &seen, &value), 0, 0);
     uint8_t told[900];
@@ -145,8 +145,8 @@ static void of_texts(void)
     const char *log = "0 0 add 0 1 0 0\n0 1 get 1 20.0 none\n";
     char out[200];
     size_t len = 0;
-    asks("tsc_replay", tsc_checked_replay(trace, strlen(trace), out, sizeof out, &len), 17, 1530);
-    asks("tsc_check", tsc_checked_check(trace, strlen(trace), log, strlen(log), out, sizeof out, &len), 20, 1620);
+    asks("tsc_replay", tsc_checked_replay(trace, strlen(trace), out, sizeof out, &len), 17, 1630);
+    asks("tsc_check", tsc_checked_check(trace, strlen(trace), log, strlen(log), out, sizeof out, &len), 20, 1720);
 }
 
 int main(void)

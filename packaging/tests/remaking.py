@@ -6,18 +6,20 @@ import shutil
 
 from archive import built, told_by_library
 from cases import HERE, PROVED, UNPROVED
-from cases import read, run, text_of, tree, write
+from cases import append, read, run, text_of, tree, write
 
 CMAKE = "cmake/tscache/tscache-config.cmake"
 WHO = "-c user.name=test -c user.email=test"
 # Stands in for what compiles in the clone of the first release: it keeps what was compiled.
 KEEPING = """#!/bin/sh
-"$(dirname "$0")/real-build-unproved" "$@" || exit
+[ "$1" = unproved ] || exec "$(dirname "$0")/real-build" "$@"
+"$(dirname "$0")/real-build" "$@" || exit
 for out; do :; done
 cp "$out" "$KEEP/"
 """
 # And in the others: it takes what was kept, once a command has been run that a case may name.
 KEPT = """#!/bin/sh
+[ "$1" = unproved ] || exec "$(dirname "$0")/real-build" "$@"
 eval "${MEANWHILE-}"
 for out; do :; done
 cp "$KEEP/$(basename "$out")" "$out"
@@ -50,7 +52,11 @@ def commit(folder):
 
 
 def stand_in(clone, texts):
-    """Replaces committed scripts, so that git takes the clone for what it was."""
+    """Replaces committed scripts, so that git takes the clone for what it was. What `scripts/build`
+    was stays beside it."""
+    real = "real-build"
+    append(f"{clone}/.git/info/exclude", f"{real}\n")
+    shutil.copy(f"{clone}/scripts/build", f"{clone}/scripts/{real}")
     for name, text in texts.items():
         write(f"{clone}/{name}", text)
         run("git", "update-index", "--assume-unchanged", name, cwd=clone)
@@ -60,7 +66,7 @@ def other_clone(work, clone):
     """A clone where nothing is compiled anew, and the environment for it."""
     other = f"{work}/other"
     run("git", "clone", "-q", clone, other)
-    stand_in(other, {"scripts/build-unproved": KEPT, "tscache": PROVES})
+    stand_in(other, {"scripts/build": KEPT, "tscache": PROVES})
     write(f"{work}/bin/rt", RT % {"rt": shlex.quote(shutil.which("rt"))})
     path = f"{work}/bin:{os.environ['PATH']}"
     others = {"KEEP": f"{work}/kept", "TZ": "Asia/Tokyo", "LC_ALL": "C", "PATH": path}

@@ -1,20 +1,10 @@
 """What parts build before they test or measure it, and take from one another."""
-import importlib.machinery
-import importlib.util
 import os
 
 from parts.frame import ROOT, SCRIPTS, call, needs_rt, read, write
 
 FORMS = {True: ["--unproved"], False: []}
-UNPROVED = f"{SCRIPTS}/build-unproved"
-
-
-def unproved():
-    """Returns the module that builds without proofs."""
-    loader = importlib.machinery.SourceFileLoader("build_unproved", UNPROVED)
-    module = importlib.util.module_from_spec(importlib.util.spec_from_loader("build_unproved", loader))
-    loader.exec_module(module)
-    return module
+UNPROVED = [f"{SCRIPTS}/build", "unproved"]
 
 
 def words_of(parser):
@@ -50,7 +40,7 @@ class Builds:
         """Returns the path of a program. One other than `tscache` is run once with these words."""
         def make(path):
             if not self.is_proved:
-                call(UNPROVED, name, path)
+                call(*UNPROVED, name, path)
                 return
             if name == "tscache":
                 call(f"{ROOT}/tscache", "prove")
@@ -67,7 +57,7 @@ class Builds:
                 call("rt", "test", cwd=f"{ROOT}/crates/{crate}")
                 copy(f"{ROOT}/crates/{crate}/out/{crate}_tests", path)
             else:
-                call(UNPROVED, "--test", crate, path)
+                call(*UNPROVED, "--test", crate, path)
 
         return self.made(crate, make)
 

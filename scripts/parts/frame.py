@@ -136,6 +136,15 @@ def kit():
 # ---- cases
 
 
+def fits(got, wanted):
+    """Whether a value is what is wanted, of which any text may be a pattern."""
+    if isinstance(wanted, re.Pattern):
+        return isinstance(got, str) and bool(wanted.fullmatch(got))
+    if isinstance(wanted, (tuple, list)) and type(got) is type(wanted):
+        return len(got) == len(wanted) and all(map(fits, got, wanted))
+    return bool(got == wanted)
+
+
 class Cases:
     """Counts what holds and what doesn't, and names what is not run. Checks name only what fails.
     """
@@ -146,10 +155,8 @@ class Cases:
         self.missing = []
 
     def expect(self, what, got, wanted=True, told=""):
-        """Wants a value, or a text that a pattern fits. Where it is another, it prints what was
-        told."""
-        is_pattern = isinstance(wanted, re.Pattern)
-        holds = bool(wanted.fullmatch(got)) if is_pattern else got == wanted
+        """Wants a value, or one that `fits`. Where it is another, it prints what was told."""
+        holds = fits(got, wanted)
         self.passed += holds
         self.failed += not holds
         if not holds:
@@ -204,18 +211,12 @@ class Cases:
 
 
 def parts_of(kind):
-    """Returns the parts of a command, each with the first line of its help.
-
-    What is in `scripts/` itself, as `test-launcher`, is a part too.
-    """
+    """Returns the parts of a command, each with the first line of its help."""
     found = {}
     for path in sorted(os.listdir(f"{PARTS}/{kind}")):
         if path.endswith(".py"):
             first = re.search(r'"""(.*)', text_of(f"{PARTS}/{kind}/{path}"))
             found[path[: -len(".py")].replace("_", "-")] = first[1].strip("\"") if first else ""
-    for path in sorted(os.listdir(SCRIPTS)):
-        if path.startswith(f"{kind}-"):
-            found[path.removeprefix(f"{kind}-")] = f"see scripts/{path}"
     return found
 
 
@@ -253,9 +254,6 @@ def run_part(kind, part, words):
     A module of cases has `run`, which gets these and the words; another one has `main`.
     """
     global name
-    own = f"{SCRIPTS}/{kind}-{part}"
-    if os.path.exists(own):
-        os.execv(own, [own, *words])
     name = f"{kind} {part}"
     module = module_of(kind, part)
     given = parse(kind, part, module, words)

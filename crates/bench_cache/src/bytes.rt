@@ -18,11 +18,11 @@ use tsc_time::{Timestamp, Value};
 use uuid::Uuid;
 
 /// The operations, in the order of their rows.
-pub static BYTES_OPERATIONS: [(&str, usize); 4] = [
-    ("lookup of a key", 0),
-    ("add of a key", 1),
-    ("add of a key by its start and its end", 2),
-    ("add of 2 nodes by their start and their end", 3),
+pub static BYTES_OPERATIONS: [&str; 4] = [
+    "lookup of a key",
+    "add of a key",
+    "add of a key by its start and its end",
+    "add of 2 nodes by their start and their end",
 ];
 
 /// When the keys of the page are added first.

@@ -7,17 +7,16 @@ use std::alloc::Global;
 use tsc_cache::{Cache, Config, TimestampCache};
 use tsc_time::Timestamp;
 
-/// The operations on a cache, in the order of their rows, each with the row of the one on a page
-/// that it is compared with.
-pub static CACHE_OPERATIONS: [(&str, usize); 8] = [
-    ("lookup of a key in all pages", 1),
-    ("lookup of 16 nodes in all pages", 2),
-    ("add of a key", 5),
-    ("add of 16 nodes", 6),
-    ("next with a key", 9),
-    ("lookup of a key later than all older pages", 1),
-    ("lookup of 16 nodes later than all older pages", 2),
-    ("add of a new key, with rotations", 0),
+/// The operations on a cache, in the order of their rows.
+pub static CACHE_OPERATIONS: [&str; 8] = [
+    "lookup of a key in all pages",
+    "lookup of 16 nodes in all pages",
+    "add of a key",
+    "add of 16 nodes",
+    "next with a key",
+    "lookup of a key later than all older pages",
+    "lookup of 16 nodes later than all older pages",
+    "add of a new key, with rotations",
 ];
 
 /// How many pages the caches have that are measured.

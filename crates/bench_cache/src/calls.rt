@@ -22,8 +22,6 @@ const LONG_ENOUGH: u64 = 60_000_000;
 /// What is measured of the calls of a thread.
 #[derive(Clone, Copy)]
 pub enum Measures {
-    /// What all calls of all threads take together.
-    Whole,
     /// What each Add takes by itself.
     EachAdd,
     /// How many calls it makes in a second.
@@ -69,11 +67,6 @@ impl Trial {
         Keys::new(self.nodes, 0)
     }
 
-    /// How many calls all seats make.
-    pub fn operations(self) -> u64 {
-        self.number.saturating_mul(u64::from(self.seats))
-    }
-
     /// Whether the call of a number is a lookup.
     fn looks_up(self, number: u64) -> bool {
         number.wrapping_mul(SPREAD) % 100 < self.lookups
@@ -92,20 +85,9 @@ impl Trial {
             .then_some(value)
     }
 
-    /// Makes the calls one after the other, and reads no clock. Tells nothing where one was
-    /// refused, or no value was met.
-    pub fn make_all<S: Subject>(self, subject: &mut S, spans: &[Span]) -> Option<()> {
-        let mut latest = Value::unowned(Timestamp::ZERO);
-        for number in 0..self.number {
-            latest = ratchet(latest, self.make(subject, spans, number)?).0;
-        }
-        // what was looked up is used, so that no compiler leaves the lookups out
-        (Timestamp::ZERO < latest.time()).then_some(())
-    }
-
-    /// Makes the calls of a thread, and gives what is measured of them: nothing, the nanoseconds of
-    /// each Add, or the rate. Seats begin at different places, so that they do not go over them
-    /// side by side.
+    /// Makes the calls of a thread, and gives what is measured of them: the nanoseconds of each
+    /// Add, or the rate. Seats begin at different places, so that they do not go over them side by
+    /// side.
     pub fn measure<S: Subject>(
         self,
         rt: &HostRuntime,
@@ -114,13 +96,12 @@ impl Trial {
         seat: u32,
     ) -> Option<Vec<u64>> {
         let first = u64::from(seat).wrapping_mul(u64::from(PLACES) / 8);
-        let mut told = Vec::new(rt.alloc());
-        match self.measures {
-            Measures::Whole => self.make_all(subject, spans)?,
-            Measures::EachAdd => return self.time_all(rt, subject, spans, first),
-            Measures::Rate => told.push(self.rate(rt, subject, spans, first)?).ok()?,
-        }
-        Some(told)
+        let Measures::Rate = self.measures else {
+            return self.time_all(rt, subject, spans, first);
+        };
+        let mut reported = Vec::new(rt.alloc());
+        reported.push(self.rate(rt, subject, spans, first)?).ok()?;
+        Some(reported)
     }
 
     /// Makes calls from the one of number `first` on until it was long enough, and gives how many
@@ -183,10 +164,8 @@ pub struct Seated<'a, R> {
 
 impl<'a, R: Wait> Subject for Seated<'a, R> {
     fn look_up(&mut self, span: &Span) -> Value {
-        match self.shared.get_max(&mut self.seat, span) {
-            Ok(answer) => answer.value,
-            Err(_) => Value::unowned(Timestamp::ZERO),
-        }
+        let answer = self.shared.get_max_ref(&mut self.seat, &span.borrowed());
+        answer.value
     }
 
     fn make_add(&mut self, span: &Span, value: Value, now: Timestamp) -> bool {

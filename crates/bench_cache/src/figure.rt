@@ -54,12 +54,6 @@ impl Figure {
     pub fn per_second(self) -> u64 {
         self.operations.saturating_mul(1_000_000_000) / self.nanoseconds.max(1)
     }
-
-    /// What one took as a percentage of what another one took, to the nearest.
-    pub fn percent_of(self, other: Figure) -> u64 {
-        let one = other.each().max(1);
-        self.each().saturating_mul(100).saturating_add(one / 2) / one
-    }
 }
 
 /// What calls took of which each was timed by itself: nanoseconds, the least first.
@@ -96,15 +90,6 @@ impl Times {
             None => 0,
         }
     }
-
-    /// The nanoseconds that a call took on the average.
-    pub fn each(&self) -> u64 {
-        let mut all: u64 = 0;
-        for nanoseconds in &self.nanoseconds {
-            all = all.saturating_add(*nanoseconds);
-        }
-        all / (self.nanoseconds.len() as u64).max(1)
-    }
 }
 
 /// The figures of some rows, of which each is an operation.
@@ -115,59 +100,38 @@ pub const NO_TURNS: Least = [Figure::NONE; 12];
 
 /// What is printed of operations.
 #[derive(Clone, Copy)]
-pub enum Tells {
+pub enum Reports {
     /// How many they are.
     Count,
-    /// The nanoseconds of one operation.
+    /// And the nanoseconds of one.
     Each,
-    /// The nanoseconds of one operation as a percentage of another figure.
-    Beside,
     /// The nanoseconds of one alone.
     Time,
-    /// The percentage alone.
-    Percent,
 }
 
-/// The names of operations in the order of their rows. With each stands the row of the one that it
-/// is compared with.
-pub type Names = &'static [(&'static str, usize)];
-
-/// The figures of operations, and what is printed of them.
-#[derive(Clone, Copy)]
-pub struct Table<'a> {
-    pub tells: Tells,
-    pub names: Names,
-    pub least: &'a Least,
-    /// The figures that they are compared with.
-    pub others: &'a Least,
-}
+/// The names of operations in the order of their rows.
+pub type Names = &'static [&'static str];
 
 /// Prints a line for each operation. Gives `None` where that is refused.
-pub fn print_lines(rt: &HostRuntime, head: &str, table: Table<'_>) -> Option<()> {
-    for (row, (name, beside)) in table.names.iter().enumerate() {
-        let figure = figure_at(table.least, row);
+pub fn print_lines(
+    rt: &HostRuntime,
+    head: &str,
+    reports: Reports,
+    names: Names,
+    least: &Least,
+) -> Option<()> {
+    for (name, figure) in names.iter().zip(least) {
         let (operations, each) = (figure.operations, figure.each());
-        let percent = figure.percent_of(figure_at(table.others, *beside));
-        let told = match table.tells {
-            Tells::Count => println!(rt; "{head}, {name}: {operations} operations"),
-            Tells::Each => println!(rt; "{head}, {name}: {operations} operations, {each} ns each"),
-            Tells::Beside => {
-                println!(rt; "{head}, {name}: {operations} operations, {each} ns each, {percent} %")
-            }
-            Tells::Time => println!(rt; "{head}, {name}: {each} ns"),
-            Tells::Percent => println!(rt; "{head}, {name}: {percent} %"),
+        let reported = match reports {
+            Reports::Count => println!(rt; "{head}, {name}: {operations} operations"),
+            Reports::Each => println!(rt;
+                "{head}, {name}: {operations} operations, {each} ns each"
+            ),
+            Reports::Time => println!(rt; "{head}, {name}: {each} ns"),
         };
-        told.ok()?;
+        reported.ok()?;
     }
     Some(())
-}
-
-/// The figure of a row.
-fn figure_at(least: &Least, row: usize) -> Figure {
-    match least.get(row) {
-        Some(figure) => *figure,
-        None => Figure::NONE,
-    }
 }
 
 /// In how many rounds all is measured. The figure of an operation is the least of them, since what
@@ -182,8 +146,7 @@ pub type Rounds = [u64; 9];
 #[derive(Clone, Copy)]
 pub struct Spread {
     least: u64,
-    /// The round in the middle.
-    pub median: u64,
+    median: u64,
     greatest: u64,
 }
 

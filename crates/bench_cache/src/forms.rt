@@ -42,8 +42,11 @@ static LOOKUPS: [u64; 4] = [100, 95, 50, 5];
 /// Threads whose Adds are timed, each by itself. Half of the calls are Adds.
 static CROWDS: [Row; 2] = [(4, 0, 50, 120), (8, 0, 50, 60)];
 
+/// How many seats of a shared cache are idle beside one that adds.
+static IDLE: [u32; 4] = [0, 1, 7, 63];
+
 /// The rows of a short run.
-static SHORT: [Row; 2] = [(1, 0, 50, 1), (4, 0, 50, 1)];
+static SHORT: [Row; 2] = [(1, 63, 50, 1), (4, 0, 50, 1)];
 
 /// Prints how many calls threads make in a second to each form of the cache, and what their Adds
 /// take.
@@ -61,7 +64,8 @@ pub fn print_forms<R: Threads + Wait + Sync>(host: &HostRuntime, rt: &R, nodes: 
             print_adds(host, name, trial, &times)?;
         }
     }
-    print_wide(host, rt, nodes)
+    print_wide(host, rt, nodes)?;
+    print_idle(host, rt, nodes)
 }
 
 /// Makes calls to each form in turns, with new caches in each round, and prints their rates.
@@ -102,6 +106,22 @@ fn print_wide<R: Threads + Wait + Sync>(host: &HostRuntime, rt: &R, nodes: u32) 
     ).ok()
 }
 
+/// Prints how many Adds a seat of a shared cache makes in a second beside seats that nobody uses.
+fn print_idle<R: Threads + Wait + Sync>(host: &HostRuntime, rt: &R, nodes: u32) -> Option<()> {
+    for idle in IDLE {
+        let trial = Trial::new(nodes, (1, idle, 0, 0), Measures::Rate);
+        let mut rounds: Rounds = [0; 9];
+        for round in 0..9 {
+            rounds[round] = rate(host, rt, Form::Copies, trial)?;
+        }
+        let spread = Spread::of(rounds);
+        println!(host;
+            "{nodes} nodes, two copies, 1 thread and {idle} idle: {spread} Adds a second"
+        ).ok()?;
+    }
+    Some(())
+}
+
 /// How many calls all threads together make in a second.
 fn rate<R: Threads + Wait + Sync>(
     host: &HostRuntime,
@@ -132,7 +152,7 @@ fn measure<R: Threads + Wait + Sync>(
     match form {
         Form::Lock => by_stripes(host, rt, trial, &spans, 1),
         Form::Stripes => by_stripes(host, rt, trial, &spans, STRIPES),
-        Form::Copies => Some(by_seats(host, rt, trial)?.1),
+        Form::Copies => by_seats(host, rt, trial, &spans),
         Form::Own => by_own(host, rt, trial, &spans),
     }
 }
@@ -144,7 +164,7 @@ fn by_own<R: Threads + Wait + Sync>(
     trial: Trial,
     spans: &[Span],
 ) -> Option<Vec<u64>> {
-    let told = map_indices(
+    let reported = map_indices(
         rt,
         host.alloc(),
         trial.seats as usize,
@@ -153,7 +173,7 @@ fn by_own<R: Threads + Wait + Sync>(
             trial.measure(host, &mut cache, spans, 0)
         },
     );
-    gathered(host.alloc(), told.ok()?)
+    gathered(host.alloc(), reported.ok()?)
 }
 
 /// Prints what Adds took of which each was timed by itself.

@@ -5,20 +5,20 @@ use crate::turns::{Board, Call, Course, LATE};
 use tsc_page::{IntervalPage, Page};
 use tsc_time::Timestamp;
 
-/// The operations on a page, in the order of their rows, each with its row.
-pub static PAGE_OPERATIONS: [(&str, usize); 12] = [
-    ("add of a new key", 0),
-    ("lookup of a key", 1),
-    ("lookup of 16 nodes", 2),
-    ("lookup of 1,000 nodes", 3),
-    ("lookup of the whole page", 4),
-    ("add of a key", 5),
-    ("add of 16 nodes", 6),
-    ("add of 1,000 nodes", 7),
-    ("add of the whole page", 8),
-    ("next with a key", 9),
-    ("next with a new key", 10),
-    ("lookup of a key by its bytes", 11),
+/// The operations on a page, in the order of their rows.
+pub static PAGE_OPERATIONS: [&str; 12] = [
+    "add of a new key",
+    "lookup of a key",
+    "lookup of 16 nodes",
+    "lookup of 1,000 nodes",
+    "lookup of the whole page",
+    "add of a key",
+    "add of 16 nodes",
+    "add of 1,000 nodes",
+    "add of the whole page",
+    "next with a key",
+    "next with a new key",
+    "lookup of a key by its bytes",
 ];
 
 /// Adds of all keys, and then late ones to copies of the page, which share all else with it, and

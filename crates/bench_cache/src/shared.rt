@@ -1,40 +1,26 @@
 //! Seats of a shared cache, each in a thread of its own.
 ghost use Rattle.std.specs.Prelude.{◌≡◌, IfSome, All};
 
-use crate::caches::filled;
 use crate::calls::{Seated, Trial};
-use crate::figure::Figure;
-use crate::keys::{Keys, PLACES};
+use crate::keys::Keys;
 use crate::subject::value_at;
 use std::alloc::Global;
 use std::sync::Wait;
 use std::thread::{Threads, map_vec};
-use std::time::Instant;
 use tsc_cache::Config;
 use tsc_shared::{Seat, SharedCache};
 use tsc_span::Span;
 use tsc_time::Timestamp;
 
-/// What the calls of all seats took in one round, and what was measured of each seat's calls.
+/// What is measured of the calls of all seats of a shared cache.
 pub fn by_seats<R: Threads + Wait + Sync>(
     host: &HostRuntime,
     rt: &R,
     trial: Trial,
-) -> Option<(Figure, Vec<u64>)> {
-    let spans = trial.keys().spans(host.alloc(), PLACES, 0)?;
+    spans: &[Span],
+) -> Option<Vec<u64>> {
     let (shared, seats) = open_filled(host, rt, trial)?;
-    call_all(host, rt, &shared, seats, &spans, trial)
-}
-
-/// What as many calls took on one thread, to a cache of its own.
-pub fn by_one(rt: &HostRuntime, trial: Trial) -> Option<Figure> {
-    let spans = trial.keys().spans(rt.alloc(), PLACES, 0)?;
-    let mut cache = filled(rt.alloc(), trial.keys(), 1, false)?;
-    let start = Instant::now(rt).ok()?;
-    for _ in 0..trial.seats {
-        trial.make_all(&mut cache, &spans)?;
-    }
-    Figure::since(rt, start, trial.operations())
+    call_all(host, rt, &shared, seats, spans, trial)
 }
 
 /// A shared cache with a full page, and the seats that are to make calls. The idle ones are
@@ -82,8 +68,7 @@ fn fill<R: Wait>(alloc: Global, rt: &R, shared: &SharedCache, seat: &mut Seat, k
     is_full
 }
 
-/// Has each seat make its calls in a thread of its own, and tells what they took, and what was
-/// measured of them.
+/// Has each seat make its calls in a thread of its own, and gives what is measured of them.
 fn call_all<R: Threads + Wait + Sync>(
     host: &HostRuntime,
     rt: &R,
@@ -91,25 +76,23 @@ fn call_all<R: Threads + Wait + Sync>(
     seats: Vec<Seat>,
     spans: &[Span],
     trial: Trial,
-) -> Option<(Figure, Vec<u64>)>
+) -> Option<Vec<u64>>
     requires { All (λ seat. seat.cache ≡ shared.now) seats.items }
 {
-    let start = Instant::now(host).ok()?;
-    let told = map_vec(
+    let reported = map_vec(
         rt,
         seats,
         &|seat: Seat| -> Option<Vec<u64>>
             requires { seat.cache ≡ shared.now }
         { call_seat(host, rt, shared, seat, spans, trial) },
     );
-    let figure = Figure::since(host, start, trial.operations())?;
-    Some((figure, gathered(host.alloc(), told.ok()?)?))
+    gathered(host.alloc(), reported.ok()?)
 }
 
 /// What was measured of the calls of all threads, or nothing where one of them tells nothing.
-pub fn gathered(alloc: Global, told: Vec<Option<Vec<u64>>>) -> Option<Vec<u64>> {
+pub fn gathered(alloc: Global, reported: Vec<Option<Vec<u64>>>) -> Option<Vec<u64>> {
     let mut all = Vec::new(alloc);
-    for one in told {
+    for one in reported {
         for measured in one? {
             all.push(measured).ok()?;
         }

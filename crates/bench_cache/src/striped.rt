@@ -115,14 +115,14 @@ fn call_all<R: Threads + Wait + Sync>(
 ) -> Option<Vec<u64>>
     requires { All (λ seat. seat.cache ≡ striped.now) seats.items }
 {
-    let told = map_vec(
+    let reported = map_vec(
         rt,
         seats,
         &|seat: Seat| -> Option<Vec<u64>>
             requires { seat.cache ≡ striped.now }
         { call_seat(host, rt, striped, seat, spans, trial) },
     );
-    gathered(host.alloc(), told.ok()?)
+    gathered(host.alloc(), reported.ok()?)
 }
 
 /// Makes the calls of a seat, and gives what is measured of them. Gives nothing where one was

@@ -186,8 +186,8 @@ impl Board {
 
     /// Puts the figure of a further turn in its row, where the operations took less than so far.
     /// There is none where a call was refused.
-    pub fn keep(&mut self, row: usize, told: Option<Figure>) {
-        match (self.least.get_mut(row), told) {
+    pub fn keep(&mut self, row: usize, reported: Option<Figure>) {
+        match (self.least.get_mut(row), reported) {
             (Some(least), Some(figure)) => *least = least.or_less(figure),
             _ => self.is_whole = false,
         }
@@ -222,13 +222,13 @@ impl Board {
                     step: course.step,
                 };
                 let spans = self.spans(*at);
-                let told = match call {
+                let reported = match call {
                     Call::Lookup => time_calls::<S, Lookup>(rt, plan, subject, spans),
                     Call::LookupByBytes => time_calls::<S, LookupByBytes>(rt, plan, subject, spans),
                     Call::Add => time_calls::<S, Add>(rt, plan, subject, spans),
                     Call::Next => time_calls::<S, Next>(rt, plan, subject, spans),
                 };
-                self.keep(*row, told);
+                self.keep(*row, reported);
                 first = first.saturating_add(course.apart);
             }
             lifted = lifted.saturating_add(course.lift);

@@ -11,7 +11,7 @@ use Rattle.std.proofs.lemmas.Bool.Decides.{nat_tests}
 use Rattle.std.proofs.lemmas.Slice.Eq.{bytes_eq-Decides}
 use Rattle.tsc_time.proofs.Members.{IsIn, Contains-from_IsIn}
 use Rattle.tsc_span.specs.Span.{covers}
-use Rattle.timestamp_cache.specs.Words.{Time, KeyBytes, Interval, is_before}
+use Rattle.timestamp_cache.specs.Words.{Time, KeyBytes, SpanView, is_before}
 use Rattle.mvcc_versions.specs.Versions.{Content, Row, Read, Write, as_of, is_written, after_writes}
 use Rattle.mvcc_range.specs.declared.range.Outcome.{Outcome}
 use Rattle.mvcc_range.specs.declared.range.Outcome.TheVariants.{Committed, Restart}
@@ -53,7 +53,7 @@ last_is_in [] r = inl refl
 last_is_in (q ∷ rs) r = inr (last_is_in rs r)
 
 -- where no rows were answered there was nothing
-pub found_nothing : (old new : RangeView) (before after : Transaction) (span : Interval)
+pub found_nothing : (old new : RangeView) (before after : Transaction) (span : SpanView)
     (now : Time) (rows : List Row) → Reads old new before after span now → SeesOwn old before span rows
     → before.writes ≡ [] → length rows ≡ 0 → FoundNothing span after
 found_nothing old new before after span now (r ∷ rows) reads own none free =
@@ -66,7 +66,7 @@ found_nothing old new before after span now [] reads own none free = record {
   of_span = reads.of;
   nothing = λ k within.
       reads.answers.matches.rows k
-      (subst (λ (s : Interval). covers s k ≡ true) (sym reads.of) within)
+      (subst (λ (s : SpanView). covers s k ≡ true) (sym reads.of) within)
       ∙ sym (own.rows k within
       ∙ ap (λ (ws : List Write). after_writes k (as_of before.at old.chains k) ws) none);
 }
@@ -74,7 +74,7 @@ found_nothing old new before after span now [] reads own none free = record {
 -- ---- what a commit adds
 
 -- the transaction that found nothing, and then wrote a key
-pub is_claim : (span : Interval) (t u : Transaction) (w : Write) (value : List ℕ) (at : Time)
+pub is_claim : (span : SpanView) (t u : Transaction) (w : Write) (value : List ℕ) (at : Time)
     → FoundNothing span t → t.writes ≡ [] → covers span w.key ≡ true → w.content ≡ Some value
     → u ≡ record t { writes = t.writes ++ w ∷ [] } → IsClaim span (moved u at)
 is_claim span t u w value at found none within content wrote = record {
@@ -93,7 +93,7 @@ is_claim span t u w value at found none within content wrote = record {
 }
 
 -- what the client has committed once its commit has ended
-pub has_put : (span : Interval) (client client' : ClientView) (t u : Transaction) (w : Write)
+pub has_put : (span : SpanView) (client client' : ClientView) (t u : Transaction) (w : Write)
     (value : List ℕ) (now : Time) (outcome : Outcome) → committed client ≡ []
     → FoundNothing span t → t.writes ≡ [] → covers span w.key ≡ true → w.content ≡ Some value
     → u ≡ record t { writes = t.writes ++ w ∷ [] }
@@ -111,7 +111,7 @@ has_put span old new t u w value now (Restart reason) nothing found none within 
     ∙ ap entries_of c.answers.ok.0
 
 -- a client that has scanned
-pub has_looked : (span : Interval) (client client' : ClientView) (t t' : Transaction) (now : Time)
+pub has_looked : (span : SpanView) (client client' : ClientView) (t t' : Transaction) (now : Time)
     (rows : Vec Row Global) → committed client ≡ []
     → Calls client client' (λ old call new. ReadsAt old call new t t' span now (Ok rows))
     → committed client' ≡ []
@@ -210,12 +210,12 @@ bytes_same : (k : KeyBytes) → bytes_eq k k ≡ true
 bytes_same k = (bytes_eq-Decides k k).1 refl
 
 -- who reads misses what the other one writes
-missed : (span : Interval) (t u : Transaction) → IsClaim span t → IsClaim span u → Misses t u
+missed : (span : SpanView) (t u : Transaction) → IsClaim span t → IsClaim span u → Misses t u
 missed span t u reader writer = record {
   read = reader.found.read;
   among = reader.found.among;
   key = writer.key;
-  in_span = subst (λ (s : Interval). covers s writer.key ≡ true) (sym reader.found.of_span)
+  in_span = subst (λ (s : SpanView). covers s writer.key ≡ true) (sym reader.found.of_span)
       writer.in_span;
   written = subst (λ (ws : List Write). is_written writer.key ws ≡ true) (sym writer.writes)
       (rw (bytes_same writer.key) refl);
@@ -234,13 +234,13 @@ missed span t u reader writer = record {
     put k v = rw (bytes_same k) refl
 
 -- so they do not follow on one another
-apart : NoWriteSkew → (span : Interval) (t u : Transaction) → IsClaim span t → IsClaim span u
+apart : NoWriteSkew → (span : SpanView) (t u : Transaction) → IsClaim span t → IsClaim span u
     → IsSerial empty (t ∷ u ∷ []) → ⊥
 apart law span t u first second serial =
     law [] [] [] t u serial (missed span u t second first) tt
 
 -- in neither order
-no_order : NoWriteSkew → (span : Interval) (t u : Transaction) → IsClaim span t → IsClaim span u
+no_order : NoWriteSkew → (span : SpanView) (t u : Transaction) → IsClaim span t → IsClaim span u
     → IsSerial empty (serial_order (u ∷ t ∷ [])) → ⊥
 no_order law span t u first second serial = elim (cases_Bool (is_before u.at t.at)) [
   | inl before ↦ apart law span u t second first
@@ -260,7 +260,7 @@ second_of P all a b are each = (subst (All P) are each) 1 b (omega arith)
 
 -- at closing
 both_claimed : NoWriteSkew → (dealer : DealerView) (all : List ClientView) (closed : Closed)
-    (a b : ClientView) (span : Interval) (t u : Transaction) → Closes dealer all closed
+    (a b : ClientView) (span : SpanView) (t u : Transaction) → Closes dealer all closed
     → all ≡ a ∷ b ∷ [] → a.number ≡ 0 → b.number ≡ 1 → dealer.range.terms.clients ≡ 2
     → committed a ≡ t ∷ [] → IsClaim span t → committed b ≡ u ∷ [] → IsClaim span u → ⊥
 both_claimed law dealer all closed a b span t u closes are is_a is_b two ends_a is_t ends_b is_u =
@@ -284,7 +284,7 @@ both_claimed law dealer all closed a b span t u closes are is_a is_b two ends_a 
     ]
 
 pub never_both : NoWriteSkew → (dealer : DealerView) (all : List ClientView) (closed : Closed)
-    (a b : ClientView) (span : Interval) (done done' : Bool) → Closes dealer all closed
+    (a b : ClientView) (span : SpanView) (done done' : Bool) → Closes dealer all closed
     → all ≡ a ∷ b ∷ [] → a.number ≡ 0 → b.number ≡ 1 → dealer.range.terms.clients ≡ 2
     → HasClaimed span a done → HasClaimed span b done' → (done && done') ≡ false
 never_both law dealer all closed a b span true true closes are is_a is_b two ends ends' =

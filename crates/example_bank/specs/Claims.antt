@@ -2,7 +2,7 @@
 use Rattle.std.specs.Prelude.{◌≡◌, ℕ, List, [], ◌∷◌, Bool, true, false, Some, None}
 use Rattle.std.specs.List.{Contains}
 use Rattle.tsc_span.specs.Span.{covers}
-use Rattle.timestamp_cache.specs.Words.{KeyBytes, Interval}
+use Rattle.timestamp_cache.specs.Words.{KeyBytes, SpanView}
 use Rattle.mvcc_versions.specs.Versions.{Read, row_of}
 use Rattle.mvcc_range.specs.declared.range.Outcome.{Outcome}
 use Rattle.mvcc_range.specs.declared.range.Outcome.TheVariants.{Committed, Restart}
@@ -34,20 +34,20 @@ pub record StaysAt (old new : ClientView) : Type 0 where
   pub number : new.number ≡ old.number
 
 -- A transaction has read a span, and found no key of it.
-pub record FoundNothing (span : Interval) (t : Transaction) : Type 0 where
+pub record FoundNothing (span : SpanView) (t : Transaction) : Type 0 where
   pub read : Read
   pub among : Contains t.reads read
   pub of_span : read.span ≡ span
   pub nothing : (k : KeyBytes) → covers span k ≡ true → row_of k read.rows ≡ None
 
 -- A client has committed nothing yet, and may do so where it found nothing.
-pub record MayClaim (span : Interval) (who : Claimant) : Type 0 where
+pub record MayClaim (span : SpanView) (who : Claimant) : Type 0 where
   pub none : committed who.client ≡ []
   pub writes : who.transaction.writes ≡ []
   pub found : who.free ≡ true → FoundNothing span who.transaction
 
 -- A transaction found nothing in a span, and puts a key of it.
-pub record IsClaim (span : Interval) (t : Transaction) : Type 0 where
+pub record IsClaim (span : SpanView) (t : Transaction) : Type 0 where
   pub found : FoundNothing span t
   pub key : KeyBytes
   pub value : List ℕ
@@ -55,6 +55,6 @@ pub record IsClaim (span : Interval) (t : Transaction) : Type 0 where
   pub writes : t.writes ≡ record { key = key; content = Some value } ∷ []
 
 -- A client has committed nothing but a claim, or nothing at all.
-abbrev pub HasClaimed : Interval → ClientView → Bool → Type 0
+abbrev pub HasClaimed : SpanView → ClientView → Bool → Type 0
 HasClaimed span client true = (t : Transaction) × (committed client ≡ t ∷ []) × IsClaim span t
 HasClaimed span client false = committed client ≡ []

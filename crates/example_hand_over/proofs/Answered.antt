@@ -5,20 +5,20 @@ use Rattle.std.specs.Prelude.{Option, Some, IfSome, unwrap_or}
 use Rattle.std.specs.List.{Contains}
 use Rattle.std.proofs.lemmas.List.Elements.{Contains-push}
 use Rattle.tsc_cache.proofs.Beginnings.{begins_itself, begins_on, begins_entries}
-use Rattle.timestamp_cache.specs.Words.{Time, is_before, Owner, OwnedTime, Interval, point, overlaps, CacheView, Settings, History, BeginsWith, Mark, Entry, entry_of_mark}
+use Rattle.timestamp_cache.specs.Words.{Time, is_before, Owner, ValueView, SpanView, point, overlaps, CacheView, ConfigView, History, BeginsWith, Mark, Entry, entry_of_mark}
 use Rattle.timestamp_cache.specs.Clear.{IsClearOf}
-use Rattle.timestamp_cache.specs.Earliest.{TellsEarliest}
+use Rattle.timestamp_cache.specs.Earliest.{ReportsEarliest}
 use Rattle.example_hand_over.specs.declared.Read.{Read}
 use Rattle.example_hand_over.specs.declared.Write.{Write}
 use Rattle.example_hand_over.specs.FormerReads.{read_of, HasReads, AnswersOneMore, IsClearOfFormerReads}
 use Rattle.example_hand_over.specs.Tables.{time_at, id_of, span_of}
 use Rattle.example_hand_over.specs.Answered.{AnswersRead, AnswersAll, all_answered, one_answered, HasAll, IsPushed, IsClear}
 
-pub same_span : (a b : Interval) → Some a ≡ Some b → a ≡ b
-same_span a b is = ap (λ (o : Option Interval). unwrap_or o a) is
+pub same_span : (a b : SpanView) → Some a ≡ Some b → a ≡ b
+same_span a b is = ap (λ (o : Option SpanView). unwrap_or o a) is
 
 -- what an answered read of a row's keys, time and transaction is
-pub answers_row : (row : Read) (old new : CacheView) (span : Interval) (at : Time) (by : Owner) →
+pub answers_row : (row : Read) (old new : CacheView) (span : SpanView) (at : Time) (by : Owner) →
     span_of row.from.now row.to.now ≡ Some span → at ≡ time_at row.wall → by ≡ id_of row.name
     → AnswersOneMore old new span (read_of at by) at → AnswersRead row old new
 answers_row row old new span at by own is name more = record {
@@ -29,19 +29,19 @@ answers_row row old new span at by own is name more = record {
 }
 
 -- what the next holder tells of a row's key, time and transaction
-pub pushed_row : (former : CacheView) (range : Interval) (row : Write) (span : Interval) (at : Time)
-    (by : Owner) (wanted : Time) (told : Option Time) (P : Time → Type 0)
-    → span ≡ point row.key.now → by ≡ id_of row.name → wanted ≡ time_at row.wall → told ≡ Some at →
-    IfSome told (λ t. IsClearOfFormerReads former range span by t)
-    → TellsEarliest P wanted told → IsPushed former range row at
-pushed_row former range row span at by wanted told P key name from is clear earliest =
-    let at_earliest : TellsEarliest P wanted (Some at) =
-    subst (λ (o : Option Time). TellsEarliest P wanted o) is earliest in
+pub pushed_row : (former : CacheView) (range : SpanView) (row : Write) (span : SpanView) (at : Time)
+    (by : Owner) (wanted : Time) (reported : Option Time) (P : Time → Type 0)
+    → span ≡ point row.key.now → by ≡ id_of row.name → wanted ≡ time_at row.wall →
+    reported ≡ Some at → IfSome reported (λ t. IsClearOfFormerReads former range span by t)
+    → ReportsEarliest P wanted reported → IsPushed former range row at
+pushed_row former range row span at by wanted reported P key name from is clear earliest =
+    let at_earliest : ReportsEarliest P wanted (Some at) =
+    subst (λ (o : Option Time). ReportsEarliest P wanted o) is earliest in
     let at_clear : IfSome (Some at) (λ t. IsClearOfFormerReads former range span by t) =
     subst (λ (o : Option Time). IfSome o (λ t. IsClearOfFormerReads former range span by t)) is
     clear in
     let of_key : IsClearOfFormerReads former range (point row.key.now) by at =
-    subst (λ (s : Interval). IsClearOfFormerReads former range s by at) key at_clear in
+    subst (λ (s : SpanView). IsClearOfFormerReads former range s by at) key at_clear in
     record {
       from_on = subst (λ (w : Time). is_before at w ≡ false) from at_earliest.from_on;
       clear = subst (λ (o : Owner). IsClearOfFormerReads former range (point row.key.now) o at) name
@@ -86,7 +86,7 @@ answered_all first cache reads [] way is =
 answered_all first cache reads (x ∷ left) way is = absurd (omega (arith, is))
 
 -- where a history has a read of the table
-record Found (h : History) (read : Read) (span : Interval) : Type 0 where
+record Found (h : History) (read : Read) (span : SpanView) : Type 0 where
   entry : Entry
   mark : Mark
   there : Contains h entry
@@ -95,22 +95,22 @@ record Found (h : History) (read : Read) (span : Interval) : Type 0 where
   value : mark.value ≡ read_of (time_at read.wall) (id_of read.name)
 
 -- a cache that has answered a table has a history with all of it
-record Reached (settings : Settings) (h : History) (reads : List Read) (cache : CacheView) : Type
+record Reached (config : ConfigView) (h : History) (reads : List Read) (cache : CacheView) : Type
     0 where
   all : History
-  has : HasReads cache settings all
+  has : HasReads cache config all
   begins : BeginsWith all h
-  each : (read : Read) (span : Interval) → Contains reads read →
+  each : (read : Read) (span : SpanView) → Contains reads read →
       span_of read.from.now read.to.now ≡ Some span → Found all read span
 
 -- the first read is in what a history goes on with
-found_first : (all h : History) (row read : Read) (own span : Interval) →
+found_first : (all h : History) (row read : Read) (own span : SpanView) →
     BeginsWith all (h ++ entry_of_mark 0 0
     (record { span = own; value = read_of (time_at row.wall) (id_of row.name) })
     (time_at row.wall) ∷ [])
     → span_of row.from.now row.to.now ≡ Some own → row ≡ read →
     span_of read.from.now read.to.now ≡ Some span → Found all read span
-found_first all h row read own span begins is same told =
+found_first all h row read own span begins is same reported =
     let mark : Mark = record { span = own; value = read_of (time_at row.wall) (id_of row.name) } in
     let entry : Entry = entry_of_mark 0 0 mark (time_at row.wall) in
     record {
@@ -119,29 +119,29 @@ found_first all h row read own span begins is same told =
       there = begins_entries all (h ++ entry ∷ []) entry begins (Contains-push h entry);
       own = Contains-push [] mark;
       over = same_span own span (sym is ∙
-          ap (λ (r : Read). span_of r.from.now r.to.now) same ∙ told);
+          ap (λ (r : Read). span_of r.from.now r.to.now) same ∙ reported);
       value = ap (λ (r : Read). read_of (time_at r.wall) (id_of r.name)) same;
     }
 
-reached : (settings : Settings) (old new : CacheView) (reads : List Read) (h : History) →
-    HasReads old settings h → AnswersAll old reads new → Reached settings h reads new
-reached settings old new reads h has (all_answered cache) = record {
+reached : (config : ConfigView) (old new : CacheView) (reads : List Read) (h : History) →
+    HasReads old config h → AnswersAll old reads new → Reached config h reads new
+reached config old new reads h has (all_answered cache) = record {
   all = h;
   has = has;
   begins = begins_itself h;
   each = λ read span there own. absurd (omega (arith, there.1));
 }
-reached settings old new reads h has (one_answered first next last row others answers rest) =
+reached config old new reads h has (one_answered first next last row others answers rest) =
     let mark : Mark = record {
       span = answers.span;
       value = read_of (time_at row.wall) (id_of row.name);
     } in
     let entry : Entry = entry_of_mark 0 0 mark (time_at row.wall) in
-    go (reached settings next last others (h ++ entry ∷ []) (answers.more settings h 0 0 has) rest)
+    go (reached config next last others (h ++ entry ∷ []) (answers.more config h 0 0 has) rest)
   where
-    go : Reached settings (h ++ entry_of_mark 0 0
+    go : Reached config (h ++ entry_of_mark 0 0
         (record { span = answers.span; value = read_of (time_at row.wall) (id_of row.name) })
-        (time_at row.wall) ∷ []) others last → Reached settings h (row ∷ others) last
+        (time_at row.wall) ∷ []) others last → Reached config h (row ∷ others) last
     go r = record {
       all = r.all;
       has = r.has;
@@ -155,11 +155,11 @@ reached settings old new reads h has (one_answered first next last row others an
       each = each_of r;
     }
       where
-        each_of : Reached settings
+        each_of : Reached config
             (h ++ entry_of_mark 0 0
             (record { span = answers.span; value = read_of (time_at row.wall) (id_of row.name) })
             (time_at row.wall) ∷ []) others last
-            → (read : Read) (span : Interval) → Contains (row ∷ others) read →
+            → (read : Read) (span : SpanView) → Contains (row ∷ others) read →
             span_of read.from.now read.to.now ≡ Some span → Found r.all read span
         each_of s read span (zero, below, is) own =
             found_first r.all h row read answers.span span r.begins answers.own is own
@@ -167,16 +167,16 @@ reached settings old new reads h has (one_answered first next last row others an
             r.each read span (k, omega (arith, below), is) own
 
 -- A write that is clear of all that a cache has answered is clear of each read of its table.
-pub clear_of_table : (cache : CacheView) (reads : List Read) (range : Interval) (write : Write)
+pub clear_of_table : (cache : CacheView) (reads : List Read) (range : SpanView) (write : Write)
     (at : Time) → HasAll cache reads → IsPushed cache range write at → IsClear reads range write at
 clear_of_table cache reads range write at has pushed =
-    let r = reached has.settings has.first cache reads [] has.new has.answers in
+    let r = reached has.config has.first cache reads [] has.new has.answers in
     record {
       from_on = pushed.from_on;
       clear = λ within read span there own over.
           let found = r.each read span there own in
-          subst (λ (value : OwnedTime). IsClearOf value (id_of write.name) at) found.value
-          (pushed.clear within has.settings r.all r.has found.entry found.mark found.there found.own
-          (subst (λ (s : Interval). overlaps s (point write.key.now) ≡ true) (sym found.over)
+          subst (λ (value : ValueView). IsClearOf value (id_of write.name) at) found.value
+          (pushed.clear within has.config r.all r.has found.entry found.mark found.there found.own
+          (subst (λ (s : SpanView). overlaps s (point write.key.now) ≡ true) (sym found.over)
           over));
     }

@@ -8,60 +8,62 @@ use Rattle.tsc_cache.specs.State.{CacheState, opening, step, step_all, look}
 use Rattle.tsc_cache.proofs.FloorJoints.{above_each}
 use Rattle.tsc_cache.proofs.Histories.{state_from-append, kept_up, clear_below}
 use Rattle.tsc_cache.proofs.StatesSeen.{answers_look}
-use Rattle.timestamp_cache.specs.Words.{Time, Owner, OwnedTime, IsAtMost, Interval, Settings, state_of, entry_of_mark, CacheView, RepresentsState, cache_answer}
+use Rattle.timestamp_cache.specs.Words.{Time, Owner, ValueView, IsAtMost, SpanView, ConfigView, state_of, entry_of_mark, CacheView, RepresentsState, cache_answer}
 use Rattle.timestamp_cache.specs.Clear.{IsClearOf, IsClearOfAnswers}
-use Rattle.timestamp_cache.specs.Earliest.{TellsEarliest}
-use Rattle.timestamp_cache.specs.HandOver.{Summary, summary_answer, IsWithin, TellsOf, marks_told, TakesOver}
+use Rattle.timestamp_cache.specs.Earliest.{ReportsEarliest}
+use Rattle.timestamp_cache.specs.HandOver.{Summary, summary_answer, IsWithin, ReportsOf, marks_reported, TakesOver}
 use Rattle.timestamp_cache.proofs.Deciding.{clear_or_not}
-use Rattle.example_hand_over.specs.FormerReads.{AnswersOneMore, TellsOfCache, AnswersNoLess, IsClearOfFormerReads}
+use Rattle.example_hand_over.specs.FormerReads.{AnswersOneMore, ReportsOfCache, AnswersNoLess, IsClearOfFormerReads}
 
 -- what an Add of a read makes of each state it makes of each history
-pub one_more : (old new : CacheView) (span : Interval) (read : OwnedTime) (now : Time)
-    → ((settings : Settings) (s : CacheState) → RepresentsState old settings s →
-    RepresentsState new settings
-    (step settings s (record { span = span; value = read }) now).state)
+pub one_more : (old new : CacheView) (span : SpanView) (read : ValueView) (now : Time)
+    → ((config : ConfigView) (s : CacheState) → RepresentsState old config s →
+    RepresentsState new config
+    (step config s (record { span = span; value = read }) now).state)
     → AnswersOneMore old new span read now
-one_more old new span read now adds settings h seat number has =
-    subst (RepresentsState new settings)
-    (sym (state_from-append settings (opening settings) h
+one_more old new span read now adds config h seat number has =
+    subst (RepresentsState new config)
+    (sym (state_from-append config (opening config) h
     (entry_of_mark seat number (record { span = span; value = read }) now ∷ [])))
-    (adds settings (state_of settings h) has)
+    (adds config (state_of config h) has)
 
 -- what a state answers is at most what a summary of it tells
-told_above : (s : CacheState) (told : Summary) (inner : Interval) → TellsOf s told →
-    IsWithin inner told.span → IsAtMost (look s inner) (summary_answer told inner)
-told_above s told inner tells w =
-    subst (IsAtMost (look s inner)) (sym (tells inner w))
-    (above_each told.floor (look s inner ∷ []) (look s inner) (Contains-push [] (look s inner)))
+reported_above : (s : CacheState) (reported : Summary) (inner : SpanView) → ReportsOf s reported →
+    IsWithin inner reported.span → IsAtMost (look s inner) (summary_answer reported inner)
+reported_above s reported inner reports w =
+    subst (IsAtMost (look s inner)) (sym (reports inner w))
+    (above_each reported.floor (look s inner ∷ []) (look s inner) (Contains-push [] (look s inner)))
 
 -- So whoever takes the summary over with a new cache answers no less.
-pub no_less : (former old new : CacheView) (own : Settings) (told : Summary) (range : Interval)
-    (now : Time) → RepresentsState old own (opening own)
-    → ((settings : Settings) (s : CacheState) → RepresentsState old settings s →
-    RepresentsState new settings (step_all settings s (marks_told told) now).state)
-    → ((settings : Settings) (s : CacheState) → RepresentsState old settings s →
-    TakesOver s (step_all settings s (marks_told told) now).state told)
-    → told.span ≡ range → TellsOfCache former told → AnswersNoLess former new range
-no_less former old new own told range now opened stands takes same tells settings s inner has w =
-    let within : IsWithin inner told.span = subst (IsWithin inner) (sym same) w in
-    let next : CacheState = (step_all own (opening own) (marks_told told) now).state in
+pub no_less : (former old new : CacheView) (own : ConfigView) (reported : Summary)
+    (range : SpanView) (now : Time) → RepresentsState old own (opening own)
+    → ((config : ConfigView) (s : CacheState) → RepresentsState old config s →
+    RepresentsState new config (step_all config s (marks_reported reported) now).state)
+    → ((config : ConfigView) (s : CacheState) → RepresentsState old config s →
+    TakesOver s (step_all config s (marks_reported reported) now).state reported)
+    → reported.span ≡ range → ReportsOfCache former reported → AnswersNoLess former new range
+no_less former old new own reported range now opened stands takes same reports config s inner has w
+    =
+    let within : IsWithin inner reported.span = subst (IsWithin inner) (sym same) w in
+    let next : CacheState = (step_all own (opening own) (marks_reported reported) now).state in
     subst (IsAtMost (look s inner))
     (sym (answers_look new own next inner (stands own (opening own) opened)))
-    (IsAtMost-transitive (look s inner) (summary_answer told inner) (look next inner)
-    (told_above s told inner (tells settings s has) within)
+    (IsAtMost-transitive (look s inner) (summary_answer reported inner) (look next inner)
+    (reported_above s reported inner (reports config s has) within)
     ((takes own (opening own) opened).learned inner within))
 
 -- of one span, all answers are the one
-only_answer : (cache : CacheView) (span : Interval) (by : Owner) (at : Time) →
+only_answer : (cache : CacheView) (span : SpanView) (by : Owner) (at : Time) →
     IsClearOf (cache_answer cache span) by at → IsClearOfAnswers cache (span ∷ []) by at
 only_answer cache span by at clear =
-    let P : Interval → Type 0 = λ (s : Interval). IsClearOf (cache_answer cache s) by at in
+    let P : SpanView → Type 0 = λ (s : SpanView). IsClearOf (cache_answer cache s) by at in
     All-push P [] span (All-nil P) clear
 
 -- so the earliest time for all is that for the one
-pub earliest_of_one : (cache : CacheView) (span : Interval) (by : Owner) (from : Time)
-    (told : Option Time) → TellsEarliest (λ t. IsClearOfAnswers cache (span ∷ []) by t) from told
-    → TellsEarliest (λ t. IsClearOf (cache_answer cache span) by t) from told
+pub earliest_of_one : (cache : CacheView) (span : SpanView) (by : Owner) (from : Time)
+    (reported : Option Time) → ReportsEarliest (λ t. IsClearOfAnswers cache (span ∷ []) by t) from
+    reported
+    → ReportsEarliest (λ t. IsClearOf (cache_answer cache span) by t) from reported
 earliest_of_one cache span by from None never =
     λ t range later clear. never t range later (only_answer cache span by t clear)
 earliest_of_one cache span by from (Some at) is = record {
@@ -73,17 +75,17 @@ earliest_of_one cache span by from (Some at) is = record {
 
 -- A write that is clear of what such a holder answers is clear of each read that the former one
 -- answered.
-pub clear_of_former : (former next : CacheView) (range span : Interval) (by : Owner) (from : Time)
-    (told : Option Time) → ∥ AnswersNoLess former next range ∥₁
-    → TellsEarliest (λ t. IsClearOf (cache_answer next span) by t) from told →
-    IfSome told (λ at. IsClearOfFormerReads former range span by at)
+pub clear_of_former : (former next : CacheView) (range span : SpanView) (by : Owner) (from : Time)
+    (reported : Option Time) → ∥ AnswersNoLess former next range ∥₁
+    → ReportsEarliest (λ t. IsClearOf (cache_answer next span) by t) from reported →
+    IfSome reported (λ at. IsClearOfFormerReads former range span by at)
 clear_of_former former next range span by from None less is = tt
 clear_of_former former next range span by from (Some at) less is =
-    λ within settings h has e m c own over. elim (clear_or_not m.value by at) [
+    λ within config h has e m c own over. elim (clear_or_not m.value by at) [
       | inl clear ↦ clear
       | inr not ↦ absurd (∥∥₁_elim less (λ x y. absurd x)
           (λ answers. not (clear_below m.value (cache_answer next span) by at
-          (IsAtMost-transitive m.value (look (state_of settings h) span) (cache_answer next span)
-          (kept_up settings h e m span c own over)
-          (answers settings (state_of settings h) span has within)) is.holds)))
+          (IsAtMost-transitive m.value (look (state_of config h) span) (cache_answer next span)
+          (kept_up config h e m span c own over)
+          (answers config (state_of config h) span has within)) is.holds)))
     ]

@@ -2,7 +2,7 @@
 use Rattle.std.specs.Prelude.{ℕ, List, Option, ◌-◌, ◌^◌, if◌then◌else◌}
 use Rattle.std.specs.Int.{to_be_bytes, w128}
 use Rattle.tsc_span.specs.Span.{start_to_end}
-use Rattle.timestamp_cache.specs.Words.{Time, is_in_range, Owner, Interval}
+use Rattle.timestamp_cache.specs.Words.{Time, is_in_range, Owner, SpanView}
 
 -- the latest timestamp
 abbrev pub last_time : Time
@@ -18,5 +18,5 @@ unfoldable pub id_of : ℕ → Owner
 id_of name = to_be_bytes w128 name
 
 -- the keys from one up to another, or the one alone where the other is empty
-abbrev pub span_of : List ℕ → List ℕ → Option Interval
+abbrev pub span_of : List ℕ → List ℕ → Option SpanView
 span_of from to = start_to_end from to

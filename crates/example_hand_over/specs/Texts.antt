@@ -3,7 +3,7 @@ use Rattle.std.specs.Prelude.{ℕ, ◌==◌, List, length, ◌++◌, Option, Som
 use Rattle.std.specs.Char.{encode_utf8}
 use Rattle.std.specs.List.{find}
 use Rattle.std.specs.Str.{bytes_eq}
-use Rattle.timestamp_cache.specs.Words.{Time, is_before, Owner, OwnedTime}
+use Rattle.timestamp_cache.specs.Words.{Time, is_before, Owner, ValueView}
 use Rattle.example_hand_over.specs.declared.Read.{Read}
 use Rattle.example_hand_over.specs.declared.Write.{Write}
 use Rattle.example_hand_over.specs.Tables.{time_at, id_of}
@@ -23,7 +23,7 @@ reader owner reads = find (λ read. is_owner owner (id_of read.name)) reads
 
 -- what a key was read by: when and by which transaction, where there is one, or else up to which
 -- time it may have been read
-abbrev pub reason_text : List ℕ → OwnedTime → Option Read → List ℕ
+abbrev pub reason_text : List ℕ → ValueView → Option Read → List ℕ
 reason_text key answer (Some read) =
     codes "\"" ++ (key ++ (codes "\" was read at " ++
     (time_text answer.time ++ (codes " by " ++ encode_utf8 read.name))))
@@ -67,7 +67,7 @@ pushed_text write at reason = encode_utf8 write.name ++
 
 -- the text of a write, which may be laid down at the time that it wants, or is pushed, perhaps by
 -- one of these reads
-abbrev pub write_text : Write → Time → OwnedTime → List Read → List ℕ
+abbrev pub write_text : Write → Time → ValueView → List Read → List ℕ
 write_text write at answer reads =
     if is_before (time_at write.wall) at then pushed_text write at
     (reason_text write.key.now answer (reader answer.owner reads)) else wanted_text write at

@@ -2,8 +2,8 @@
 ghost use Rattle.std.specs.Prelude.{◌≡◌, [], IfOk, IfSome, OnOk};
 ghost use Rattle.timestamp_cache.specs.Words.{cache_answer};
 ghost use Rattle.timestamp_cache.specs.Clear.{IsClearOf};
-ghost use Rattle.timestamp_cache.specs.Earliest.{TellsEarliest};
-ghost use Rattle.example_hand_over.specs.FormerReads.{HasReads, AnswersOneMore, TellsOfCache, AnswersNoLess, IsClearOfFormerReads, read_of};
+ghost use Rattle.timestamp_cache.specs.Earliest.{ReportsEarliest};
+ghost use Rattle.example_hand_over.specs.FormerReads.{HasReads, AnswersOneMore, ReportsOfCache, AnswersNoLess, IsClearOfFormerReads, read_of};
 
 use anyhow::Result;
 use std::alloc::Global;
@@ -17,11 +17,11 @@ use timestamp_cache::{
 /// From whom a lease is taken over: the former holder's cache, as it was summarized, and the range.
 /// By it the next holder shows in its type whose reads it minds.
 pub trait Former {
-    ghost use Rattle.timestamp_cache.specs.Words.{Interval, CacheView};
+    ghost use Rattle.timestamp_cache.specs.Words.{SpanView, CacheView};
 
     ghost cache: { CacheView };
 
-    ghost range: { Interval };
+    ghost range: { SpanView };
 }
 
 impl Former for Brand {
@@ -62,15 +62,15 @@ impl<F: Former> Next<F> {
     pub fn take_over(
         alloc: Global,
         config: Config,
-        told: &ReadSummary,
+        reported: &ReadSummary,
         now: Timestamp,
     ) -> Result<Next<F>>
-        requires range { told.now.span ≡ F.range }
-        requires tells { TellsOfCache F.cache told.now }
+        requires range { reported.now.span ≡ F.range }
+        requires reports { ReportsOfCache F.cache reported.now }
         ensures { IfOk result (λ next. AnswersNoLess F.cache next.cache F.range) }
     {
         let mut cache = Cache::new(alloc, config)?;
-        apply(&mut cache, told, now)?;
+        apply(&mut cache, reported, now)?;
         Ok(Next {
             cache,
             of: PhantomData,
@@ -82,7 +82,7 @@ impl<F: Former> Next<F> {
     /// former holder answered, none of which was made here.
     pub fn write(&self, span: &Span, wanted: Timestamp, by: Uuid) -> Option<Timestamp>
         ensures former { IfSome result (λ at. IsClearOfFormerReads F.cache F.range span.now by at) }
-        ensures pushed { TellsEarliest
+        ensures pushed { ReportsEarliest
             (λ at. IsClearOf (cache_answer self.now.cache span.now) by at) wanted result }
     {
         earliest_write(&self.cache, slice::from_ref(span), wanted, by)

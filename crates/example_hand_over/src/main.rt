@@ -213,27 +213,28 @@ fn summary_line(
 fn write_line(
     alloc: Global,
     write: &Write,
-    told: Timestamp,
+    reported: Timestamp,
     answer: Value,
     reads: &[Read],
 ) -> Result<String, AllocError>
-    ensures { IfOk result (λ text. string_bytes text ≡ write_text write.now told answer reads.now) }
+    ensures { IfOk result (λ text. string_bytes text ≡ write_text write.now reported answer
+        reads.now) }
 {
-    if at(write.wall) < told {
+    if at(write.wall) < reported {
         let why = because(alloc, write.key, answer, reads)?;
-        pushed(alloc, write, told, &why)
+        pushed(alloc, write, reported, &why)
     } else {
-        as_wanted(alloc, write, told)
+        as_wanted(alloc, write, reported)
     }
 }
 
 /// The line that tells of a write at the time that it wants.
-fn as_wanted(alloc: Global, write: &Write, told: Timestamp) -> Result<String, AllocError>
-    ensures { IfOk result (λ text. string_bytes text ≡ wanted_text write.now told) }
+fn as_wanted(alloc: Global, write: &Write, reported: Timestamp) -> Result<String, AllocError>
+    ensures { IfOk result (λ text. string_bytes text ≡ wanted_text write.now reported) }
 {
     let (name, key) = (write.name, write.key);
-    let told = Shown(told);
-    format!(in alloc; "{name} may write \"{key}\" at {told}, as it wanted")
+    let reported = Shown(reported);
+    format!(in alloc; "{name} may write \"{key}\" at {reported}, as it wanted")
 }
 
 /// The line that tells of a write that is pushed to a later time.
@@ -275,19 +276,19 @@ fn read_all<R: Print>(rt: &R, alloc: Global, cache: &mut Cache, reads: &[Read]) 
 }
 
 /// What the former holder tells of its range.
-fn told<R: Print>(
+fn reported<R: Print>(
     rt: &R,
     alloc: Global,
     cache: &Cache,
     range: &Span,
     most: usize,
 ) -> Result<ReadSummary>
-    ensures { IfOk result (λ told. Summarizes cache.now range.now most told) }
+    ensures { IfOk result (λ reported. Summarizes cache.now range.now most reported) }
 {
-    let told = summary(alloc, cache, range, most)?;
-    let line = summary_line(alloc, most, told.floor, told.marks.len());
+    let reported = summary(alloc, cache, range, most)?;
+    let line = summary_line(alloc, most, reported.floor, reported.marks.len());
     print(rt, line)?;
-    Ok(told)
+    Ok(reported)
 }
 
 /// The next holder is asked for a write, and tells at which time that may be laid down.
@@ -317,10 +318,13 @@ fn ask_on<F: Former, R: Print>(
     requires { span.now ≡ point write.now.key.now }
     ensures { IfOk result (λ at. IsPushed F.cache F.range write.now at) }
 {
-    let told = next.write(span, at(write.wall), id_of(write.name));
-    let told = told.context("no time is late enough")?;
-    print(rt, write_line(alloc, write, told, next.answer(span), reads))?;
-    Ok(told)
+    let reported = next.write(span, at(write.wall), id_of(write.name));
+    let reported = reported.context("no time is late enough")?;
+    print(
+        rt,
+        write_line(alloc, write, reported, next.answer(span), reads),
+    )?;
+    Ok(reported)
 }
 
 /// The next holder is asked for all writes, and tells at which times these may be laid down, in
@@ -331,12 +335,13 @@ fn ask_all<F: Former, R: Print>(
     next: &Next<F>,
     tables: Tables,
 ) -> Result<Vec<Timestamp>>
-    ensures { IfOk result (λ told. AllZip (IsPushed F.cache F.range) tables.writes.now told.items) }
+    ensures { IfOk result (λ reported. AllZip (IsPushed F.cache F.range) tables.writes.now
+        reported.items) }
 {
     let mut all = Vec::new(alloc);
     for write in tables.writes {
-        let told = ask(rt, alloc, next, write, tables.reads)?;
-        all.push(told)?;
+        let reported = ask(rt, alloc, next, write, tables.reads)?;
+        all.push(reported)?;
     }
     Ok(all)
 }
@@ -355,8 +360,8 @@ fn next_of<F: Former, R: Print>(
     ensures { IfOk result (λ next. AnswersNoLess F.cache next.cache F.range) }
 {
     let config = config(Timestamp::ZERO)?;
-    let told = told(rt, alloc, cache, range, most)?;
-    Next::<F>::take_over(alloc, config, &told, at(30))
+    let reported = reported(rt, alloc, cache, range, most)?;
+    Next::<F>::take_over(alloc, config, &reported, at(30))
 }
 
 /// Hands the lease on, in at most `most` marks, to a holder that is then asked for all writes.
@@ -370,7 +375,8 @@ fn hand_on<F: Former, R: Print>(
 ) -> Result<Vec<Timestamp>>
     requires cache { cache.now ≡ F.cache }
     requires range { range.now ≡ F.range }
-    ensures { IfOk result (λ told. AllZip (IsPushed F.cache F.range) tables.writes.now told.items) }
+    ensures { IfOk result (λ reported. AllZip (IsPushed F.cache F.range) tables.writes.now
+        reported.items) }
 {
     let next = next_of::<F, R>(rt, alloc, cache, range, most)?;
     ask_all(rt, alloc, &next, tables)
@@ -387,10 +393,10 @@ fn hand_on_twice<F: Former, R: Print>(
 ) -> Result<(Vec<Timestamp>, Vec<Timestamp>)>
     requires cache { cache.now ≡ F.cache }
     requires range { range.now ≡ F.range }
-    ensures first { IfOk result (λ told. AllZip (IsPushed F.cache F.range) tables.writes.now
-        told.0.items) }
-    ensures second { IfOk result (λ told. AllZip (IsPushed F.cache F.range) tables.writes.now
-        told.1.items) }
+    ensures first { IfOk result (λ reported. AllZip (IsPushed F.cache F.range) tables.writes.now
+        reported.0.items) }
+    ensures second { IfOk result (λ reported. AllZip (IsPushed F.cache F.range) tables.writes.now
+        reported.1.items) }
 {
     let first = hand_on::<F, R>(rt, alloc, cache, range, 8, tables)?;
     let second = hand_on::<F, R>(rt, alloc, cache, range, 2, tables)?;
@@ -414,10 +420,10 @@ fn run<R: Print>(
     range: &Span,
     tables: Tables,
 ) -> Result<(Vec<Timestamp>, Vec<Timestamp>)>
-    ensures first { IfOk result (λ told. AllZip (IsClear tables.reads.now range.now)
-        tables.writes.now told.0.items) }
-    ensures second { IfOk result (λ told. AllZip (IsClear tables.reads.now range.now)
-        tables.writes.now told.1.items) }
+    ensures first { IfOk result (λ reported. AllZip (IsClear tables.reads.now range.now)
+        tables.writes.now reported.0.items) }
+    ensures second { IfOk result (λ reported. AllZip (IsClear tables.reads.now range.now)
+        tables.writes.now reported.1.items) }
 {
     let cache = former(rt, alloc, tables.reads)?;
     hand_on_twice::<Brand, R>(rt, alloc, &cache, range, tables)
@@ -430,6 +436,6 @@ fn main(rt: HostRuntime) -> Result<()> {
         writes: &WRITES,
     };
     let range = span_of(rt.alloc(), "a", "z")?;
-    let _told = run(&rt, rt.alloc(), &range, tables)?;
+    let _reported = run(&rt, rt.alloc(), &range, tables)?;
     Ok(())
 }

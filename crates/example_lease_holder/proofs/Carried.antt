@@ -5,13 +5,13 @@ use Rattle.std.specs.List.{Contains}
 use Rattle.std.specs.Prelude.{Option, Some, None, IfSome, if◌then◌else◌}
 use Rattle.std.proofs.Math.Logic.{∥∥₁_elim, ∥∥₁_map}
 use Rattle.std.proofs.lemmas.List.Elements.{All-append, All-nil, All-push, Contains-push}
-use Rattle.tsc_span.specs.Span.{Interval, KeyBytes, point, overlaps, before, after}
-use Rattle.tsc_span.proofs.CutOrder.{sides_in_order}
+use Rattle.tsc_span.specs.Span.{SpanView, KeyBytes, point, overlaps, before, after}
+use Rattle.tsc_span.proofs.CutsTotal.{sides_in_order}
 use Rattle.tsc_span.proofs.Overlaps.{overlaps-each}
 use Rattle.tsc_cache.proofs.Beginnings.{begins_entries, begins_on}
 use Rattle.tsc_shared.specs.declared.answers.Receipt.{Receipt}
 use Rattle.tsc_shared.specs.Answers.{Accepts, entry_by}
-use Rattle.timestamp_cache.specs.Words.{Time, Owner, OwnedTime, History, BeginsWith}
+use Rattle.timestamp_cache.specs.Words.{Time, Owner, ValueView, History, BeginsWith}
 use Rattle.timestamp_cache.specs.Words.{SeatView, FrontView}
 use Rattle.timestamp_cache.specs.Clear.{IsClearOf, IsClearOfReads, AsksEarliestAt}
 use Rattle.timestamp_cache.proofs.Deciding.{clear_or_not}
@@ -28,7 +28,7 @@ use Rattle.example_lease_holder.specs.Reads.{HasRead, IsClearFor, since}
 use Rattle.example_lease_holder.proofs.Since.{since_rest}
 
 -- a key's span is met by itself
-pub point_overlaps_itself : (s : Interval) (key : KeyBytes) → s ≡ point key → overlaps s s ≡ true
+pub point_overlaps_itself : (s : SpanView) (key : KeyBytes) → s ≡ point key → overlaps s s ≡ true
 point_overlaps_itself s key is = rw (
   is,
   overlaps-each (before key) (after key) (before key) (after key),
@@ -36,7 +36,7 @@ point_overlaps_itself s key is = rw (
 ) refl
 
 -- what a history has, each that begins with it has too
-pub all_there_still : (span : Interval) (h start : History) (reads : List OwnedTime) →
+pub all_there_still : (span : SpanView) (h start : History) (reads : List ValueView) →
     BeginsWith h start → All (HasRead span start) reads → All (HasRead span h) reads
 all_there_still span h start reads begins all k d below = ∥∥₁_map (all k d below) (λ adds. record {
   entry = adds.entry;
@@ -48,7 +48,7 @@ all_there_still span h start reads begins all k d below = ∥∥₁_map (all k d
 })
 
 -- an accepted Add to a cache with two copies has added a read
-pub adds_in_copies : (old new : SeatView) (span : Interval) (read : OwnedTime) (at : Time)
+pub adds_in_copies : (old new : SeatView) (span : SpanView) (read : ValueView) (at : Time)
     (receipt : Receipt) → Accepts old new (record { span = span; value = read } ∷ []) at receipt →
     AddsRead (Copies old) (Copies new) span read (front.Copies receipt.front)
 adds_in_copies old new span read at receipt adds = record {
@@ -62,7 +62,7 @@ adds_in_copies old new span read at receipt adds = record {
 }
 
 -- a read that was added is there
-pub added_there : (old new : ReadSeat) (span : Interval) (read : OwnedTime) (front : ReadFront) →
+pub added_there : (old new : ReadSeat) (span : SpanView) (read : ValueView) (front : ReadFront) →
     AddsRead old new span read front → overlaps span span ≡ true → HasRead span (seen_by new) read
 added_there old new span read front adds whole = ∣ record {
   entry = adds.entry;
@@ -76,7 +76,7 @@ added_there old new span read front adds whole = ∣ record {
 } ∣₁
 
 -- and that since
-pub added_since : (old new : ReadSeat) (span : Interval) (read : OwnedTime) (front : ReadFront) →
+pub added_since : (old new : ReadSeat) (span : SpanView) (read : ValueView) (front : ReadFront) →
     AddsRead old new span read front → overlaps span span ≡ true →
     HasRead span (since (seen_by old) (seen_by new)) read
 added_since old new span read front adds whole =
@@ -98,19 +98,19 @@ added_since old new span read front adds whole =
     } ∣₁
 
 -- a write that is clear of each read in a history is clear of those that it has
-pub clear_of_all : (span : Interval) (h : History) (by : Owner) (at : Time) (reads : List OwnedTime)
+pub clear_of_all : (span : SpanView) (h : History) (by : Owner) (at : Time) (reads : List ValueView)
     → IsClearOfReads h span by at → All (HasRead span h) reads →
     All (λ read. IsClearOf read by at) reads
 clear_of_all span h by at reads clear all k d below =
     elim (clear_or_not (slice_index_or reads k d) by at) [
       | inl is ↦ is
       | inr not ↦ absurd (∥∥₁_elim (all k d below) (λ x y. absurd x) (λ adds.
-          not (subst (λ (read : OwnedTime). IsClearOf read by at) adds.value
+          not (subst (λ (read : ValueView). IsClearOf read by at) adds.value
           (clear adds.entry adds.mark adds.there adds.own adds.over))))
     ]
 
 -- what was there is there still where a seat goes on, at the same cache
-pub still_all : (at : ReadCache) (old new : ReadSeat) (span : Interval) (reads : List OwnedTime) →
+pub still_all : (at : ReadCache) (old new : ReadSeat) (span : SpanView) (reads : List ValueView) →
     GoesOn old new → cache_of old ≡ at → All (HasRead span (seen_by old)) reads →
     (cache_of new ≡ at) × All (HasRead span (seen_by new)) reads
 still_all at old new span reads on own all = (
@@ -119,8 +119,8 @@ still_all at old new span reads on own all = (
 )
 
 -- A read that was added is handed on with the others, once its front was learned.
-pub handed_on : (old new : ReadSeat) (span own : Interval) (read : OwnedTime) (front : ReadFront)
-    (handed : History) (reads : List OwnedTime)
+pub handed_on : (old new : ReadSeat) (span own : SpanView) (read : ValueView) (front : ReadFront)
+    (handed : History) (reads : List ValueView)
     → own ≡ span → AddsRead old new span read front → overlaps own own ≡ true →
     BeginsWith handed (shown_by front) → All (HasRead own handed) reads →
     All (HasRead own handed) (reads ++ read ∷ [])
@@ -129,36 +129,36 @@ handed_on old new span own read front handed reads same adds whole begins all =
     let shown : BeginsWith handed seen =
     subst (λ (h : History). BeginsWith handed h) adds.front begins in
     let there : HasRead span seen read = added_there old new span read front adds
-    (subst (λ (s : Interval). overlaps s s ≡ true) same whole) in
+    (subst (λ (s : SpanView). overlaps s s ≡ true) same whole) in
     let here : HasRead own seen read =
-    subst (λ (s : Interval). HasRead s seen read) (sym same) there in
+    subst (λ (s : SpanView). HasRead s seen read) (sym same) there in
     let last : All (HasRead own seen) (read ∷ []) =
     All-push (HasRead own seen) [] read (All-nil (HasRead own seen)) here in
     All-append (HasRead own handed) reads (read ∷ []) all
     (all_there_still own handed seen (read ∷ []) shown last)
 
 -- all that were answered, whether one more was kept or not
-pub kept_or_not : (P : OwnedTime → Type 0) (xs ys : List OwnedTime) (x : OwnedTime) (b : Bool) →
+pub kept_or_not : (P : ValueView → Type 0) (xs ys : List ValueView) (x : ValueView) (b : Bool) →
     ys ≡ (if b then xs ++ x ∷ [] else xs) → All P xs → All P (xs ++ x ∷ []) → All P ys
 kept_or_not P xs ys x true is all more = subst (All P) (sym is) more
 kept_or_not P xs ys x false is all more = subst (All P) (sym is) all
 
-pub one_more : (xs ys zs : List OwnedTime) (x y : OwnedTime) → zs ≡ ys ++ x ∷ [] → ys ≡ xs → x ≡ y →
+pub one_more : (xs ys zs : List ValueView) (x y : ValueView) → zs ≡ ys ++ x ∷ [] → ys ≡ xs → x ≡ y →
     zs ≡ xs ++ y ∷ []
-one_more xs ys zs x y is same own = is ∙ ap (λ (l : List OwnedTime). l ++ x ∷ []) same ∙
-    ap (λ (v : OwnedTime). xs ++ v ∷ []) own
+one_more xs ys zs x y is same own = is ∙ ap (λ (l : List ValueView). l ++ x ∷ []) same ∙
+    ap (λ (v : ValueView). xs ++ v ∷ []) own
 
 -- A write is clear of all reads that are handed on to its seat before it asks, and of what its seat
 -- has seen.
-pub clear_of_handed : (span own : Interval) (handed : History) (old new : ReadSeat) (by : Owner)
-    (from : Time) (told : Option Time) (reads : List OwnedTime)
+pub clear_of_handed : (span own : SpanView) (handed : History) (old new : ReadSeat) (by : Owner)
+    (from : Time) (reported : Option Time) (reads : List ValueView)
     → own ≡ span → BeginsWith (seen_by old) handed →
-    AsksEarliestAt read_seat old new own by from told → All (HasRead span handed) reads →
-    IfSome told (λ at. IsClearFor reads (seen_by new) span by at)
+    AsksEarliestAt read_seat old new own by from reported → All (HasRead span handed) reads →
+    IfSome reported (λ at. IsClearFor reads (seen_by new) span by at)
 clear_of_handed span own handed old new by from None reads same begins asks all = tt
 clear_of_handed span own handed old new by from (Some at) reads same begins asks all =
     let seen : History = seen_by new in
-    let clear = subst (λ (s : Interval). IsClearOfReads seen s by at) same asks.reads in
+    let clear = subst (λ (s : SpanView). IsClearOfReads seen s by at) same asks.reads in
     record {
       answered = clear_of_all span seen by at reads clear
           (all_there_still span seen handed reads

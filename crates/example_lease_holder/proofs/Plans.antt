@@ -5,7 +5,7 @@ use Rattle.std.specs.Int.{to_be_bytes, from_be_bytes, w32, w128}
 use Rattle.std.proofs.lemmas.Nat.{from_be_bytes-to_be_bytes_4}
 use Rattle.std.proofs.Math.Logic.{∥∥₁_map}
 use Rattle.tsc_cache.proofs.Beginnings.{begins_entries}
-use Rattle.timestamp_cache.specs.Words.{Time, is_before, Owner, OwnedTime, Interval, point, History, BeginsWith}
+use Rattle.timestamp_cache.specs.Words.{Time, is_before, Owner, ValueView, SpanView, point, History, BeginsWith}
 use Rattle.timestamp_cache.specs.Clear.{IsClearOfReads}
 use Rattle.example_lease_holder.specs.declared.Plan.{Plan}
 use Rattle.example_lease_holder.specs.declared.lease.Written.{Written}
@@ -34,7 +34,7 @@ unfolding id_of
 id_is name number id is same = is ∙ ap (to_be_bytes w128) same
 
 -- what a history has, each that begins with it has too
-pub there_still : (span : Interval) (h start : History) (read : OwnedTime) → BeginsWith h start →
+pub there_still : (span : SpanView) (h start : History) (read : ValueView) → BeginsWith h start →
     HasRead span start read → HasRead span h read
 there_still span h start read begins has = ∥∥₁_map has (λ adds. record {
   entry = adds.entry;
@@ -87,20 +87,20 @@ may_write plan h by wanted at own from on clear = record {
   clear = subst (λ (o : Owner). IsClearOfReads h (point plan.write.0.now) o at) own clear;
 }
 
-pub may_write_told : {E : Type 0} (r : Result Written E) (plan : Plan) (h : History) (by : Owner)
-    (wanted : Time) → by ≡ id_of plan.name → wanted ≡ time_at plan.write.1
+pub may_write_reported : {E : Type 0} (r : Result Written E) (plan : Plan) (h : History)
+    (by : Owner) (wanted : Time) → by ≡ id_of plan.name → wanted ≡ time_at plan.write.1
     → IfOk r (λ written. is_before written.at wanted ≡ false) →
     IfOk r (λ written. IsClearOfReads h (point plan.write.0.now) by written.at) →
     IfOk r (λ written. MayWriteAt plan h written.at)
-may_write_told (Ok written) plan h by wanted own from on clear =
+may_write_reported (Ok written) plan h by wanted own from on clear =
     may_write plan h by wanted written.at own from on clear
-may_write_told (Err e) plan h by wanted own from on clear = tt
+may_write_reported (Err e) plan h by wanted own from on clear = tt
 
 -- What is clear of the reads on a span that a write was told of is clear of those on its key.
-pub clear_at : (h : History) (span : Interval) (key : List ℕ) (by : Owner) (at : Time)
-    (told : Option Time) (reads : List OwnedTime) → told ≡ Some at → span ≡ point key →
-    IfSome told (λ t. IsClearFor reads h span by t) → IsClearOfReads h (point key) by at
-clear_at h span key by at told reads is own clear =
+pub clear_at : (h : History) (span : SpanView) (key : List ℕ) (by : Owner) (at : Time)
+    (reported : Option Time) (reads : List ValueView) → reported ≡ Some at → span ≡ point key →
+    IfSome reported (λ t. IsClearFor reads h span by t) → IsClearOfReads h (point key) by at
+clear_at h span key by at reported reads is own clear =
     let here : IfSome (Some at) (λ t. IsClearFor reads h span by t) =
     subst (λ (o : Option Time). IfSome o (λ t. IsClearFor reads h span by t)) is clear in
-    subst (λ (s : Interval). IsClearOfReads h s by at) own here.seen
+    subst (λ (s : SpanView). IsClearOfReads h s by at) own here.seen

@@ -4,7 +4,7 @@ use Rattle.std.specs.Prelude.{map}
 use Rattle.std.proofs.lemmas.List.{map-append}
 use Rattle.tsc_shared.specs.Seats.{SharedView, SeatView, new_seats}
 use Rattle.tsc_shared.specs.Answers.{Opens}
-use Rattle.timestamp_cache.specs.Words.{Settings}
+use Rattle.timestamp_cache.specs.Words.{ConfigView}
 
 -- what holds of each element holds of each but the first
 pub others_too : {A : Type 0} (P : A → Type 0) (xs ys : List A) (x : A) → xs ≡ x ∷ ys →
@@ -29,10 +29,10 @@ new_one cache from (suc others) zero d below = refl
 new_one cache from (suc others) (suc k) d below =
     new_one cache (suc from) others k d (omega (arith, below))
 
-pub each_is_of : (settings : Settings) (count limit : ℕ) (cache : SharedView)
-    (seats : List SeatView) → Opens settings count limit cache seats
+pub each_is_of : (config : ConfigView) (count limit : ℕ) (cache : SharedView)
+    (seats : List SeatView) → Opens config count limit cache seats
     → (k : ℕ) (d : SeatView) → k < length seats → (slice_index_or seats k d).cache ≡ cache
-each_is_of settings count limit cache seats opens =
+each_is_of config count limit cache seats opens =
     subst (λ ss. (k : ℕ) (d : SeatView) → k < length ss → (slice_index_or ss k d).cache ≡ cache)
     (sym opens.in_order) (new_one cache 0 count)
 

@@ -3,7 +3,7 @@ use Rattle.std.proofs.Common.{◌≡◌, ◌∙◌, ap, sym, subst, refl, List, 
 use Rattle.std.specs.List.{Contains}
 use Rattle.std.proofs.Math.Logic.{∥∥₁_map}
 use Rattle.std.proofs.lemmas.List.Elements.{Contains-append_right}
-use Rattle.timestamp_cache.specs.Words.{OwnedTime, Interval, History, BeginsWith}
+use Rattle.timestamp_cache.specs.Words.{ValueView, SpanView, History, BeginsWith}
 use Rattle.example_lease_holder.specs.Reads.{HasRead, since}
 
 -- behind the first of two lists stands the second
@@ -31,7 +31,7 @@ pub since_begins : (h g f : History) → BeginsWith h g → BeginsWith g f →
 since_begins h g f b a = (since g h, since_parts h g f b a)
 
 -- what was read since a later time was read since an earlier one
-pub since_earlier : (span : Interval) (h g f : History) (read : OwnedTime) → BeginsWith h g →
+pub since_earlier : (span : SpanView) (h g f : History) (read : ValueView) → BeginsWith h g →
     BeginsWith g f → HasRead span (since g h) read → HasRead span (since f h) read
 since_earlier span h g f read b a has = ∥∥₁_map has (λ adds. record {
   entry = adds.entry;
@@ -44,7 +44,7 @@ since_earlier span h g f read b a has = ∥∥₁_map has (λ adds. record {
 })
 
 -- and is in all of it
-pub since_there : (span : Interval) (h g : History) (read : OwnedTime) → BeginsWith h g →
+pub since_there : (span : SpanView) (h g : History) (read : ValueView) → BeginsWith h g →
     HasRead span (since g h) read → HasRead span h read
 since_there span h g read b has = ∥∥₁_map has (λ adds. record {
   entry = adds.entry;

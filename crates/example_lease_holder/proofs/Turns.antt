@@ -14,7 +14,7 @@ use Rattle.example_lease_holder.specs.declared.Turn.TheVariants.{Read, Write}
 use Rattle.example_lease_holder.specs.Plans.{HasReadsOf, MayWriteAt}
 use Rattle.example_lease_holder.specs.ReadSeats.{seen_by}
 use Rattle.example_lease_holder.specs.Reads.{since}
-use Rattle.example_lease_holder.specs.Turns.{IsNew, HasTaken, HasSpoken, HasTold, HasServed, IsLeftOf, WasServed}
+use Rattle.example_lease_holder.specs.Turns.{IsNew, HasTaken, HasSpoken, HasReported, HasServed, IsLeftOf, WasServed}
 use Rattle.example_lease_holder.proofs.Since.{since_there}
 
 -- what follows from two facts on what a call gives
@@ -79,22 +79,22 @@ still_taken {X} {G} turn old next new me plan wrote taken =
     }
 
 -- and so of all that have told what they had to tell
-pub have_told : {X E : Type 0} {G : Ghosts X} (turn : Turn) (workers after : List (Worker X G))
+pub have_reported : {X E : Type 0} {G : Ghosts X} (turn : Turn) (workers after : List (Worker X G))
     (ended : List (Result (Worker X G) E))
     → AllZip (λ worker end. IfOk end (HasTaken turn worker)) workers ended →
-    AllZip HasSpoken ended after → AllZip (HasTold turn) workers after
-have_told {X} {E} {G} turn workers after ended taken spoken =
+    AllZip HasSpoken ended after → AllZip (HasReported turn) workers after
+have_reported {X} {E} {G} turn workers after ended taken spoken =
     let T = λ (worker : Worker X G) (end : Result (Worker X G) E). IfOk end
     (HasTaken turn worker) in
     let S = HasSpoken {X = X} {E = E} {G = G} in
-    zip_as (By T S) (HasTold turn) workers after (λ old new w.
+    zip_as (By T S) (HasReported turn) workers after (λ old new w.
     let next = w.second.worker in
     let own : HasTaken turn old next =
     subst (λ (end : Result (Worker X G) E). IfOk end (HasTaken turn old)) w.second.through
     w.first in
     record {
       taken = still_taken turn old next new w.second.me w.second.plan w.second.wrote own;
-      told = w.second.told;
+      reported = w.second.reported;
     })
     (zip_on T S workers ended after taken spoken)
 
@@ -139,12 +139,12 @@ served {X} {G} plan start again left new turns leaves =
 
 -- what three turns make of all workers
 pub turns_taken : {X : Type 0} {G : Ghosts X} (start first then again : List (Worker X G)) →
-    AllZip (HasTold Read) start first → AllZip (HasTold Write) first then →
-    AllZip (HasTold Read) then again
+    AllZip (HasReported Read) start first → AllZip (HasReported Write) first then →
+    AllZip (HasReported Read) then again
     → AllZip HasServed start again
 turns_taken {X} {G} start first then again reads writes rereads =
-    let R = HasTold {X = X} {G = G} Read in
-    let W = HasTold {X = X} {G = G} Write in
+    let R = HasReported {X = X} {G = G} Read in
+    let W = HasReported {X = X} {G = G} Write in
     zip_as (By (By R W) R) HasServed start again
     (λ a b w. record {
       first = w.first.middle;

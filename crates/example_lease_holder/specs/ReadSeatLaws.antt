@@ -1,7 +1,7 @@
 -- What holds of each kind of seats holds of those of a cache of reads.
 use Rattle.std.specs.Prelude.{◌≡◌}
 use Rattle.std.proofs.Common.{◌∙◌, ap}
-use Rattle.timestamp_cache.specs.Words.{Time, Owner, Interval, BeginsWith}
+use Rattle.timestamp_cache.specs.Words.{Time, Owner, SpanView, BeginsWith}
 use Rattle.timestamp_cache.specs.Clear.{IsClearOf, IsClearOfReads}
 use Rattle.timestamp_cache.specs.SeatLaws.{SeatLaws, shared_seat_laws}
 use Rattle.tsc_striped_leases.specs.StripedSeats.{striped_seat_laws}
@@ -33,7 +33,7 @@ stays (Copies old) (Stripes new) on = absurd on
 stays (Stripes old) (Copies new) on = absurd on
 stays (Stripes old) (Stripes new) on = striped_seat_laws.stays old new on
 
-clear : (old new : ReadSeat) (span : Interval) (by : Owner) (at : Time) → GoesOn old new
+clear : (old new : ReadSeat) (span : SpanView) (by : Owner) (at : Time) → GoesOn old new
     → IsClearOf (answer_of (cache_of old) (seen_by new) span) by at → IsClearOfReads (seen_by new) span by at
 clear (Copies old) (Copies new) span by at on = shared_seat_laws.clear old new span by at on
 clear (Copies old) (Stripes new) span by at on = absurd on

@@ -3,7 +3,7 @@ use Rattle.std.specs.Prelude.{◌≡◌, ℕ, ◌∷◌, ◌++◌, []}
 use Rattle.tsc_striped.specs.Answers as striped
 use Rattle.tsc_shared.specs.Answers as shared
 use Rattle.tsc_striped.specs.Looks.{look_over}
-use Rattle.timestamp_cache.specs.Words.{OwnedTime, Interval, look, History, state_of, BeginsWith}
+use Rattle.timestamp_cache.specs.Words.{ValueView, SpanView, look, History, state_of, BeginsWith}
 use Rattle.timestamp_cache.specs.Words.{Entry}
 use Rattle.timestamp_cache.specs.SeatKinds.{SeatKind}
 use Rattle.example_lease_holder.specs.declared.reads.ReadCache.{ReadCache}
@@ -46,7 +46,7 @@ count_of (Copies seat) = seat.count
 count_of (Stripes seat) = seat.count
 
 -- what a cache answers to a span after a history
-abbrev pub answer_of : ReadCache → History → Interval → OwnedTime
+abbrev pub answer_of : ReadCache → History → SpanView → ValueView
 answer_of (cache.Copies c) h span = look (state_of c.config h) span
 answer_of (cache.Stripes c) h span = look_over c.terms h span
 
@@ -61,7 +61,7 @@ read_seat = record {
 
 -- A seat has added a read of a span: behind a history that begins with all that it had seen stands
 -- one entry, of that read alone. A front shows all of it.
-pub record AddsRead (old new : ReadSeat) (span : Interval) (read : OwnedTime) (shown : ReadFront)
+pub record AddsRead (old new : ReadSeat) (span : SpanView) (read : ValueView) (shown : ReadFront)
     : Type 0 where
   pub before : History
   pub entry : Entry

@@ -3,7 +3,7 @@ use Rattle.std.specs.Prelude.{ℕ, List, ◌++◌, Option, Some, None, Bool, fal
 use Rattle.std.specs.Char.{encode_utf8}
 use Rattle.std.specs.List.{find}
 use Rattle.std.specs.Str.{bytes_eq}
-use Rattle.timestamp_cache.specs.Words.{Time, is_before, Owner, OwnedTime}
+use Rattle.timestamp_cache.specs.Words.{Time, is_before, Owner, ValueView}
 use Rattle.example_lease_holder.specs.declared.Plan.{Plan}
 use Rattle.example_lease_holder.specs.declared.lease.Written.{Written}
 use Rattle.example_lease_holder.specs.Plans.{time_at, id_of}
@@ -23,7 +23,7 @@ reader owner plans = find (λ plan. is_owner owner (id_of plan.name)) plans
 
 -- what a key was read by: when and by which transaction, where there is one, or else up to which
 -- time it may have been read
-abbrev pub reason_text : List ℕ → OwnedTime → Option Plan → List ℕ
+abbrev pub reason_text : List ℕ → ValueView → Option Plan → List ℕ
 reason_text key read (Some plan) =
     codes "\"" ++ (key ++ (codes "\" was read at " ++
     (time_text read.time ++ (codes " by " ++ encode_utf8 plan.name))))

@@ -15,7 +15,7 @@ use Rattle.example_lease_holder.specs.Reads.{since}
 pub record IsNew {X : Type 0} {G : Ghosts X} (plan : Plan) (worker : Worker X G) : Type 0 where
   pub own : worker.plan.now ≡ plan
   pub wrote : worker.wrote ≡ None
-  pub told : worker.told.items ≡ []
+  pub reported : worker.reported.items ≡ []
 
 -- A worker has read: its seat has seen each read of its plan since, and when it wrote is as it was.
 pub record ReadsAgain {X : Type 0} {G : Ghosts X} (old new : Worker X G) : Type 0 where
@@ -39,20 +39,21 @@ pub record HasSpoken {X E : Type 0} {G : Ghosts X} (ended : Result (Worker X G) 
   pub me : after.me ≡ worker.me
   pub plan : after.plan ≡ worker.plan
   pub wrote : after.wrote ≡ worker.wrote
-  pub told : after.told.items ≡ []
+  pub reported : after.reported.items ≡ []
 
 -- A worker has taken a turn, and has told what it had to tell.
-pub record HasTold {X : Type 0} {G : Ghosts X} (turn : Turn) (old new : Worker X G) : Type 0 where
-  pub taken : HasTaken turn old new
-  pub told : new.told.items ≡ []
+pub record HasReported {X : Type 0} {G : Ghosts X} (turn : Turn) (old new : Worker X G) : Type 0
+  where
+    pub taken : HasTaken turn old new
+    pub reported : new.reported.items ≡ []
 
 -- A worker has taken three turns: it has read, has then written, and has then read again.
 pub record HasServed {X : Type 0} {G : Ghosts X} (old new : Worker X G) : Type 0 where
   pub first : Worker X G
   pub then : Worker X G
-  pub reads : HasTold Read old first
-  pub writes : HasTold Write first then
-  pub again : HasTold Read then new
+  pub reads : HasReported Read old first
+  pub writes : HasReported Write first then
+  pub again : HasReported Read then new
 
 -- What is left of a worker: its seat, its plan, and when it wrote.
 pub record IsLeftOf {X : Type 0} {G : Ghosts X} (worker : Worker X G) (left : Served) : Type 0 where

@@ -8,7 +8,7 @@ ghost use Rattle.std.specs.Str.{bytes_eq};
 ghost use Rattle.std.specs.Sync.Mutex.{mutex_guard_value};
 ghost use Rattle.timestamp_cache.specs.Words.{zero_time, is_before, point, overlaps, BeginsWith};
 ghost use Rattle.timestamp_cache.specs.Clear.{IsClearOf, IsClearOfReads, AsksEarliestAt};
-ghost use Rattle.timestamp_cache.specs.Earliest.{TellsEarliest};
+ghost use Rattle.timestamp_cache.specs.Earliest.{ReportsEarliest};
 ghost use Rattle.example_lease_holder.specs.Reads.{HasRead, IsClearFor, read_of, since};
 ghost use Rattle.example_lease_holder.specs.ReadSeats.{seen_by, cache_of, shown_by, shown_of};
 ghost use Rattle.example_lease_holder.specs.ReadSeats.{answer_of, read_seat};
@@ -180,8 +180,8 @@ impl<G: Range> Lease<G> {
         ensures seat { BeginsWith (seen_by me.new.seat) (seen_by me.old.seat) }
     {
         let mut held = self.hold(rt, key)?;
-        let told = self.read(rt, me, &mut held, at, by)?;
-        told.context("no version")
+        let reported = self.read(rt, me, &mut held, at, by)?;
+        reported.context("no version")
     }
 
     /// Reads a key at a time, while its latch is held. The read is added before it is answered, and
@@ -239,8 +239,8 @@ impl<G: Range> Lease<G> {
         ensures seat { BeginsWith (seen_by me.new.seat) (seen_by me.old.seat) }
     {
         let mut held = self.hold(rt, key)?;
-        let told = self.write(rt, me, &mut held, wanted)?;
-        let at = told.context("no time is late enough")?;
+        let reported = self.write(rt, me, &mut held, wanted)?;
+        let at = reported.context("no time is late enough")?;
         let reason = self.reason(rt, &mut held);
         Ok(Written { at, reason })
     }
@@ -257,15 +257,15 @@ impl<G: Range> Lease<G> {
         wanted: Wanted,
     ) -> Result<Option<Timestamp>, NoMemory>
         ensures clear { IfOk result
-            (λ told. IfSome told (λ at. IsClearFor held.old.answered.items (seen_by me.new.seat)
-            held.old.span wanted.by at)) }
+            (λ reported. IfSome reported (λ at. IsClearFor held.old.answered.items
+            (seen_by me.new.seat) held.old.span wanted.by at)) }
         ensures pushed { IfOk result
-            (λ told. TellsEarliest
+            (λ reported. ReportsEarliest
             (λ t. IsClearOf (answer_of G.cache (seen_by me.new.seat) held.old.span)
-            wanted.by t) wanted.at told) }
+            wanted.by t) wanted.at reported) }
         ensures written { IfOk result
-            (λ told. held.new.versions.items ≡
-            held.old.versions.items ++ written told wanted.value) }
+            (λ reported. held.new.versions.items ≡
+            held.old.versions.items ++ written reported wanted.value) }
         ensures refused { OnErr result (held.new.versions.items ≡ held.old.versions.items) }
         ensures seat { BeginsWith (seen_by me.new.seat) (seen_by me.old.seat) }
         ensures key { (held.new.span ≡ held.old.span) ×
@@ -273,11 +273,11 @@ impl<G: Range> Lease<G> {
     {
         self.take_over(rt, me, held);
         let (from, by, value) = (wanted.at, wanted.by, wanted.value);
-        let told = self.earliest(rt, me, held, from, by);
-        if let Some(at) = told {
+        let reported = self.earliest(rt, me, held, from, by);
+        if let Some(at) = reported {
             held.versions.push(Version { at, value })?;
         }
-        Ok(told)
+        Ok(reported)
     }
 
     /// The earliest time from the wanted one on at which a write of the key is clear of what the
@@ -298,10 +298,10 @@ impl<G: Range> Lease<G> {
             rt,
         };
         let spans = slice::from_ref(&held.span);
-        let Ok(told) = earliest_write_at(&asked, &mut me.seat, spans, wanted, by) else {
+        let Ok(reported) = earliest_write_at(&asked, &mut me.seat, spans, wanted, by) else {
             unreachable!()
         };
-        told
+        reported
     }
 
     /// The seat takes in all that the latch hands on.

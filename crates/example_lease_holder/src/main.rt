@@ -11,7 +11,7 @@ ghost use Rattle.example_lease_holder.specs.Reads.{HasRead, read_of, since};
 ghost use Rattle.example_lease_holder.specs.ReadSeats.{seen_by, cache_of};
 ghost use Rattle.example_lease_holder.specs.Plans.{time_at, id_of, HasReadsOf, MayWriteAt};
 ghost use Rattle.example_lease_holder.specs.Texts.{time_text, is_owner, reader, reason_text, read_text, wanted_text, pushed_text, write_text};
-ghost use Rattle.example_lease_holder.specs.Turns.{IsNew, HasTaken, HasSpoken, HasTold, HasServed, IsLeftOf, WasServed};
+ghost use Rattle.example_lease_holder.specs.Turns.{IsNew, HasTaken, HasSpoken, HasReported, HasServed, IsLeftOf, WasServed};
 
 mod lease;
 mod reads;
@@ -71,7 +71,7 @@ struct Worker<G: Range> {
     me: RangeSeat<G>,
     plan: &'static Plan,
     wrote: Option<Timestamp>,
-    told: Vec<String>,
+    reported: Vec<String>,
 }
 
 /// What is left of a thread: its seat, its transaction, and when that wrote.
@@ -210,7 +210,7 @@ fn keep(lines: &mut Vec<String>, line: Result<String, AllocError>) -> Result<()>
 }
 
 /// Writes the key of a plan, by its transaction, under the latch of that key.
-fn lay_down<G: Range, R: Wait>(
+fn write_plan<G: Range, R: Wait>(
     rt: &R,
     lease: &Lease<G>,
     me: &mut RangeSeat<G>,
@@ -235,8 +235,8 @@ impl<G: Range> Worker<G> {
         ensures added { OnOk result
             (HasReadsOf self.old.plan.now
             (since (seen_by self.old.me.seat) (seen_by self.new.me.seat))) }
-        ensures told { OnOk result
-            (length self.new.told.items ≡ length self.old.told.items + length
+        ensures reported { OnOk result
+            (length self.new.reported.items ≡ length self.old.reported.items + length
             self.old.plan.now.reads.now) }
         ensures seat { BeginsWith (seen_by self.new.me.seat) (seen_by self.old.me.seat) }
         ensures plan { self.new.plan ≡ self.old.plan }
@@ -263,8 +263,9 @@ impl<G: Range> Worker<G> {
             (HasRead (point row.now.0.now)
             (since (seen_by self.old.me.seat) (seen_by self.new.me.seat))
             (read_of (time_at row.now.1) (id_of name))) }
-        ensures told { OnOk result (length self.new.told.items ≡ length self.old.told.items + 1) }
-        ensures refused { OnErr result (self.new.told.items ≡ self.old.told.items) }
+        ensures reported { OnOk result (length self.new.reported.items ≡ length
+            self.old.reported.items + 1) }
+        ensures refused { OnErr result (self.new.reported.items ≡ self.old.reported.items) }
         ensures seat { BeginsWith (seen_by self.new.me.seat) (seen_by self.old.me.seat) }
         ensures plan { self.new.plan ≡ self.old.plan }
         ensures wrote { self.new.wrote ≡ self.old.wrote }
@@ -272,7 +273,7 @@ impl<G: Range> Worker<G> {
         let (key, wall) = *row;
         let time = at(wall);
         let value = lease.read_key(rt, &mut self.me, key, time, id_of(name))?;
-        keep(&mut self.told, read_line(alloc, name, key, time, value))
+        keep(&mut self.reported, read_line(alloc, name, key, time, value))
     }
 
     /// Writes the key of its transaction, and tells at which time: not before the wanted one, and
@@ -281,29 +282,30 @@ impl<G: Range> Worker<G> {
     fn write<R: Wait>(&mut self, rt: &R, alloc: Global, lease: &Lease<G>) -> Result<Timestamp>
         ensures clear { IfOk result
             (λ time. MayWriteAt self.old.plan.now (seen_by self.new.me.seat) time) }
-        ensures told { OnOk result (length self.new.told.items ≡ length self.old.told.items + 1) }
+        ensures reported { OnOk result (length self.new.reported.items ≡ length
+            self.old.reported.items + 1) }
         ensures seat { BeginsWith (seen_by self.new.me.seat) (seen_by self.old.me.seat) }
         ensures plan { self.new.plan ≡ self.old.plan }
         ensures wrote { IfOk result (λ time. self.new.wrote ≡ Some time) }
     {
         let plan = self.plan;
-        let written = lay_down(rt, lease, &mut self.me, plan)?;
+        let written = write_plan(rt, lease, &mut self.me, plan)?;
         let time = written.at;
-        keep(&mut self.told, write_line(alloc, plan, written, &PLANS))?;
+        keep(&mut self.reported, write_line(alloc, plan, written, &PLANS))?;
         self.wrote = Some(time);
         Ok(time)
     }
 
     /// Prints what it has to tell.
-    fn tell<R: Print>(&mut self, rt: &R) -> Result<()>
-        ensures told { OnOk result (self.new.told.items ≡ []) }
+    fn report<R: Print>(&mut self, rt: &R) -> Result<()>
+        ensures reported { OnOk result (self.new.reported.items ≡ []) }
         ensures same { (self.new.me ≡ self.old.me) × (self.new.plan ≡ self.old.plan) ×
             (self.new.wrote ≡ self.old.wrote) }
     {
-        for line in &self.told {
+        for line in &self.reported {
             println!(rt; "{line}")?;
         }
-        self.told.clear();
+        self.reported.clear();
         Ok(())
     }
 }
@@ -346,7 +348,7 @@ fn all_take<G: Range + Send + Sync, R: Threads + Wait + Sync>(
 }
 
 /// Has all threads print what they have to tell, in their order, where each came through its turn.
-fn all_tell<G: Range, R: Print>(
+fn all_report<G: Range, R: Print>(
     rt: &R,
     alloc: Global,
     ended: Vec<Result<Worker<G>>>,
@@ -356,7 +358,7 @@ fn all_tell<G: Range, R: Print>(
     let mut after = Vec::new(alloc);
     for worker in ended {
         let mut worker = worker?;
-        worker.tell(rt)?;
+        worker.report(rt)?;
         after.push(worker)?;
     }
     Ok(after)
@@ -370,10 +372,10 @@ fn all_do<G: Range + Send + Sync, R: Threads + Wait + Sync + Print>(
     workers: Vec<Worker<G>>,
     turn: Turn,
 ) -> Result<Vec<Worker<G>>>
-    ensures { IfOk result (λ after. AllZip (HasTold turn) workers.items after.items) }
+    ensures { IfOk result (λ after. AllZip (HasReported turn) workers.items after.items) }
 {
     let ended = all_take(rt, alloc, lease, workers, turn)?;
-    all_tell(rt, alloc, ended)
+    all_report(rt, alloc, ended)
 }
 
 /// The seats in their order, by a type that shows whose they are.
@@ -426,12 +428,12 @@ fn worker_of<G: Range>(
 ) -> Result<Worker<G>>
     ensures { IfOk result (λ worker. IsNew plan.now worker) }
 {
-    let (me, told) = (seats.pop().context("no seat")?, Vec::new(alloc));
+    let (me, reported) = (seats.pop().context("no seat")?, Vec::new(alloc));
     Ok(Worker {
         me,
         plan,
         wrote: None,
-        told,
+        reported,
     })
 }
 
@@ -475,7 +477,7 @@ fn left_of<G: Range>(alloc: Global, workers: Vec<Worker<G>>) -> Result<Vec<Serve
             me,
             plan,
             wrote,
-            told: _,
+            reported: _,
         } = worker;
         let seat = me.seat;
         left.push(Served { seat, plan, wrote })?;

@@ -147,10 +147,8 @@ impl ReadCache {
                 let ReadSeat::Copies(seat) = seat else {
                     unreachable!()
                 };
-                match cache.look_up(seat, span) {
-                    Ok(value) => value,
-                    Err(_gone) => unreachable!(),
-                }
+                let answer = cache.get_max_ref(seat, &span.borrowed());
+                answer.value
             }
             ReadCache::Stripes(cache) => {
                 let ReadSeat::Stripes(seat) = seat else {
@@ -176,9 +174,7 @@ impl ReadCache {
                 let ReadFront::Copies(front) = front else {
                     unreachable!()
                 };
-                let Ok(_long) = cache.learn(seat, front) else {
-                    unreachable!()
-                };
+                cache.catch_up(seat, front);
             }
             ReadCache::Stripes(cache) => {
                 let ReadSeat::Stripes(seat) = seat else {
@@ -206,9 +202,7 @@ impl ReadCache {
                 let ReadSeat::Copies(second) = second else {
                     unreachable!()
                 };
-                let Ok(_long) = cache.meet(rt, first, second) else {
-                    unreachable!()
-                };
+                cache.catch_up_both(first, second);
             }
             ReadCache::Stripes(cache) => {
                 let ReadSeat::Stripes(first) = first else {

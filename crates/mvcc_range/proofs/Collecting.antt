@@ -9,13 +9,13 @@ use Rattle.tsc_time.proofs.TimeOrder.{
   is_before-opposite,
   is_before-transitive,
   no_earlier-transitive,
-  later-tells,
+  later-reports,
 }
 use Rattle.timestamp_cache.specs.Words.{Time, is_before, Owner, KeyBytes}
-use Rattle.mvcc_versions.specs.Versions.{Content, Version, Write, after_writes, laid, kept_from, unless_deletion, newest_time, IsAfter}
+use Rattle.mvcc_versions.specs.Versions.{Content, Version, Write, after_writes, stored, kept_from, unless_deletion, newest_time, IsAfter}
 use Rattle.mvcc_versions.proofs.Lists.{each}
-use Rattle.mvcc_range.proofs.Placing.{found, found_laid, upto}
-use Rattle.mvcc_range.proofs.Laying.{AreNewestFirst}
+use Rattle.mvcc_range.proofs.Placing.{found, found_stored, upto}
+use Rattle.mvcc_range.proofs.Storing.{AreNewestFirst}
 
 -- ---- times
 
@@ -32,7 +32,7 @@ upto_passes at threshold on u early = elim (cases_Bool (is_before at u)) [
 ]
 
 pub later_on : (a b : Time) → is_before (later a b) a ≡ false
-later_on a b = elim (later-tells a b) [
+later_on a b = elim (later-reports a b) [
   | inl h ↦ subst (λ (x : Time). is_before x a ≡ false) (sym h.1) (is_before-opposite a b h.0)
   | inr h ↦ subst (λ (x : Time). is_before x a ≡ false) (sym h.1) (is_before-itself a)
 ]
@@ -56,32 +56,33 @@ pub record AgreesFrom (threshold : Time) (kept all : List Version) : Type 0 wher
 pub agrees_itself : (threshold : Time) (vs : List Version) → AgreesFrom threshold vs vs
 agrees_itself threshold vs = record { found = λ passes h. refl; after = λ t on h. h }
 
-laid_after : (k : KeyBytes) (at : Time) (by : Owner) (ws : List Write) (kept all : List Version)
+stored_after : (k : KeyBytes) (at : Time) (by : Owner) (ws : List Write) (kept all : List Version)
     (t : Time) → (IsAfter (newest_time kept) t → IsAfter (newest_time all) t)
-    → IsAfter (newest_time (laid k at by ws kept)) t → IsAfter (newest_time (laid k at by ws all)) t
-laid_after k at by [] kept all t f h = f h
-laid_after k at by (w ∷ ws) kept all t f h = elim (cases_Bool (bytes_eq w.key k)) [
-  | inl own ↦ rw own (laid_after k at by ws (one ∷ kept) (one ∷ all) t (λ x. x) (there true own))
-  | inr other ↦ rw other (laid_after k at by ws kept all t f (there false other))
+    → IsAfter (newest_time (stored k at by ws kept)) t →
+    IsAfter (newest_time (stored k at by ws all)) t
+stored_after k at by [] kept all t f h = f h
+stored_after k at by (w ∷ ws) kept all t f h = elim (cases_Bool (bytes_eq w.key k)) [
+  | inl own ↦ rw own (stored_after k at by ws (one ∷ kept) (one ∷ all) t (λ x. x) (there true own))
+  | inr other ↦ rw other (stored_after k at by ws kept all t f (there false other))
 ]
   where
     one : Version
     one = record { at = at; by = by; content = w.content }
 
     there : (b : Bool) → bytes_eq w.key k ≡ b
-        → IsAfter (newest_time (laid k at by ws (if b then one ∷ kept else kept))) t
+        → IsAfter (newest_time (stored k at by ws (if b then one ∷ kept else kept))) t
     there b is =
-        subst (λ (x : Bool). IsAfter (newest_time (laid k at by ws (if x then one ∷ kept else
+        subst (λ (x : Bool). IsAfter (newest_time (stored k at by ws (if x then one ∷ kept else
         kept))) t) is h
 
-pub agrees_laid : (threshold : Time) (k : KeyBytes) (at : Time) (by : Owner) (ws : List Write)
+pub agrees_stored : (threshold : Time) (k : KeyBytes) (at : Time) (by : Owner) (ws : List Write)
     (kept all : List Version) → AgreesFrom threshold kept all
-    → AgreesFrom threshold (laid k at by ws kept) (laid k at by ws all)
-agrees_laid threshold k at by ws kept all a = record {
-  found = λ passes h. found_laid passes k at by ws kept
+    → AgreesFrom threshold (stored k at by ws kept) (stored k at by ws all)
+agrees_stored threshold k at by ws kept all a = record {
+  found = λ passes h. found_stored passes k at by ws kept
       ∙ (ap (λ (x : Content). if passes at then after_writes k x ws else x) (a.found passes h)
-      ∙ sym (found_laid passes k at by ws all));
-  after = λ t on. laid_after k at by ws kept all t (a.after t on);
+      ∙ sym (found_stored passes k at by ws all));
+  after = λ t on. stored_after k at by ws kept all t (a.after t on);
 }
 
 pub found_kept : (passes : Time → Bool) (from : Time) (vs : List Version) → PassesBefore from passes

@@ -2,8 +2,8 @@
 -- serial.
 use Rattle.std.proofs.Common.{◌≡◌, refl, ℕ, List, [], ◌∷◌, map, Some, None, arith}
 use Rattle.tsc_span.specs.Span.{between, before}
-use Rattle.timestamp_cache.specs.Words.{Time, Owner, KeyBytes, Interval, point}
-use Rattle.mvcc_versions.specs.Versions.{Version, Write, Read, content_as_of, newest_content, laid}
+use Rattle.timestamp_cache.specs.Words.{Time, Owner, KeyBytes, SpanView, point}
+use Rattle.mvcc_versions.specs.Versions.{Version, Write, Read, content_as_of, newest_content, stored}
 use Rattle.mvcc_range.specs.Serial.{Transaction, empty, IsSerial, serial_order}
 
 abbrev time : ℕ → Time
@@ -22,7 +22,7 @@ a = 97 ∷ []
 abbrev m : KeyBytes
 m = 109 ∷ []
 
-abbrev letters : Interval
+abbrev letters : SpanView
 letters = between (before a) (before (122 ∷ []))
 
 -- ---- versions
@@ -54,10 +54,10 @@ gone_in_the_end = refl
 abbrev writes : KeyBytes → List Write
 writes k = (record { key = k; content = Some (1 ∷ []) }) ∷ []
 
-another_key : laid a (time 30) alice (writes m) versions ≡ versions
+another_key : stored a (time 30) alice (writes m) versions ≡ versions
 another_key = refl
 
-last_write : newest_content (laid a (time 30) alice (record {
+last_write : newest_content (stored a (time 30) alice (record {
   key = a;
   content = Some (2 ∷ []);
 } ∷ writes a) versions) ≡ Some (1 ∷ [])
@@ -86,7 +86,7 @@ by_commit = refl
 
 -- ---- what is not serial
 
-abbrev nothing_in : Interval → Read
+abbrev nothing_in : SpanView → Read
 nothing_in span = record { span = span; rows = [] }
 
 none_some : (b : List ℕ) → None ≡ Some b → ⊥

@@ -16,7 +16,7 @@ use Rattle.tsc_cache.proofs.Histories.{clear_below}
 use Rattle.tsc_cache.specs.CacheView.{StandsAfterAll}
 use Rattle.timestamp_cache.proofs.Rising.{answers_rise, stands_longer}
 use Rattle.tsc_cache.proofs.StatesSeen.{answers_look}
-use Rattle.timestamp_cache.specs.Words.{Time, is_before, Owner, OwnedTime, owner_of, IsAtMost, KeyBytes, Interval, point, Mark, Settings, CacheView, RepresentsState, History, state_of, cache_answer}
+use Rattle.timestamp_cache.specs.Words.{Time, is_before, Owner, ValueView, owner_of, IsAtMost, KeyBytes, SpanView, point, Mark, ConfigView, CacheView, RepresentsState, History, state_of, cache_answer}
 use Rattle.timestamp_cache.specs.Clear.{IsClearOf}
 use Rattle.uuid.specs.Parts.{is_nil_bytes}
 use Rattle.mvcc_versions.specs.Versions.{
@@ -30,7 +30,7 @@ use Rattle.mvcc_versions.specs.Versions.{
   after_writes,
   content_as_of,
   as_of,
-  laid,
+  stored,
   newest_time,
   IsAfter,
   Matches,
@@ -66,7 +66,7 @@ use Rattle.mvcc_range.proofs.Placing.{
   always,
   as_of_found,
   newest_found,
-  found_laid,
+  found_stored,
   content_after,
   all_leave,
   ordered,
@@ -75,34 +75,34 @@ use Rattle.mvcc_range.proofs.Placing.{
   matches_same,
   AreUndisturbed,
   serial_placed,
-  all_laid,
+  all_stored,
 }
 use Rattle.mvcc_range.proofs.Collecting.{
   AgreesFrom,
   upto_passes,
   later_on,
   agrees_itself,
-  agrees_laid,
+  agrees_stored,
   found_kept,
   agrees_kept,
   kept_newest_first,
   all_from_kept,
 }
-use Rattle.mvcc_range.proofs.Laying.{
+use Rattle.mvcc_range.proofs.Storing.{
   AreNewestFirst,
   later_than_all,
-  laid_newest_first,
-  laid_parts,
-  each_laid,
+  stored_newest_first,
+  stored_parts,
+  each_stored,
 }
 
 -- To each key of a span that a read covers, a cache answers no less than the read.
-abbrev pub IsGuarded : Interval → CacheView → Time → Owner → Read → Type 0
+abbrev pub IsGuarded : SpanView → CacheView → Time → Owner → Read → Type 0
 IsGuarded span cache at by read = (k : KeyBytes) → covers span k ≡ true → covers read.span k ≡ true
     → IsAtMost (mark_of at by read).value (cache_answer cache (point k))
 
 -- The reads of each transaction that committed are guarded at the time at which it committed.
-abbrev pub AreGuarded : Interval → CacheView → List Transaction → Type 0
+abbrev pub AreGuarded : SpanView → CacheView → List Transaction → Type 0
 AreGuarded span cache committed =
     AllByRecursion (λ (u : Transaction). AllByRecursion
     (λ (r : Read). IsGuarded span cache u.at u.by r) u.reads) committed
@@ -120,25 +120,25 @@ IsKept range a = IsGuarded range.span range.cache a.at a.by a.read × IsStillSo 
 -- What stays so of a range.
 pub record Keeps (range : RangeView) (answered : List Answered)
     (committed : List Transaction) : Type 0 where
-  pub settings : Settings
+  pub config : ConfigView
   pub history : History
-  pub stands : RepresentsState range.cache settings (state_of settings history)
+  pub stands : RepresentsState range.cache config (state_of config history)
   pub agrees : (k : KeyBytes) → AgreesFrom range.threshold (chain_of range.chains k)
-      (all_laid committed k)
+      (all_stored committed k)
   pub newest : (k : KeyBytes) → AreNewestFirst (chain_of range.chains k)
-  pub all_newest : (k : KeyBytes) → AreNewestFirst (all_laid committed k)
+  pub all_newest : (k : KeyBytes) → AreNewestFirst (all_stored committed k)
   pub guarded : AreGuarded range.span range.cache committed
-  pub found : (passes : Time → Bool) (k : KeyBytes) → found passes (all_laid committed k)
+  pub found : (passes : Time → Bool) (k : KeyBytes) → found passes (all_stored committed k)
       ≡ content_after passes k None (serial_order committed)
   pub serial : IsSerial empty (serial_order committed)
   pub kept : AllByRecursion (IsKept range) answered
 
 -- To no key of a span the one cache answers less than the other.
-abbrev pub AnswersNoLess : Interval → CacheView → CacheView → Type 0
+abbrev pub AnswersNoLess : SpanView → CacheView → CacheView → Type 0
 AnswersNoLess span old new = (k : KeyBytes) → covers span k ≡ true
     → IsAtMost (cache_answer old (point k)) (cache_answer new (point k))
 
-guarded_on : (span : Interval) (old new : CacheView) (committed : List Transaction)
+guarded_on : (span : SpanView) (old new : CacheView) (committed : List Transaction)
     → AnswersNoLess span old new → AreGuarded span old committed → AreGuarded span new committed
 guarded_on span old new committed less guarded =
     each (λ (u : Transaction). AllByRecursion (λ (r : Read). IsGuarded span old u.at u.by r)
@@ -156,25 +156,25 @@ abbrev more : History → List Mark → Time → History
 more h ms now = h ++ (record { seat = 0; number = 0; marks = ms; now = now }) ∷ []
 
 -- A cache to which more is added answers no less.
-no_less : (span : Interval) (old new : CacheView) (settings : Settings) (h : History)
-    (ms : List Mark) (now : Time) → RepresentsState old settings (state_of settings h)
+no_less : (span : SpanView) (old new : CacheView) (config : ConfigView) (h : History)
+    (ms : List Mark) (now : Time) → RepresentsState old config (state_of config h)
     → StandsAfterAll old new ms now → AnswersNoLess span old new
-no_less span old new settings h ms now was adds k s =
-    answers_rise.no_less old new settings h ms now (point k) was adds
+no_less span old new config h ms now was adds k s =
+    answers_rise.no_less old new config h ms now (point k) was adds
 
 -- and the reads that were added are guarded
-guards_added : (span : Interval) (old new : CacheView) (settings : Settings) (h : History)
+guards_added : (span : SpanView) (old new : CacheView) (config : ConfigView) (h : History)
     (at : Time) (by : Owner) (reads all : List Read) (now : Time)
-    → ((r : Read) → IsIn reads r → IsIn all r) → RepresentsState old settings (state_of settings h)
+    → ((r : Read) → IsIn reads r → IsIn all r) → RepresentsState old config (state_of config h)
     → StandsAfterAll old new (map (mark_of at by) all) now
     → AllByRecursion (λ (r : Read). IsGuarded span new at by r) reads
-guards_added span old new settings h at by [] all now among was adds = tt
-guards_added span old new settings h at by (r ∷ reads) all now among was adds = (
-  λ k s c. answers_rise.kept old new settings h (map (mark_of at by) all) now (mark_of at by r)
+guards_added span old new config h at by [] all now among was adds = tt
+guards_added span old new config h at by (r ∷ reads) all now among was adds = (
+  λ k s c. answers_rise.kept old new config h (map (mark_of at by) all) now (mark_of at by r)
       (point k) was adds
       (Contains-from_IsIn (map (mark_of at by) all) (mark_of at by r)
       (mapped all r (among r (inl refl)))) (sym (covers_as_it_overlaps r.span k) ∙ c),
-  guards_added span old new settings h at by reads all now (λ q i. among q (inr i)) was adds,
+  guards_added span old new config h at by reads all now (λ q i. among q (inr i)) was adds,
 )
   where
     mapped : (qs : List Read) (q : Read) → IsIn qs q
@@ -189,8 +189,10 @@ guards_added span old new settings h at by (r ∷ reads) all now among was adds 
 
 -- It writes no key that a later one wrote,
 apart_writes : (range : RangeView) (committed : List Transaction) (t : Transaction)
-    → ((k : KeyBytes) → AgreesFrom range.threshold (chain_of range.chains k) (all_laid committed k))
-    → ((k : KeyBytes) → AreNewestFirst (all_laid committed k)) → MayCommit range t → (k : KeyBytes)
+    → ((k : KeyBytes) → AgreesFrom range.threshold (chain_of range.chains k)
+    (all_stored committed k))
+    → ((k : KeyBytes) → AreNewestFirst (all_stored committed k)) → MayCommit range t →
+    (k : KeyBytes)
     → AllByRecursion (λ (u : Transaction). is_before t.at u.at ≡ true → is_written k t.writes ≡ true
     → is_written k u.writes ≡ false) committed
 apart_writes range committed t agrees newest may k = elim (cases_Bool (is_written k t.writes)) [
@@ -201,7 +203,7 @@ apart_writes range committed t agrees newest may k = elim (cases_Bool (is_writte
       of_written (λ (q : KeyBytes). IsAfter (newest_time (chain_of range.chains q)) t.at) t.writes k
       may.free.after h in
       let all : AllByRecursion (λ (v : Version). is_before v.at t.at ≡ true)
-      (all_laid committed k) = later_than_all t.at (all_laid committed k) (newest k)
+      (all_stored committed k) = later_than_all t.at (all_stored committed k) (newest k)
       ((agrees k).after t.at may.in_time after) in
       each (λ (u : Transaction). is_written k u.writes ≡ true → is_before u.at t.at ≡ true)
       (λ (u : Transaction). is_before t.at u.at ≡ true → is_written k t.writes ≡ true
@@ -211,7 +213,7 @@ apart_writes range committed t agrees newest may k = elim (cases_Bool (is_writte
         | inl w ↦ absurd (both_ways (is_before u.at t.at) (is_before-opposite t.at u.at later)
             (earlier w))
       ])
-      (each_laid (λ (u : Time) (by : Owner). is_before u t.at ≡ true) k committed all)
+      (each_stored (λ (u : Time) (by : Owner). is_before u t.at ≡ true) k committed all)
 ]
 
 -- what is clear of an answer is clear of a read that is guarded
@@ -270,7 +272,7 @@ kept_on : (old new : RangeView) (t : Transaction) (now : Time) (a : Answered)
     → IsKept new a
 kept_on old new t now a less c is = (
   λ k s x. let within : covers old.span k ≡ true =
-      subst (λ (i : Interval). covers i k ≡ true) c.does.span s in
+      subst (λ (i : SpanView). covers i k ≡ true) c.does.span s in
       IsAtMost-transitive (mark_of a.at a.by a.read).value (cache_answer old.cache (point k))
       (cache_answer new.cache (point k)) (is.0 k within x) (less k within),
   λ on none. matches_same a.read (as_of a.at old.chains) (as_of a.at new.chains)
@@ -285,7 +287,7 @@ kept_on old new t now a less c is = (
     parts : HasNotWritten a.by a.at new.chains → (k : KeyBytes)
         → AllByRecursion (λ (v : Version). v.at ≡ a.at → v.by ≡ a.by → ⊥) (chain_of old.chains k)
         × (is_written k t.writes ≡ true → t.at ≡ a.at → t.by ≡ a.by → ⊥)
-    parts none k = laid_parts (λ (u : Time) (by : Owner). u ≡ a.at → by ≡ a.by
+    parts none k = stored_parts (λ (u : Time) (by : Owner). u ≡ a.at → by ≡ a.by
         → ⊥) k t.at t.by t.writes (chain_of old.chains k)
         (subst (AllByRecursion (λ (v : Version). v.at ≡ a.at → v.by ≡ a.by → ⊥)) (c.does.chains k)
         (none k))
@@ -302,7 +304,7 @@ kept_on old new t now a less c is = (
     same k x none =
         as_of_found a.at (chain_of new.chains k)
         ∙ (ap (λ (vs : List Version). found (upto a.at) vs) (c.does.chains k)
-        ∙ (found_laid (upto a.at) k t.at t.by t.writes (chain_of old.chains k)
+        ∙ (found_stored (upto a.at) k t.at t.by t.writes (chain_of old.chains k)
         ∙ (unchanged ∙ sym (as_of_found a.at (chain_of old.chains k)))))
       where
         unchanged : (if upto a.at t.at then
@@ -325,36 +327,36 @@ keeps_commits : (old new : RangeView) (answered : List Answered) (committed : Li
     (t : Transaction) (now : Time) → Keeps old answered committed → Commits old new t now
     → Keeps new answered (t ∷ committed)
 keeps_commits old new answered committed t now k c =
-    let settings : Settings = k.settings in
+    let config : ConfigView = k.config in
     let h : History = k.history in
     let ms : List Mark = map (mark_of t.at t.by) t.reads in
     let less : AnswersNoLess old.span old.cache new.cache =
-    no_less old.span old.cache new.cache settings h ms now k.stands c.does.remembered in
+    no_less old.span old.cache new.cache config h ms now k.stands c.does.remembered in
     record {
-      settings = settings;
+      config = config;
       history = more h ms now;
-      stands = stands_longer old.cache new.cache settings h ms now k.stands c.does.remembered;
+      stands = stands_longer old.cache new.cache config h ms now k.stands c.does.remembered;
       agrees = λ key. subst (λ (x : Time). AgreesFrom x (chain_of new.chains key)
-          (laid key t.at t.by t.writes (all_laid committed key))) (sym c.does.threshold)
-          (subst (λ (vs : List Version). AgreesFrom old.threshold vs (laid key t.at t.by t.writes
-          (all_laid committed key))) (sym (c.does.chains key))
-          (agrees_laid old.threshold key t.at t.by t.writes (chain_of old.chains key)
-          (all_laid committed key) (k.agrees key)));
+          (stored key t.at t.by t.writes (all_stored committed key))) (sym c.does.threshold)
+          (subst (λ (vs : List Version). AgreesFrom old.threshold vs (stored key t.at t.by t.writes
+          (all_stored committed key))) (sym (c.does.chains key))
+          (agrees_stored old.threshold key t.at t.by t.writes (chain_of old.chains key)
+          (all_stored committed key) (k.agrees key)));
       newest = λ key. subst AreNewestFirst (sym (c.does.chains key))
-          (laid_newest_first key t.at t.by t.writes (chain_of old.chains key)
+          (stored_newest_first key t.at t.by t.writes (chain_of old.chains key)
           (λ w. of_written (λ (q : KeyBytes). IsAfter (newest_time (chain_of old.chains q)) t.at)
           t.writes key c.may.free.after w) (k.newest key));
-      all_newest = λ key. laid_newest_first key t.at t.by t.writes (all_laid committed key)
+      all_newest = λ key. stored_newest_first key t.at t.by t.writes (all_stored committed key)
           (λ w. (k.agrees key).after t.at c.may.in_time
           (of_written (λ (q : KeyBytes). IsAfter (newest_time (chain_of old.chains q)) t.at)
           t.writes key c.may.free.after w)) (k.all_newest key);
       guarded = (
-        guards_added new.span old.cache new.cache settings h t.at t.by t.reads t.reads now
+        guards_added new.span old.cache new.cache config h t.at t.by t.reads t.reads now
             (λ r i. i) k.stands c.does.remembered,
-        subst (λ (s : Interval). AreGuarded s new.cache committed) (sym c.does.span)
+        subst (λ (s : SpanView). AreGuarded s new.cache committed) (sym c.does.span)
             (guarded_on old.span old.cache new.cache committed less k.guarded),
       );
-      found = λ passes key. found_laid passes key t.at t.by t.writes (all_laid committed key)
+      found = λ passes key. found_stored passes key t.at t.by t.writes (all_stored committed key)
           ∙ (ap (λ (x : Content). if passes t.at then after_writes key x t.writes else
           x) (k.found passes key)
           ∙ sym (content_placed passes key t (serial_order committed) None (ordered committed)
@@ -392,7 +394,7 @@ kept_there : (old new : RangeView) (a : Answered) → AnswersNoLess old.span old
     → AreSameChains old.chains new.chains → IsKept old a → IsKept new a
 kept_there old new a less span threshold same is = (
   λ k s x. let within : covers old.span k ≡ true =
-      subst (λ (i : Interval). covers i k ≡ true) span s in
+      subst (λ (i : SpanView). covers i k ≡ true) span s in
       IsAtMost-transitive (mark_of a.at a.by a.read).value (cache_answer old.cache (point k))
       (cache_answer new.cache (point k)) (is.0 k within x) (less k within),
   λ on none. matches_same a.read (as_of a.at old.chains) (as_of a.at new.chains)
@@ -405,12 +407,12 @@ kept_there old new a less span threshold same is = (
 -- and what a key keeps still agrees
 agrees_there : (old new : RangeView) (committed : List Transaction) → new.threshold ≡ old.threshold
     → AreSameChains old.chains new.chains
-    → ((k : KeyBytes) → AgreesFrom old.threshold (chain_of old.chains k) (all_laid committed k))
-    → (k : KeyBytes) → AgreesFrom new.threshold (chain_of new.chains k) (all_laid committed k)
+    → ((k : KeyBytes) → AgreesFrom old.threshold (chain_of old.chains k) (all_stored committed k))
+    → (k : KeyBytes) → AgreesFrom new.threshold (chain_of new.chains k) (all_stored committed k)
 agrees_there old new committed threshold same agrees k =
-    subst (λ (x : Time). AgreesFrom x (chain_of new.chains k) (all_laid committed k))
+    subst (λ (x : Time). AgreesFrom x (chain_of new.chains k) (all_stored committed k))
     (sym threshold)
-    (subst (λ (vs : List Version). AgreesFrom old.threshold vs (all_laid committed k))
+    (subst (λ (vs : List Version). AgreesFrom old.threshold vs (all_stored committed k))
     (sym (same k)) (agrees k))
 
 keeps_answers : (old new : RangeView) (answered : List Answered) (committed : List Transaction)
@@ -418,29 +420,29 @@ keeps_answers : (old new : RangeView) (answered : List Answered) (committed : Li
     → Keeps old answered committed → Answers old new by at now read
     → Keeps new ((record { by = by; at = at; read = read }) ∷ answered) committed
 keeps_answers old new answered committed by at now read k a =
-    let settings : Settings = k.settings in
+    let config : ConfigView = k.config in
     let h : History = k.history in
     let ms : List Mark = mark_of at by read ∷ [] in
     let adds : StandsAfterAll old.cache new.cache ms now =
     λ others s was. a.remembered others s was in
     let less : AnswersNoLess old.span old.cache new.cache =
-    no_less old.span old.cache new.cache settings h ms now k.stands adds in
+    no_less old.span old.cache new.cache config h ms now k.stands adds in
     record {
-      settings = settings;
+      config = config;
       history = more h ms now;
-      stands = stands_longer old.cache new.cache settings h ms now k.stands adds;
+      stands = stands_longer old.cache new.cache config h ms now k.stands adds;
       agrees = agrees_there old new committed a.threshold
           (same_chains old.chains new.chains a.chains) k.agrees;
       newest = λ key. subst (λ (chains : Chains). AreNewestFirst (chain_of chains key))
           (sym a.chains) (k.newest key);
       all_newest = k.all_newest;
-      guarded = subst (λ (s : Interval). AreGuarded s new.cache committed) (sym a.span)
+      guarded = subst (λ (s : SpanView). AreGuarded s new.cache committed) (sym a.span)
           (guarded_on old.span old.cache new.cache committed less k.guarded);
       found = k.found;
       serial = k.serial;
       kept = (
         (
-          (guards_added new.span old.cache new.cache settings h at by (read ∷ []) (read ∷ []) now
+          (guards_added new.span old.cache new.cache config h at by (read ∷ []) (read ∷ []) now
               (λ r i. i) k.stands adds).0,
           λ on none. subst (λ (chains : Chains). Matches read (as_of at chains))
               (sym a.chains) a.matches,
@@ -460,14 +462,14 @@ keeps_same old new answered committed k same =
     (cache_answer v (point key))) (sym same.cache)
     (IsAtMost-itself (cache_answer old.cache (point key))) in
     record {
-      settings = k.settings;
+      config = k.config;
       history = k.history;
-      stands = subst (λ (v : CacheView). RepresentsState v k.settings
-          (state_of k.settings k.history)) (sym same.cache) k.stands;
+      stands = subst (λ (v : CacheView). RepresentsState v k.config
+          (state_of k.config k.history)) (sym same.cache) k.stands;
       agrees = agrees_there old new committed same.threshold same.chains k.agrees;
       newest = λ key. subst AreNewestFirst (sym (same.chains key)) (k.newest key);
       all_newest = k.all_newest;
-      guarded = subst (λ (s : Interval). AreGuarded s new.cache committed) (sym same.span)
+      guarded = subst (λ (s : SpanView). AreGuarded s new.cache committed) (sym same.span)
           (guarded_on old.span old.cache new.cache committed less k.guarded);
       found = k.found;
       serial = k.serial;
@@ -475,16 +477,16 @@ keeps_same old new answered committed k same =
           (λ a is. kept_there old new a less same.span same.threshold same.chains is) k.kept;
     }
 
-keeps_handing_on : (settings : Settings) (old new : RangeView) (answered : List Answered)
-    (committed : List Transaction) → Keeps old answered committed → HandsOn settings old new
+keeps_handing_on : (config : ConfigView) (old new : RangeView) (answered : List Answered)
+    (committed : List Transaction) → Keeps old answered committed → HandsOn config old new
     → Keeps new answered committed
-keeps_handing_on settings old new answered committed k hands =
+keeps_handing_on config old new answered committed k hands =
     let less : AnswersNoLess old.span old.cache new.cache =
-    λ key s. subst (λ (v : OwnedTime). IsAtMost v (cache_answer new.cache (point key)))
-    (sym (answers_look old.cache k.settings (state_of k.settings k.history) (point key) k.stands))
-    (hands.takes_over.no_less k.settings (state_of k.settings k.history) key s k.stands) in
+    λ key s. subst (λ (v : ValueView). IsAtMost v (cache_answer new.cache (point key)))
+    (sym (answers_look old.cache k.config (state_of k.config k.history) (point key) k.stands))
+    (hands.takes_over.no_less k.config (state_of k.config k.history) key s k.stands) in
     record {
-      settings = settings;
+      config = config;
       history = hands.takes_over.history;
       stands = hands.takes_over.cache;
       agrees = agrees_there old new committed hands.threshold
@@ -492,7 +494,7 @@ keeps_handing_on settings old new answered committed k hands =
       newest = λ key. subst (λ (chains : Chains). AreNewestFirst (chain_of chains key))
           (sym hands.chains) (k.newest key);
       all_newest = k.all_newest;
-      guarded = subst (λ (s : Interval). AreGuarded s new.cache committed) (sym hands.span)
+      guarded = subst (λ (s : SpanView). AreGuarded s new.cache committed) (sym hands.span)
           (guarded_on old.span old.cache new.cache committed less k.guarded);
       found = k.found;
       serial = k.serial;
@@ -514,7 +516,7 @@ kept_collected : (old new : RangeView) (before : Time) (a : Answered)
 kept_collected old new before a newest c is = (
   λ k s x. subst (λ (v : CacheView). IsAtMost (mark_of a.at a.by a.read).value
       (cache_answer v (point k))) (sym c.cache)
-      (is.0 k (subst (λ (i : Interval). covers i k ≡ true) c.span s) x),
+      (is.0 k (subst (λ (i : SpanView). covers i k ≡ true) c.span s) x),
   λ on none. matches_same a.read (as_of a.at old.chains) (as_of a.at new.chains)
       (λ k x. sym (same on k))
       (is.1 (no_earlier-transitive old.threshold new.threshold a.at (grows old new before c) on)
@@ -534,18 +536,18 @@ keeps_collecting : (old new : RangeView) (answered : List Answered) (committed :
     (before : Time) → Keeps old answered committed → Collects old new before
     → Keeps new answered committed
 keeps_collecting old new answered committed before k c = record {
-  settings = k.settings;
+  config = k.config;
   history = k.history;
-  stands = subst (λ (v : CacheView). RepresentsState v k.settings (state_of k.settings k.history))
+  stands = subst (λ (v : CacheView). RepresentsState v k.config (state_of k.config k.history))
       (sym c.cache) k.stands;
   agrees = λ key. subst (λ (vs : List Version). AgreesFrom new.threshold vs
-      (all_laid committed key)) (sym (c.chains key))
-      (agrees_kept old.threshold new.threshold (chain_of old.chains key) (all_laid committed key)
+      (all_stored committed key)) (sym (c.chains key))
+      (agrees_kept old.threshold new.threshold (chain_of old.chains key) (all_stored committed key)
       (grows old new before c) (k.agrees key));
   newest = λ key. subst AreNewestFirst (sym (c.chains key)) (kept_newest_first new.threshold
       (chain_of old.chains key) (k.newest key));
   all_newest = k.all_newest;
-  guarded = subst (λ (s : Interval). AreGuarded s new.cache committed) (sym c.span)
+  guarded = subst (λ (s : SpanView). AreGuarded s new.cache committed) (sym c.span)
       (subst (λ (v : CacheView). AreGuarded old.span v committed) (sym c.cache) k.guarded);
   found = k.found;
   serial = k.serial;
@@ -555,8 +557,8 @@ keeps_collecting old new answered committed before k c = record {
 
 pub keeps : (range : RangeView) (answered : List Answered) (committed : List Transaction)
     → Execution range answered committed → Keeps range answered committed
-keeps range answered committed (opened settings r is) = record {
-  settings = settings;
+keeps range answered committed (opened config r is) = record {
+  config = config;
   history = [];
   stands = is.cache;
   agrees = λ k. subst (λ (chains : Chains). AgreesFrom r.threshold (chain_of chains k) [])
@@ -574,8 +576,8 @@ keeps range answered committed (commits old new a c t now run does) =
     keeps_commits old new a c t now (keeps old a c run) does
 keeps range answered committed (stays old new a c run same) =
     keeps_same old new a c (keeps old a c run) same
-keeps range answered committed (hands_on settings old new a c run hands) =
-    keeps_handing_on settings old new a c (keeps old a c run) hands
+keeps range answered committed (hands_on config old new a c run hands) =
+    keeps_handing_on config old new a c (keeps old a c run) hands
 keeps range answered committed (collects old new a c before run does) =
     keeps_collecting old new a c before (keeps old a c run) does
 

@@ -1,5 +1,5 @@
 pub mod Placing
-pub mod Laying
+pub mod Storing
 pub mod Keeping
 pub mod Collecting
 pub mod Times

@@ -18,7 +18,7 @@ use Rattle.mvcc_versions.specs.Versions.{
   after_writes,
   content_as_of,
   newest_content,
-  laid,
+  stored,
   Matches,
 }
 use Rattle.mvcc_versions.proofs.Lists.{each}
@@ -91,16 +91,17 @@ newest_found [] = refl
 newest_found (v ∷ vs) = refl
 
 -- what a key has after a transaction's writes, by its versions and by what it had
-pub found_laid : (passes : Time → Bool) (k : KeyBytes) (at : Time) (by : Owner) (ws : List Write)
+pub found_stored : (passes : Time → Bool) (k : KeyBytes) (at : Time) (by : Owner) (ws : List Write)
     (vs : List Version)
-    → found passes (laid k at by ws vs) ≡ (if passes at then
+    → found passes (stored k at by ws vs) ≡ (if passes at then
     after_writes k (found passes vs) ws else found passes vs)
-found_laid passes k at by [] vs = sym (same_or (passes at) (found passes vs) (found passes vs) refl)
-found_laid passes k at by (w ∷ ws) vs = elim (cases_Bool (bytes_eq w.key k)) [
-  | inr other ↦ rw other (found_laid passes k at by ws vs)
+found_stored passes k at by [] vs = sym (same_or (passes at) (found passes vs) (found passes vs)
+    refl)
+found_stored passes k at by (w ∷ ws) vs = elim (cases_Bool (bytes_eq w.key k)) [
+  | inr other ↦ rw other (found_stored passes k at by ws vs)
   | inl own ↦ rw own (elim (cases_Bool (passes at)) [
-    | inl h ↦ found_laid passes k at by ws (one ∷ vs) ∙ passed h
-    | inr h ↦ found_laid passes k at by ws (one ∷ vs) ∙ kept h
+    | inl h ↦ found_stored passes k at by ws (one ∷ vs) ∙ passed h
+    | inr h ↦ found_stored passes k at by ws (one ∷ vs) ∙ kept h
   ])
 ]
   where
@@ -296,15 +297,15 @@ pub serial_placed : (t : Transaction) (us : List Transaction) (there : Contents)
     → AreUndisturbed t.writes u.reads) us
     → AllByRecursion (λ (r : Read). Matches r (λ k. content_after (upto t.at) k (there k) us))
     t.reads → IsSerial there us → IsSerial there (placed t us)
-serial_placed t [] there o apart told serial = (told, tt)
-serial_placed t (u ∷ us) there o apart told serial = elim (cases_Bool (is_before t.at u.at)) [
+serial_placed t [] there o apart reported serial = (reported, tt)
+serial_placed t (u ∷ us) there o apart reported serial = elim (cases_Bool (is_before t.at u.at)) [
   | inl h ↦ let later : AllByRecursion (λ (v : Transaction). is_before t.at v.at ≡ true) (u ∷ us) =
       before_all t u us h o in
       rw h (
         each (λ (r : Read). Matches r (λ k. content_after (upto t.at) k (there k) (u ∷ us)))
             (λ (r : Read). Matches r there) t.reads
             (λ r m. matches_same r (λ k. content_after (upto t.at) k (there k) (u ∷ us)) there
-            (λ k c. later_leave t.at k (there k) (u ∷ us) later) m) told,
+            (λ k c. later_leave t.at k (there k) (u ∷ us) later) m) reported,
         undisturbed t.writes (u ∷ us) there (executed there t)
             (λ k n. sym (not_written k (there k) t.writes n))
             (each_two (λ (v : Transaction). is_before t.at v.at ≡ true)
@@ -321,11 +322,11 @@ serial_placed t (u ∷ us) there o apart told serial = elim (cases_Bool (is_befo
         (λ r m. matches_same r (λ k. content_after (upto t.at) k (there k) (u ∷ us))
         (λ k. content_after (upto t.at) k (executed there u k) us)
         (λ k c. ap (λ (b : Bool). content_after (upto t.at) k (if not b then
-        after_writes k (there k) u.writes else there k) us) h) m) told) serial.1,
+        after_writes k (there k) u.writes else there k) us) h) m) reported) serial.1,
   )
 ]
 
 -- all versions of a key that transactions laid down, of which the last is given first
-abbrev pub all_laid : List Transaction → KeyBytes → List Version
-all_laid [] k = []
-all_laid (t ∷ ts) k = laid k t.at t.by t.writes (all_laid ts k)
+abbrev pub all_stored : List Transaction → KeyBytes → List Version
+all_stored [] k = []
+all_stored (t ∷ ts) k = stored k t.at t.by t.writes (all_stored ts k)

@@ -6,7 +6,7 @@ use Rattle.std.proofs.lemmas.List.Elements.{All-from_recursion, recursion_from_A
 use Rattle.tsc_time.proofs.TimeOrder.{is_before-itself}
 use Rattle.timestamp_cache.specs.Words.{Time, is_in_range, is_before, Owner, point, CacheView, cache_answer}
 use Rattle.timestamp_cache.specs.Clear.{IsClearOf}
-use Rattle.timestamp_cache.specs.Earliest.{IsEarliest, TellsEarliest}
+use Rattle.timestamp_cache.specs.Earliest.{IsEarliest, ReportsEarliest}
 use Rattle.timestamp_cache.proofs.Earliest.{one_more, none_more, clear_later}
 use Rattle.mvcc_versions.specs.Versions.{Chains, chain_of, Write, newest_time, IsAfter}
 use Rattle.mvcc_versions.proofs.Lists.{more}
@@ -26,9 +26,9 @@ free_stays cache chains by w t u on free = (
 -- The earliest time after a key's last write, and from that on the earliest that is clear of its
 -- reads, is the earliest that is free of both.
 pub free_of : (cache : CacheView) (chains : Chains) (by : Owner) (w : Write) (from after : Time)
-    (told : Option Time) → IsEarliest (IsAfter (newest_time (chain_of chains w.key))) from after
-    → TellsEarliest (λ t. IsClearOf (cache_answer cache (point w.key)) by t) after told
-    → TellsEarliest (IsFreeOf cache chains by w) from told
+    (reported : Option Time) → IsEarliest (IsAfter (newest_time (chain_of chains w.key))) from after
+    → ReportsEarliest (λ t. IsClearOf (cache_answer cache (point w.key)) by t) after reported
+    → ReportsEarliest (IsFreeOf cache chains by w) from reported
 free_of cache chains by w from after None first second =
     none_more (IsAfter (newest_time (chain_of chains w.key)))
     (λ t. IsClearOf (cache_answer cache (point w.key)) by t) (IsFreeOf cache chains by w) from after
@@ -128,8 +128,8 @@ of_each cache chains by ws t free = both_of cache chains by ws t free.after
 pub no_more_keys : (cache : CacheView) (chains : Chains) (by : Owner) (ws : List Write) (i : ℕ)
     (w : Write) (from at : Time) → i < length ws → get_or ws i w ≡ w
     → IsEarliest (AreFreeOf cache chains by (take i ws)) from at
-    → TellsEarliest (IsFreeOf cache chains by w) at None
-    → TellsEarliest (IsFree cache chains by ws) from None
+    → ReportsEarliest (IsFreeOf cache chains by w) at None
+    → ReportsEarliest (IsFree cache chains by ws) from None
 no_more_keys cache chains by ws i w from at below is so_far none =
     none_more (AreFreeOf cache chains by (take i ws)) (IsFreeOf cache chains by w)
     (IsFree cache chains by ws) from at
@@ -141,7 +141,7 @@ no_more_keys cache chains by ws i w from at below is so_far none =
 
 pub all_keys : (cache : CacheView) (chains : Chains) (by : Owner) (ws : List Write) (i : ℕ)
     (from at : Time) → length ws ≤ i → IsEarliest (AreFreeOf cache chains by (take i ws)) from at
-    → TellsEarliest (IsFree cache chains by ws) from (Some at)
+    → ReportsEarliest (IsFree cache chains by ws) from (Some at)
 all_keys cache chains by ws i from at past so_far =
     let all : IsEarliest (AreFreeOf cache chains by ws) from at =
     subst (λ (xs : List Write). IsEarliest (AreFreeOf cache chains by xs) from at)

@@ -3,7 +3,7 @@ use Rattle.std.specs.Prelude.{◌≡◌, List, [], ◌∷◌, map, Bool, true, f
 use Rattle.std.specs.List.{All, AllByRecursion}
 use Rattle.tsc_time.specs.Time.{later}
 use Rattle.tsc_span.specs.Span.{covers}
-use Rattle.tsc_cache.specs.Settings.{fits}
+use Rattle.tsc_cache.specs.ConfigView.{fits}
 use Rattle.tsc_cache.specs.State.{opening}
 use Rattle.tsc_cache.specs.CacheView.{StandsAfter, StandsAfterAll}
 use Rattle.timestamp_cache.specs.Words.{
@@ -14,10 +14,10 @@ use Rattle.timestamp_cache.specs.Words.{
   owner_of,
   IsAtMost,
   KeyBytes,
-  Interval,
+  SpanView,
   point,
   Mark,
-  Settings,
+  ConfigView,
   CacheView,
   RepresentsState,
   CacheState,
@@ -33,7 +33,7 @@ use Rattle.mvcc_versions.specs.Versions.{
   Chains,
   chain_of,
   as_of,
-  laid,
+  stored,
   kept_from,
   newest_time,
   IsAfter,
@@ -44,7 +44,7 @@ use Rattle.mvcc_range.specs.Serial.{Transaction}
 -- a range: the keys that it is of, the cache of its reads, the time before which it refuses, and
 -- the versions of each key
 pub record RangeView : Type 0 where
-  pub span : Interval
+  pub span : SpanView
   pub cache : CacheView
   pub threshold : Time
   pub chains : Chains
@@ -54,15 +54,15 @@ abbrev pub mark_of : Time → Owner → Read → Mark
 mark_of at by read = record { span = read.span; value = record { time = at; owner = owner_of by } }
 
 -- whether the cache has room for each of some reads
-abbrev pub reads_fit : Settings → List Read → Bool
-reads_fit settings [] = true
-reads_fit settings (r ∷ rs) = fits settings r.span && reads_fit settings rs
+abbrev pub reads_fit : ConfigView → List Read → Bool
+reads_fit config [] = true
+reads_fit config (r ∷ rs) = fits config r.span && reads_fit config rs
 
 -- A range was opened with these settings: no key has a version, and its cache has no reads.
-pub record IsOpened (settings : Settings) (range : RangeView) : Type 0 where
+pub record IsOpened (config : ConfigView) (range : RangeView) : Type 0 where
   pub threshold : range.threshold ≡ zero_time
   pub chains : range.chains ≡ []
-  pub cache : RepresentsState range.cache settings (opening settings)
+  pub cache : RepresentsState range.cache config (opening config)
 
 -- A range is as before: its span, its cache, its threshold, and the versions of each key.
 pub record IsSame (old new : RangeView) : Type 0 where
@@ -110,33 +110,33 @@ pub record MayCommit (range : RangeView) (t : Transaction) : Type 0 where
 
 -- The reads of a transaction are remembered at its time, and its writes become versions of that
 -- time.
-pub record LaysDown (old new : RangeView) (t : Transaction) (now : Time) : Type 0 where
+pub record StoresVersions (old new : RangeView) (t : Transaction) (now : Time) : Type 0 where
   pub span : new.span ≡ old.span
   pub threshold : new.threshold ≡ old.threshold
   pub remembered : StandsAfterAll old.cache new.cache (map (mark_of t.at t.by) t.reads) now
-  pub chains : (k : KeyBytes) → chain_of new.chains k ≡ laid k t.at t.by t.writes
+  pub chains : (k : KeyBytes) → chain_of new.chains k ≡ stored k t.at t.by t.writes
       (chain_of old.chains k)
 
 -- A transaction may commit, and does.
 pub record Commits (old new : RangeView) (t : Transaction) (now : Time) : Type 0 where
   pub may : MayCommit old t
-  pub does : LaysDown old new t now
+  pub does : StoresVersions old new t now
 
 -- A cache with these settings takes over from another: it has the reads of some history, and to
 -- each key of a span it answers no less than whatever state the other one stands for.
-pub record TakesOver (settings : Settings) (span : Interval) (old new : CacheView) : Type 0 where
+pub record TakesOver (config : ConfigView) (span : SpanView) (old new : CacheView) : Type 0 where
   pub history : History
-  pub cache : RepresentsState new settings (state_of settings history)
-  pub no_less : (others : Settings) (s : CacheState) (k : KeyBytes) → covers span k ≡ true
+  pub cache : RepresentsState new config (state_of config history)
+  pub no_less : (others : ConfigView) (s : CacheState) (k : KeyBytes) → covers span k ≡ true
       → RepresentsState old others s → IsAtMost (look s (point k)) (cache_answer new (point k))
 
 -- A range is handed on to a new lease: its versions stay, and its new cache, with these settings,
 -- takes over from the old one.
-pub record HandsOn (settings : Settings) (old new : RangeView) : Type 0 where
+pub record HandsOn (config : ConfigView) (old new : RangeView) : Type 0 where
   pub span : new.span ≡ old.span
   pub threshold : new.threshold ≡ old.threshold
   pub chains : new.chains ≡ old.chains
-  pub takes_over : TakesOver settings old.span old.cache new.cache
+  pub takes_over : TakesOver config old.span old.cache new.cache
 
 -- Old versions are dropped: from then on the range refuses what is before a time, and of each key
 -- stay the versions that are of use from then on.
@@ -158,7 +158,7 @@ pub record Answered : Type 0 where
 -- refused, and those that told a transaction to restart, leave the range as it was, and add nothing
 -- to these.
 pub data Execution : RangeView → List Answered → List Transaction → Type 0 where
-  opened : (settings : Settings) (range : RangeView) → IsOpened settings range
+  opened : (config : ConfigView) (range : RangeView) → IsOpened config range
       → Execution range [] []
   answers : (old new : RangeView) (answered : List Answered) (committed : List Transaction)
       (by : Owner) (at now : Time) (read : Read)
@@ -170,8 +170,8 @@ pub data Execution : RangeView → List Answered → List Transaction → Type 0
       → Execution new answered (t ∷ committed)
   stays : (old new : RangeView) (answered : List Answered) (committed : List Transaction)
       → Execution old answered committed → IsSame old new → Execution new answered committed
-  hands_on : (settings : Settings) (old new : RangeView) (answered : List Answered)
-      (committed : List Transaction) → Execution old answered committed → HandsOn settings old new
+  hands_on : (config : ConfigView) (old new : RangeView) (answered : List Answered)
+      (committed : List Transaction) → Execution old answered committed → HandsOn config old new
       → Execution new answered committed
   collects : (old new : RangeView) (answered : List Answered) (committed : List Transaction)
       (before : Time) → Execution old answered committed → Collects old new before

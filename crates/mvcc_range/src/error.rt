@@ -1,3 +1,4 @@
+//! Why a call of a range is refused.
 use thiserror::Error;
 use timestamp_cache::{CacheFault, NoMemory};
 

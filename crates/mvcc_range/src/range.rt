@@ -22,13 +22,13 @@ ghost use Rattle.std.specs.Prelude.{
   vec_capacity,
 };
 ghost use Rattle.std.specs.List.{All};
-ghost use Rattle.tsc_cache.specs.Settings.{fits};
+ghost use Rattle.tsc_cache.specs.ConfigView.{fits};
 ghost use Rattle.tsc_cache.specs.Batch.{all_fit};
 ghost use Rattle.tsc_cache.specs.CacheView.{StandsAfter, StandsAfterAll};
 ghost use Rattle.timestamp_cache.specs.Words.{KeyBytes, is_before, point, cache_answer};
 ghost use Rattle.timestamp_cache.specs.Clear.{IsClearOf};
-ghost use Rattle.timestamp_cache.specs.Earliest.{TellsEarliest};
-ghost use Rattle.mvcc_versions.specs.Versions.{chain_of, as_of, laid, Matches, is_within, are_within};
+ghost use Rattle.timestamp_cache.specs.Earliest.{ReportsEarliest};
+ghost use Rattle.mvcc_versions.specs.Versions.{chain_of, as_of, stored, Matches, is_within, are_within};
 ghost use Rattle.mvcc_range.specs.Steps.{
   mark_of,
   reads_fit,
@@ -38,11 +38,11 @@ ghost use Rattle.mvcc_range.specs.Steps.{
   IsFree,
   IsFreeOf,
   Collects,
-  LaysDown,
+  StoresVersions,
   TakesOver,
 };
 ghost use Rattle.mvcc_versions.specs.Maps.{nodes_of};
-ghost use Rattle.mvcc_range.specs.Calls.{Reads, SeesOwn, TellsTooLarge, HandsOnBy, AddsSummary, Ends};
+ghost use Rattle.mvcc_range.specs.Calls.{Reads, SeesOwn, ReportsTooLarge, HandsOnBy, AddsSummary, Ends};
 
 use crate::{RangeError, Read, Row, Transaction, Write};
 use mvcc_versions::{Version, VersionMap, rows_after};
@@ -145,7 +145,7 @@ impl Range {
             && is_before transaction.old.at self.old.threshold) ≡ true) }
         ensures too_large { IsErrOf result RangeError.TooLarge ↔ ((is_within span.now self.old.span
             && not (is_before transaction.old.at self.old.threshold)
-            && not (fits self.old.cache.settings span.now)) ≡ true) }
+            && not (fits self.old.cache.config span.now)) ≡ true) }
     {
         self.check_read(span, transaction.at)?;
         let read = self.look(span, transaction.at)?;
@@ -182,7 +182,7 @@ impl Range {
         ensures too_large { IsErrOf result RangeError.TooLarge
             ↔ ((are_within transaction.now.writes self.old.span
             && not (is_before transaction.now.at self.old.threshold)
-            && not (reads_fit self.old.cache.settings transaction.now.reads)) ≡ true) }
+            && not (reads_fit self.old.cache.config transaction.now.reads)) ≡ true) }
     {
         self.check_commit(transaction)?;
         let Some(at) = self.free_time(transaction) else {
@@ -192,7 +192,7 @@ impl Range {
         if !so {
             return Ok(Outcome::Restart(Reason::Changed(at)));
         }
-        self.lay_down(transaction, at, now)?;
+        self.store_versions(transaction, at, now)?;
         Ok(Outcome::Committed(at))
     }
 
@@ -212,7 +212,7 @@ impl Range {
         ensures ok { OnOk result (HandsOnBy config most now self.old self.new) }
         ensures err { OnErr result (self.new ≡ self.old) }
         ensures too_large { IsErrOf result CacheFault.NoMemory
-            ⊎ TellsTooLarge self.old.cache self.old.span config most
+            ⊎ ReportsTooLarge self.old.cache self.old.span config most
             (IsErrOf result CacheFault.TooLarge) }
     {
         self.cache = taken_over(self.alloc, &self.cache, &self.span, config, most, now)?;
@@ -255,14 +255,14 @@ impl Range {
     fn check_read(&self, span: &Span, at: Timestamp) -> Result<(), RangeError>
         ensures ok { OnOk result ((is_within span.now self.now.span ≡ true)
             × (is_before at self.now.threshold ≡ false)
-            × (fits self.now.cache.settings span.now ≡ true)) }
+            × (fits self.now.cache.config span.now ≡ true)) }
         ensures out_of_range { IsErrOf result RangeError.OutOfRange
             ↔ (is_within span.now self.now.span ≡ false) }
         ensures too_early { IsErrOf result RangeError.TooEarly ↔ ((is_within span.now self.now.span
             && is_before at self.now.threshold) ≡ true) }
         ensures too_large { IsErrOf result RangeError.TooLarge ↔ ((is_within span.now self.now.span
             && not (is_before at self.now.threshold)
-            && not (fits self.now.cache.settings span.now)) ≡ true) }
+            && not (fits self.now.cache.config span.now)) ≡ true) }
         ensures memory { IsErrOf result RangeError.NoMemory → ⊥ }
     {
         if !is_within(span, &self.span) {
@@ -289,7 +289,7 @@ impl Range {
     pub fn check_commit(&self, transaction: &Transaction) -> Result<(), RangeError>
         ensures ok { OnOk result ((are_within transaction.now.writes self.now.span ≡ true)
             × (is_before transaction.now.at self.now.threshold ≡ false)
-            × (reads_fit self.now.cache.settings transaction.now.reads ≡ true)) }
+            × (reads_fit self.now.cache.config transaction.now.reads ≡ true)) }
         ensures out_of_range { IsErrOf result RangeError.OutOfRange
             ↔ (are_within transaction.now.writes self.now.span ≡ false) }
         ensures too_early { IsErrOf result RangeError.TooEarly
@@ -298,7 +298,7 @@ impl Range {
         ensures too_large { IsErrOf result RangeError.TooLarge
             ↔ ((are_within transaction.now.writes self.now.span
             && not (is_before transaction.now.at self.now.threshold)
-            && not (reads_fit self.now.cache.settings transaction.now.reads)) ≡ true) }
+            && not (reads_fit self.now.cache.config transaction.now.reads)) ≡ true) }
         ensures memory { IsErrOf result RangeError.NoMemory → ⊥ }
     {
         if !are_within(&transaction.writes, &self.span) {
@@ -333,7 +333,7 @@ impl Range {
     ) -> Result<(), NoMemory>
         requires matches { Matches read (as_of transaction.old.at self.old.chains) }
         requires in_time { is_before transaction.old.at self.old.threshold ≡ false }
-        requires fits { fits self.old.cache.settings read.span ≡ true }
+        requires fits { fits self.old.cache.config read.span ≡ true }
         ensures ok { OnOk result (Answers self.old self.new transaction.old.by transaction.old.at
             now read) }
         ensures has { OnOk result (transaction.new
@@ -350,7 +350,7 @@ impl Range {
     /// The earliest time, from the one on at which a transaction reads, that is free for its
     /// writes.
     fn free_time(&self, transaction: &Transaction) -> Option<Timestamp>
-        ensures { TellsEarliest
+        ensures { ReportsEarliest
             (IsFree self.now.cache self.now.chains transaction.now.by transaction.now.writes)
             transaction.now.at result }
     {
@@ -372,15 +372,15 @@ impl Range {
     }
 
     /// Remembers the reads of a transaction at a time, and lays down its writes as versions of it.
-    fn lay_down(
+    fn store_versions(
         &mut self,
         transaction: &Transaction,
         at: Timestamp,
         now: Timestamp,
     ) -> Result<(), NoMemory>
-        requires { reads_fit self.old.cache.settings transaction.now.reads ≡ true }
-        ensures ok { OnOk result (LaysDown self.old self.new (record transaction.now { at = at })
-            now) }
+        requires { reads_fit self.old.cache.config transaction.now.reads ≡ true }
+        ensures ok { OnOk result (StoresVersions self.old self.new
+            (record transaction.now { at = at }) now) }
         ensures err { OnErr result (IsSame self.old self.new) }
     {
         let by = transaction.by;
@@ -393,7 +393,7 @@ impl Range {
             at,
             by,
         };
-        lay_down(
+        store_versions(
             self.alloc,
             &mut self.cache,
             &mut self.versions,
@@ -415,16 +415,16 @@ struct Prepared<'a> {
 }
 
 /// Adds reads to a cache, and versions to those that are there, or leaves both as they are.
-fn lay_down(
+fn store_versions(
     alloc: Global,
     cache: &mut Cache,
     versions: &mut VersionMap,
     prepared: Prepared<'_>,
     now: Timestamp,
 ) -> Result<(), NoMemory>
-    requires { all_fit cache.old.settings prepared.marks.now ≡ true }
+    requires { all_fit cache.old.config prepared.marks.now ≡ true }
     ensures done { OnOk result (StandsAfterAll cache.old cache.new prepared.entry.marks.now now
-        × ((k : KeyBytes) → chain_of versions.new k ≡ laid k prepared.entry.at prepared.entry.by
+        × ((k : KeyBytes) → chain_of versions.new k ≡ stored k prepared.entry.at prepared.entry.by
         prepared.entry.writes.now (chain_of versions.old k))) }
     ensures cache { OnErr result (cache.new ≡ cache.old) }
     ensures versions { OnErr result ((k : KeyBytes) → chain_of versions.new k
@@ -439,7 +439,7 @@ fn lay_down(
     } = prepared;
     versions.make_room(alloc, writes)?;
     add_all(cache, marks, now)?;
-    versions.lay_down(writes, nodes, at, by);
+    versions.store_versions(writes, nodes, at, by);
     Ok(())
 }
 
@@ -451,7 +451,7 @@ fn free_time(
     from: Timestamp,
     by: Uuid,
 ) -> Option<Timestamp>
-    ensures { TellsEarliest (IsFree cache.now versions.now by writes.now) from result }
+    ensures { ReportsEarliest (IsFree cache.now versions.now by writes.now) from result }
 {
     let mut at = from;
     for write in writes {
@@ -471,7 +471,7 @@ fn free_time_of(
     from: Timestamp,
     by: Uuid,
 ) -> Option<Timestamp>
-    ensures { TellsEarliest (IsFreeOf cache.now versions.now by write.now) from result }
+    ensures { ReportsEarliest (IsFreeOf cache.now versions.now by write.now) from result }
 {
     match versions.time_after(&write.key, from) {
         Some(after) => clear_time(cache, &write.key, after, by),
@@ -481,7 +481,7 @@ fn free_time_of(
 
 /// The earliest time, from one on, at which a write of a key is clear of what a cache answers.
 fn clear_time(cache: &Cache, key: &Key, from: Timestamp, by: Uuid) -> Option<Timestamp>
-    ensures { TellsEarliest (λ t. IsClearOf (cache_answer cache.now (point key.now)) by t) from
+    ensures { ReportsEarliest (λ t. IsClearOf (cache_answer cache.now (point key.now)) by t) from
         result }
 {
     let read = cache.get_max_ref(&SpanRef::point(key.bytes()));
@@ -520,11 +520,11 @@ fn taken_over(
     ensures ok { IfOk result (λ next. TakesOver config span.now cache.now next) }
     ensures summed { IfOk result (λ next. AddsSummary config most now span.now cache.now next) }
     ensures too_large { IsErrOf result CacheFault.NoMemory
-        ⊎ TellsTooLarge cache.now span.now config most (IsErrOf result CacheFault.TooLarge) }
+        ⊎ ReportsTooLarge cache.now span.now config most (IsErrOf result CacheFault.TooLarge) }
 {
-    let told = summary(alloc, cache, span, most)?;
+    let reported = summary(alloc, cache, span, most)?;
     let mut next = Cache::new(alloc, config)?;
-    apply(&mut next, &told, now)?;
+    apply(&mut next, &reported, now)?;
     Ok(next)
 }
 
@@ -553,7 +553,7 @@ fn are_within(writes: &[Write], outer: &Span) -> bool
 
 /// Whether a cache has room for each of some reads.
 fn reads_fit(cache: &Cache, reads: &[Read]) -> bool
-    ensures { result ≡ reads_fit cache.now.settings reads.now }
+    ensures { result ≡ reads_fit cache.now.config reads.now }
 {
     for read in reads {
         if !cache.fits(&read.span) {
@@ -565,7 +565,7 @@ fn reads_fit(cache: &Cache, reads: &[Read]) -> bool
 
 /// Adds a read that fits.
 fn add(cache: &mut Cache, span: &Span, value: Value, now: Timestamp) -> Result<(), NoMemory>
-    requires { fits cache.old.settings span.now ≡ true }
+    requires { fits cache.old.config span.now ≡ true }
     ensures stands { OnOk result (StandsAfter cache.old cache.new (record {
       span = span.now;
       value = value;
@@ -578,7 +578,7 @@ fn add(cache: &mut Cache, span: &Span, value: Value, now: Timestamp) -> Result<(
 
 /// Adds reads that fit, all of them or none.
 fn add_all(cache: &mut Cache, marks: &[Mark], now: Timestamp) -> Result<(), NoMemory>
-    requires { all_fit cache.old.settings marks.now ≡ true }
+    requires { all_fit cache.old.config marks.now ≡ true }
     ensures stands { OnOk result (StandsAfterAll cache.old cache.new marks.now now) }
     ensures unchanged { OnErr result (cache.new ≡ cache.old) }
 {

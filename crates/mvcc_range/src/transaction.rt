@@ -1,3 +1,4 @@
+//! Transactions: the reads that a commit looks at once more, and the writes that it makes.
 ghost use Rattle.std.specs.Prelude.{◌≡◌, [], ◌∷◌, ◌++◌, OnOk, OnErr};
 ghost use Rattle.mvcc_range.specs.Serial.{moved};
 

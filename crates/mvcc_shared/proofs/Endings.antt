@@ -14,7 +14,7 @@ use Rattle.mvcc_shared.specs.declared.served.Served.{Served}
 use Rattle.mvcc_shared.specs.declared.table.ClientState.{ClientState}
 use Rattle.mvcc_shared.specs.declared.table.Knowledge.{Knowledge}
 use Rattle.mvcc_shared.specs.History.{Terms}
-use Rattle.mvcc_shared.specs.Rule.{Laid, RangeRule, IsAfter, one_if, states_in, states_of, holders}
+use Rattle.mvcc_shared.specs.Rule.{StoredRange, RangeRule, IsAfter, one_if, states_in, states_of, holders}
 use Rattle.mvcc_shared.specs.Participating.{IsEnd}
 use Rattle.mvcc_shared.proofs.Totals.{part, two_parts}
 use Rattle.mvcc_shared.proofs.Moves.{Board, same_or_not}
@@ -75,7 +75,8 @@ lock_is_free setup s k id v at none long =
     ]
 
 -- So what lay in the slot is what the history leaves.
-pub ends : (key : Terms) (id : ℕ) (v : Knowledge) (words : List ℕ) (items : List Laid) (x : Laid)
+pub ends : (key : Terms) (id : ℕ) (v : Knowledge) (words : List ℕ) (items : List StoredRange)
+    (x : StoredRange)
     (served : Served) → Final (Seen (RangeRule key) id v) words items → holders v ≡ 0
     → length v.states ≡ key.clients → get_elem? items 0 ≡ maybe.some x → served ≡ x.value
     → IsEnd key v.states served
@@ -90,6 +91,6 @@ ends key id v words items x served end_ none long at is =
       history = k.history;
       legal = k.legal;
       stands = subst (IsAfter key k.history) (sym is)
-          (subst (λ (y : Laid). IsAfter key k.history y.value) same here.2);
+          (subst (λ (y : StoredRange). IsAfter key k.history y.value) same here.2);
       fits = (k.views id v seen).states;
     }

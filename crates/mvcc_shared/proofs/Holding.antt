@@ -21,7 +21,7 @@ use Rattle.atomic_table.specs.Table.{Allows, Valid, stepped, carried_after, rest
 use Rattle.mvcc_shared.specs.declared.table.ClientState.{ClientState}
 use Rattle.mvcc_shared.specs.declared.table.Knowledge.{Knowledge}
 use Rattle.mvcc_shared.specs.History.{Event, History, Terms, IsLegal, Makes, range_after, log_of, entries_of}
-use Rattle.mvcc_shared.specs.Rule.{Laid, at_rest, one_if, states_of, holders, KnowledgeFits, RangeRule, IsAfter}
+use Rattle.mvcc_shared.specs.Rule.{StoredRange, at_rest, one_if, states_of, holders, KnowledgeFits, RangeRule, IsAfter}
 use Rattle.mvcc_shared.specs.Steps.{At, number_of, seen_of, resting, holding, event_by, seen_after, acquires, releases}
 use Rattle.mvcc_shared.specs.Participating.{IsAtRest, CanRelease}
 use Rattle.mvcc_shared.proofs.Histories.{
@@ -72,13 +72,13 @@ word_set words n wide = get_or-set_same words 0 n 0 (omega (arith, wide))
 
 -- ---- acquiring
 
-module _ (setup : Terms) (slots : ℕ) (st : Step Laid) (id : ℕ) (t : Terms) (number : ℕ)
+module _ (setup : Terms) (slots : ℕ) (st : Step StoredRange) (id : ℕ) (t : Terms) (number : ℕ)
     (seen : History) where
   abbrev me : At
   me = (resting t number seen, [])
 
   abbrev Goes : Board → ℕ → Type 0
-  Goes s n = (w : Knowledge) × (a : Act Laid) × Valid s.homes [] a
+  Goes s n = (w : Knowledge) × (a : Act StoredRange) × Valid s.homes [] a
       × RangeRule setup (stepped s 0 (either (n == 0) 1 n) id [] w a)
       × acquires st me n (w, carried_after [] a)
 
@@ -153,7 +153,7 @@ module _ (setup : Terms) (slots : ℕ) (st : Step Laid) (id : ℕ) (t : Terms) (
       busy n some = grind (arith, nat_tests)
 
 -- the same, as the calls have it
-pub acquire_at : (key : Terms) (slots : ℕ) (st : Step Laid) (id : ℕ) (me : At) → IsAtRest me
+pub acquire_at : (key : Terms) (slots : ℕ) (st : Step StoredRange) (id : ℕ) (me : At) → IsAtRest me
     → Allows (RangeRule key) slots id me 0 (λ n. either (n == 0) 1 n) (acquires st me)
 acquire_at key slots st id me rest =
     subst (λ (m : At). Allows (RangeRule key) slots id m 0 (λ n. either (n == 0) 1 n)
@@ -184,8 +184,8 @@ more_of_another setup h e u none free fits = record {
   front = begins_push h u.front e fits.front;
 }
 
-module _ (setup : Terms) (slots : ℕ) (st : Step Laid) (id : ℕ) (t : Terms) (number : ℕ)
-    (seen : History) (x : Laid) where
+module _ (setup : Terms) (slots : ℕ) (st : Step StoredRange) (id : ℕ) (t : Terms) (number : ℕ)
+    (seen : History) (x : StoredRange) where
   abbrev v : Knowledge
   v = holding t number seen
 
@@ -257,7 +257,8 @@ module _ (setup : Terms) (slots : ℕ) (st : Step Laid) (id : ℕ) (t : Terms) (
       )
 
 -- the same, as the calls have it
-pub release_at : (key : Terms) (slots : ℕ) (st : Step Laid) (id : ℕ) (me : At) (x : Laid)
+pub release_at : (key : Terms) (slots : ℕ) (st : Step StoredRange) (id : ℕ) (me : At)
+    (x : StoredRange)
     → CanRelease me x
     → Allows (RangeRule key) slots id me 0 (λ _. 0) (λ _. releases st me 0)
 release_at key slots st id me x can =
@@ -266,10 +267,11 @@ release_at key slots st id me x can =
     (release_allowed key slots st id me.0.setup (number_of me.0) (seen_of me.0) x can.made can.log)
 
 -- and nothing is in hand then
-pub left_over : (st : Step Laid) (me me' : At) (x : Laid) → CanRelease me x → releases st me 0 me'
+pub left_over : (st : Step StoredRange) (me me' : At) (x : StoredRange) → CanRelease me x →
+    releases st me 0 me'
     → me' ≡ (resting me.0.setup (number_of me.0) (seen_after me.0 me.1), [])
 left_over st me me' x can done = done
-    ∙ ap (λ (hand : List (ℕ × Laid)). (
+    ∙ ap (λ (hand : List (ℕ × StoredRange)). (
       resting me.0.setup (number_of me.0) (seen_after me.0 me.1),
       rest hand,
     )) (ap (λ (m : At). m.1) can.holds)

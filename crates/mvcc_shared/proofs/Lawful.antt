@@ -5,7 +5,7 @@ use Rattle.std.specs.List.{AllByRecursion}
 use Rattle.std.proofs.lemmas.Bool.{cases_Bool}
 use Rattle.tsc_time.proofs.TimeOrder.{no_earlier-transitive}
 use Rattle.tsc_span.specs.Span.{covers}
-use Rattle.timestamp_cache.specs.Words.{Time, is_before, Interval, KeyBytes}
+use Rattle.timestamp_cache.specs.Words.{Time, is_before, SpanView, KeyBytes}
 use Rattle.mvcc_versions.specs.Versions.{Content, Contents, Read, Write, after_writes, as_of, chain_of}
 use Rattle.mvcc_range.specs.Serial.{
   Transaction,
@@ -164,7 +164,7 @@ reads_own_writes from to before after span now rows there reads own matches =
     let read : Read = reads.read in
     let was : Contents = as_of before.at from.chains in
     let same : (k : KeyBytes) → covers span k ≡ true → was k ≡ there k =
-    λ k c. let c' : covers read.span k ≡ true = ap (λ (s : Interval). covers s k) reads.of ∙ c in
+    λ k c. let c' : covers read.span k ≡ true = ap (λ (s : SpanView). covers s k) reads.of ∙ c in
     sym (reads.answers.matches.rows k c') ∙ matches.rows k c' in
     matches_same (record { span = span; rows = rows }) (executed was before)
     (executed there before)

@@ -18,7 +18,7 @@ use Rattle.mvcc_shared.specs.History.{
   entries_of,
 }
 use Rattle.mvcc_shared.specs.Pending.{call_of}
-use Rattle.mvcc_shared.specs.Rule.{Laid}
+use Rattle.mvcc_shared.specs.Rule.{StoredRange}
 use Rattle.mvcc_shared.specs.Steps.{At, resting, holding, number_of, seen_of, seen_after}
 use Rattle.mvcc_shared.specs.Steps.{Acquires}
 use Rattle.mvcc_shared.specs.Participating.{
@@ -36,22 +36,22 @@ use Rattle.mvcc_shared.specs.Answers.{GoesOn, Calls}
 use Rattle.mvcc_shared.proofs.Histories.{begins_push, legal_push}
 
 -- what is in hand is what was taken
-hand_of : List (ℕ × Laid) → Laid → Laid
+hand_of : List (ℕ × StoredRange) → StoredRange → StoredRange
 hand_of [] d = d
 hand_of ((k, x) ∷ others) d = x
 
-same_in_hand : (hand : List (ℕ × Laid)) (x y : Laid) (zs ws : List (ℕ × Laid))
+same_in_hand : (hand : List (ℕ × StoredRange)) (x y : StoredRange) (zs ws : List (ℕ × StoredRange))
     → hand ≡ (0, x) ∷ zs → hand ≡ (0, y) ∷ ws → x ≡ y
 unfolding hand_of
 same_in_hand hand x y zs ws e f = ap (λ h. hand_of h x) (sym e ∙ f)
 
-pub has_in_hand : (me me' : At) (y : Laid) → Acquires me me' y → me'.1 ≡ (0, y) ∷ rest me'.1
-has_in_hand me me' y a = subst (λ (hand : List (ℕ × Laid)). hand ≡ (0, y) ∷ rest hand)
+pub has_in_hand : (me me' : At) (y : StoredRange) → Acquires me me' y → me'.1 ≡ (0, y) ∷ rest me'.1
+has_in_hand me me' y a = subst (λ (hand : List (ℕ × StoredRange)). hand ≡ (0, y) ∷ rest hand)
     (sym (ap (λ (m : At). m.1) a.after)) refl
 
 -- A client has acquired the lock, found y there, and put x in its place.
-module _ (me me' : At) (y x : Laid) (old : Served) (rested : IsAtRest me) (a : Acquires me me' y)
-    (found : old ≡ y.value) (made : HasMade old x.value) where
+module _ (me me' : At) (y x : StoredRange) (old : Served) (rested : IsAtRest me)
+    (a : Acquires me me' y) (found : old ≡ y.value) (made : HasMade old x.value) where
   abbrev pub hand : At
   hand = (me'.0, (0, x) ∷ rest me'.1)
 
@@ -101,15 +101,16 @@ module _ (me me' : At) (y x : Laid) (old : Served) (rested : IsAtRest me) (a : A
   }
 
 -- the same, as the calls have it: what was found in the slot became something else there
-module _ (me me' : At) (taken : (y : Laid) × Acquires me me' y) (slot : Laid) (old new : Served)
+module _ (me me' : At) (taken : (y : StoredRange) × Acquires me me' y) (slot : StoredRange)
+    (old new : Served)
     (rested : IsAtRest me) (value : me'.1 ≡ (0, slot) ∷ rest me'.1) (found : old ≡ slot.value)
     (made : HasMade old new) where
   found_there : old ≡ taken.0.value
   found_there = found
-      ∙ ap (λ (x : Laid). x.value) (same_in_hand me'.1 slot taken.0 (rest me'.1) me.1 value
+      ∙ ap (λ (x : StoredRange). x.value) (same_in_hand me'.1 slot taken.0 (rest me'.1) me.1 value
       (ap (λ (m : At). m.1) taken.1.after))
 
-  pub may_release : (x : Laid) × CanRelease (me'.0, (0, with_value slot new) ∷ rest me'.1) x
+  pub may_release : (x : StoredRange) × CanRelease (me'.0, (0, with_value slot new) ∷ rest me'.1) x
   may_release = (
     with_value slot new,
     can_release me me' taken.0 (with_value slot new) old rested taken.1 found_there made,

@@ -13,16 +13,16 @@ use Rattle.atomic_table.proofs.Lists.{at_set}
 use Rattle.mvcc_shared.specs.declared.table.ClientState.{ClientState}
 use Rattle.mvcc_shared.specs.declared.table.Knowledge.{Knowledge}
 use Rattle.mvcc_shared.specs.History.{History, Terms, IsLegal}
-use Rattle.mvcc_shared.specs.Rule.{Laid, keeping, one_if, RangeRule, KnowledgeFits, StateFits}
+use Rattle.mvcc_shared.specs.Rule.{StoredRange, keeping, one_if, RangeRule, KnowledgeFits, StateFits}
 use Rattle.mvcc_shared.specs.Rule.{states_in, states_of, holders, IsHome}
 use Rattle.mvcc_shared.proofs.Histories.{begins_empty}
 use Rattle.mvcc_shared.proofs.Totals.{part, two_parts, total_set}
 
 abbrev pub Board : Type 0
-Board = State Laid Knowledge
+Board = State StoredRange Knowledge
 
 abbrev pub Homes : Type 0
-Homes = List (maybe.Option Laid)
+Homes = List (maybe.Option StoredRange)
 
 -- whether the lock is held, as 1 or 0
 abbrev pub busy_in : List ℕ → ℕ

@@ -18,7 +18,7 @@ use Rattle.mvcc_shared.specs.declared.table.ClientState.{ClientState}
 use Rattle.mvcc_shared.specs.declared.table.Knowledge.{Knowledge}
 use Rattle.mvcc_shared.specs.History.{Terms}
 use Rattle.mvcc_shared.specs.Rule.{
-  Laid,
+  StoredRange,
   at_rest,
   fresh_states,
   first_knowledge,
@@ -105,7 +105,7 @@ fresh_at from (suc n) zero p e = sym (some-injective (at_rest from []) p e)
 fresh_at from (suc n) (suc i) p e = fresh_at (suc from) n i p e ∙ ap (λ (k : ℕ). at_rest k [])
     (omega arith)
 
-opening_kept : (setup : Terms) (x : Laid) → IsOpened setup.config setup.opened
+opening_kept : (setup : Terms) (x : StoredRange) → IsOpened setup.config setup.opened
     → IsAfter setup [] x.value
     → RangeRule setup (opening (0 ∷ []) (x ∷ []) (first_knowledge setup))
 opening_kept setup x opened is =
@@ -155,15 +155,15 @@ opening_kept setup x opened is =
     by_number number false is = fresh_past 0 setup.clients number (grind (arith, nat_tests))
 
 -- the rule at the opening, with what lies in the slot then
-pub opens : (setup : Terms) (range : RangeView) (log : Vec Transaction Global) (x : Laid)
-    (none slots : List Laid) → range ≡ setup.opened → IsOpened setup.config setup.opened
+pub opens : (setup : Terms) (range : RangeView) (log : Vec Transaction Global) (x : StoredRange)
+    (none slots : List StoredRange) → range ≡ setup.opened → IsOpened setup.config setup.opened
     → log.items ≡ [] → x.value ≡ record { range = range; log = log; pending = Refuse } → none ≡ []
     → slots ≡ none ++ x ∷ []
     → RangeRule setup (opening (0 ∷ []) slots (first_knowledge setup))
-opens setup range log x none slots same opened empty laid is_none pushed =
-    let one : slots ≡ x ∷ [] = pushed ∙ ap (λ (xs : List Laid). xs ++ x ∷ []) is_none in
-    subst (λ (xs : List Laid). RangeRule setup (opening (0 ∷ []) xs (first_knowledge setup)))
+opens setup range log x none slots same opened empty stored is_none pushed =
+    let one : slots ≡ x ∷ [] = pushed ∙ ap (λ (xs : List StoredRange). xs ++ x ∷ []) is_none in
+    subst (λ (xs : List StoredRange). RangeRule setup (opening (0 ∷ []) xs (first_knowledge setup)))
     (sym one) (opening_kept setup x opened (record {
-      range = ap (λ (s : Served). s.range) laid ∙ same;
-      log = ap (λ (s : Served). s.log.items) laid ∙ empty;
+      range = ap (λ (s : Served). s.range) stored ∙ same;
+      log = ap (λ (s : Served). s.log.items) stored ∙ empty;
     }))

@@ -8,7 +8,7 @@ use Rattle.mvcc_range.specs.declared.error.RangeError.{RangeError}
 use Rattle.mvcc_range.specs.declared.error.RangeError.TheVariants.{OutOfRange, TooEarly, TooLarge, NoMemory}
 use Rattle.mvcc_range.specs.Serial.{Transaction}
 use Rattle.mvcc_range.specs.Steps.{RangeView, reads_fit}
-use Rattle.mvcc_shared.specs.Answers.{TellsRefused}
+use Rattle.mvcc_shared.specs.Answers.{ReportsRefused}
 
 abbrev is_ok : {T E : Type 0} → Result T E → Bool
 is_ok (Ok y) = true
@@ -17,7 +17,7 @@ is_ok (Err f) = false
 -- What is not refused tells of an error that it isn't refused as that.
 module _ {T E A : Type 0} (x : T) (e : E) where
   pub still_not : (IsErrOf {T = T} {E = E} (Ok x) e ↔ A) → ⊥ ↔ A
-  still_not told = ((λ none. absurd none), (λ a. both_ways true (ap is_ok (told.1 a)) refl))
+  still_not reported = ((λ none. absurd none), (λ a. both_ways true (ap is_ok (reported.1 a)) refl))
 
 -- ---- a refused one
 
@@ -35,8 +35,8 @@ not_both false b low both = true≢false (sym both)
 -- what may be committed is refused for want of memory alone
 pub only_memory : (range : RangeView) (t back : Transaction)
     → are_within t.writes range.span ≡ true → is_before t.at range.threshold ≡ false
-    → reads_fit range.cache.settings t.reads ≡ true
-    → TellsRefused range t (Err (record { error = NoMemory; transaction = back }))
+    → reads_fit range.cache.config t.reads ≡ true
+    → ReportsRefused range t (Err (record { error = NoMemory; transaction = back }))
 only_memory range t back within early fit = record {
   out_of_range = neither (λ e. true≢false (ap is_memory e)) (λ out. true≢false (sym within ∙ out));
   too_early = neither (λ e. true≢false (ap is_memory e)) (not_both _ _ early);
@@ -49,9 +49,9 @@ error_or d (Err e) = e
 
 -- why a call was refused is why the commit is
 module _ {T A : Type 0} (error x : RangeError) where
-  as_told : (IsErrOf {T = T} {E = RangeError} (Err error) x ↔ A) → (error ≡ x) ↔ A
+  as_reported : (IsErrOf {T = T} {E = RangeError} (Err error) x ↔ A) → (error ≡ x) ↔ A
   unfolding error_or
-  as_told told = ((λ e. told.0 (ap Err e)), (λ a. ap (error_or x) (told.1 a)))
+  as_reported reported = ((λ e. reported.0 (ap Err e)), (λ a. ap (error_or x) (reported.1 a)))
 
 pub refused_so : {T : Type 0} (range : RangeView) (t back : Transaction) (error : RangeError)
     → (IsErrOf {T = T} {E = RangeError} (Err error) OutOfRange
@@ -60,10 +60,10 @@ pub refused_so : {T : Type 0} (range : RangeView) (t back : Transaction) (error 
     ↔ ((are_within t.writes range.span && is_before t.at range.threshold) ≡ true))
     → (IsErrOf {T = T} {E = RangeError} (Err error) TooLarge
     ↔ ((are_within t.writes range.span && not (is_before t.at range.threshold)
-    && not (reads_fit range.cache.settings t.reads)) ≡ true))
-    → TellsRefused range t (Err (record { error = error; transaction = back }))
+    && not (reads_fit range.cache.config t.reads)) ≡ true))
+    → ReportsRefused range t (Err (record { error = error; transaction = back }))
 refused_so range t back error out early large = record {
-  out_of_range = as_told error OutOfRange out;
-  too_early = as_told error TooEarly early;
-  too_large = as_told error TooLarge large;
+  out_of_range = as_reported error OutOfRange out;
+  too_early = as_reported error TooEarly early;
+  too_large = as_reported error TooLarge large;
 }

@@ -57,9 +57,9 @@ step_more old new (has_ended t now (Restart (Changed at))) log ends ran =
     same_range old new log ran ends.2
 step_more old new (has_ended t now (Restart NoTime)) log ends ran =
     same_range old new log ran ends.1
-step_more old new (has_handed_on settings) log hands ran = same_log new log (record {
+step_more old new (has_handed_on config) log hands ran = same_log new log (record {
   answered = ran.answered;
-  run = hands_on settings old new ran.answered (reverse log) ran.run hands;
+  run = hands_on config old new ran.answered (reverse log) ran.run hands;
 })
 step_more old new (has_collected before) log collected ran = same_log new log (record {
   answered = ran.answered;

@@ -14,7 +14,7 @@ use Rattle.mvcc_shared.specs.declared.table.ClientState.{ClientState}
 use Rattle.mvcc_shared.specs.declared.table.Knowledge.{Knowledge}
 use Rattle.mvcc_shared.specs.History.{History, Terms, IsLegal, calls_of}
 use Rattle.mvcc_shared.specs.Rule.{
-  Laid,
+  StoredRange,
   keeping,
   at_rest,
   one_if,
@@ -209,7 +209,7 @@ front_joins setup id t p other u seen s k at apart at_other =
     (omega arith) (λ n. omega arith) (omega arith)
 
 -- That one has then seen the longer of both.
-catch_up_allowed : (setup : Terms) (slots : ℕ) (st : Step Laid) (id : ℕ) (t : Terms)
+catch_up_allowed : (setup : Terms) (slots : ℕ) (st : Step StoredRange) (id : ℕ) (t : Terms)
     (number : ℕ) (seen other : History)
     → Allows (RangeRule setup) slots id (with_front t (at_rest number seen) other, []) 0
     (λ n. n) (catches_up st (with_front t (at_rest number seen) other, []))
@@ -284,7 +284,7 @@ joined_then me me' front rested is = is ∙ (λ i. (
   (rested i).1,
 ))
 
-pub catch_up_at : (key : Terms) (slots : ℕ) (st : Step Laid) (id : ℕ) (me : At) (t : Terms)
+pub catch_up_at : (key : Terms) (slots : ℕ) (st : Step StoredRange) (id : ℕ) (me : At) (t : Terms)
     (number : ℕ) (seen other : History)
     → me ≡ (with_front t (at_rest number seen) other, [])
     → Allows (RangeRule key) slots id me 0 (λ n. n) (catches_up st me)
@@ -293,7 +293,7 @@ catch_up_at key slots st id me t number seen other is =
     (catch_up_allowed key slots st id t number seen other)
 
 -- It has caught up then.
-pub caught_up_then : (st : Step Laid) (found : ℕ) (me was me' : At) (other : History)
+pub caught_up_then : (st : Step StoredRange) (found : ℕ) (me was me' : At) (other : History)
     → was ≡ (
       with_front me.0.setup (at_rest (number_of me.0) (seen_of me.0)) other,
       [],

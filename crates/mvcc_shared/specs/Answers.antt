@@ -29,9 +29,9 @@ use Rattle.std.specs.Prelude.{
   OnErr,
   IsErrOf,
 }
-use Rattle.tsc_cache.specs.Settings.{fits}
+use Rattle.tsc_cache.specs.ConfigView.{fits}
 use Rattle.std.specs.declared.alloc.Global.{Global}
-use Rattle.timestamp_cache.specs.Words.{Time, is_before, Interval, Settings}
+use Rattle.timestamp_cache.specs.Words.{Time, is_before, SpanView, ConfigView}
 use Rattle.tsc_cache.specs.declared.fault.CacheFault.{CacheFault}
 use Rattle.tsc_cache.specs.declared.fault.CacheFault.TheVariants as fault
 use Rattle.mvcc_versions.specs.Versions.{Row, is_within, are_within}
@@ -40,7 +40,7 @@ use Rattle.mvcc_range.specs.declared.error.RangeError.{RangeError}
 use Rattle.mvcc_range.specs.declared.error.RangeError.TheVariants.{OutOfRange, TooEarly, TooLarge}
 use Rattle.mvcc_range.specs.Serial.{Transaction}
 use Rattle.mvcc_range.specs.Steps.{RangeView, IsOpened, IsSame, Collects, reads_fit}
-use Rattle.mvcc_range.specs.Calls.{Reads, SeesOwn, TellsTooLarge, HandsOnBy, Ends}
+use Rattle.mvcc_range.specs.Calls.{Reads, SeesOwn, ReportsTooLarge, HandsOnBy, Ends}
 use Rattle.mvcc_range.specs.Laws.{IsSerializable}
 use Rattle.mvcc_shared.specs.declared.answers.Closed.{Closed}
 use Rattle.mvcc_shared.specs.declared.answers.NotCommitted.{NotCommitted}
@@ -69,11 +69,11 @@ use Rattle.mvcc_shared.specs.Clients.{
 }
 
 -- A range of a span is opened with these settings for that many clients, none of which is dealt.
-pub record Opens (span : Interval) (settings : Settings) (clients : ℕ) (range : SharedView)
+pub record Opens (span : SpanView) (config : ConfigView) (clients : ℕ) (range : SharedView)
     (dealer : DealerView) : Type 0 where
-  pub settings_are : range.terms.config ≡ settings
+  pub config_is : range.terms.config ≡ config
   pub clients_are : range.terms.clients ≡ clients
-  pub opened : IsOpened settings range.terms.opened
+  pub opened : IsOpened config range.terms.opened
   pub span_is : range.terms.opened.span ≡ span
   pub dealer_is : dealer ≡ record { range = range; dealt = 0 }
 
@@ -115,7 +115,7 @@ pub record Calls (old new : ClientView) (holds : RangeView → Call → RangeVie
 -- What a read answers on a range, as the range's own: the rows that the transaction sees, or why it
 -- is refused.
 pub record ReadsAt (old : RangeView) (call : Call) (new : RangeView) (before after : Transaction)
-    (span : Interval) (now : Time) (result : Result (Vec Row Global) RangeError) : Type 0 where
+    (span : SpanView) (now : Time) (result : Result (Vec Row Global) RangeError) : Type 0 where
   pub ok : OnOk result ((call ≡ has_read before after span now)
       × Reads old new before after span now)
   pub own : IfOk result (λ rows. SeesOwn old before span rows.items)
@@ -125,7 +125,7 @@ pub record ReadsAt (old : RangeView) (call : Call) (new : RangeView) (before aft
       ↔ ((is_within span old.span && is_before before.at old.threshold) ≡ true)
   pub too_large : IsErrOf result TooLarge
       ↔ ((is_within span old.span && not (is_before before.at old.threshold)
-      && not (fits old.cache.settings span)) ≡ true)
+      && not (fits old.cache.config span)) ≡ true)
 
 -- a commit was refused with this error
 abbrev pub IsRefusedAs : Result Outcome NotCommitted → RangeError → Type 0
@@ -133,14 +133,14 @@ IsRefusedAs (Ok outcome) error = ⊥
 IsRefusedAs (Err refused) error = refused.error ≡ error
 
 -- When a commit is refused, but for want of memory, for which none is that is wrong otherwise.
-pub record TellsRefused (range : RangeView) (t : Transaction)
+pub record ReportsRefused (range : RangeView) (t : Transaction)
     (result : Result Outcome NotCommitted) : Type 0 where
   pub out_of_range : IsRefusedAs result OutOfRange ↔ (are_within t.writes range.span ≡ false)
   pub too_early : IsRefusedAs result TooEarly
       ↔ ((are_within t.writes range.span && is_before t.at range.threshold) ≡ true)
   pub too_large : IsRefusedAs result TooLarge
       ↔ ((are_within t.writes range.span && not (is_before t.at range.threshold)
-      && not (reads_fit range.cache.settings t.reads)) ≡ true)
+      && not (reads_fit range.cache.config t.reads)) ≡ true)
 
 -- What a commit answers on a range, as the range's own: how the transaction ends, or why it is
 -- refused. A transaction whose commit is refused comes back.
@@ -149,15 +149,15 @@ pub record EndsAt (old : RangeView) (call : Call) (new : RangeView) (t : Transac
   pub ok : IfOk result (λ outcome. (call ≡ has_ended t now outcome) × Ends old new t now outcome)
   pub err : OnErr result ((call ≡ was_refused) × IsSame old new)
   pub again : IfErr result (λ refused. refused.transaction ≡ t)
-  pub why : TellsRefused old t result
+  pub why : ReportsRefused old t result
 
 -- What a hand-over to a new lease answers on a range, as the range's own.
-pub record HandsOnAt (old : RangeView) (call : Call) (new : RangeView) (settings : Settings)
+pub record HandsOnAt (old : RangeView) (call : Call) (new : RangeView) (config : ConfigView)
     (most : ℕ) (now : Time) (result : Result Unit CacheFault) : Type 0 where
-  pub ok : OnOk result ((call ≡ has_handed_on settings) × HandsOnBy settings most now old new)
+  pub ok : OnOk result ((call ≡ has_handed_on config) × HandsOnBy config most now old new)
   pub err : OnErr result ((call ≡ was_refused) × (new ≡ old))
   pub too_large : IsErrOf result fault.NoMemory
-      ⊎ TellsTooLarge old.cache old.span settings most (IsErrOf result fault.TooLarge)
+      ⊎ ReportsTooLarge old.cache old.span config most (IsErrOf result fault.TooLarge)
 
 -- What the dropping of old versions makes of a range, as the range's own.
 pub record CollectsAt (old : RangeView) (call : Call) (new : RangeView) (before : Time) : Type 0

@@ -1,6 +1,6 @@
 -- The history of a range that threads share: what each call did, one call after another.
 use Rattle.std.specs.Prelude.{◌≡◌, ℕ, ◌<◌, ◌==◌, List, [], ◌∷◌, ◌++◌, filter}
-use Rattle.timestamp_cache.specs.Words.{Time, Interval, Settings}
+use Rattle.timestamp_cache.specs.Words.{Time, SpanView, ConfigView}
 use Rattle.mvcc_range.specs.declared.range.Outcome.{Outcome}
 use Rattle.mvcc_range.specs.declared.range.Outcome.TheVariants.{Committed, Restart}
 use Rattle.mvcc_range.specs.Serial.{Transaction, moved}
@@ -11,9 +11,9 @@ use Rattle.mvcc_range.specs.Calls.{Reads, Ends}
 -- transaction; or it handed the range on, with these settings; or it dropped what is of no use from
 -- a time on; or it was refused.
 pub data Call : Type 0 where
-  has_read : (before after : Transaction) (span : Interval) (now : Time) → Call
+  has_read : (before after : Transaction) (span : SpanView) (now : Time) → Call
   has_ended : (t : Transaction) (now : Time) (outcome : Outcome) → Call
-  has_handed_on : Settings → Call
+  has_handed_on : ConfigView → Call
   has_collected : Time → Call
   was_refused : Call
 
@@ -22,7 +22,7 @@ pub data Call : Type 0 where
 abbrev pub Makes : RangeView → Call → RangeView → Type 0
 Makes old (has_read before after span now) new = Reads old new before after span now
 Makes old (has_ended t now outcome) new = Ends old new t now outcome
-Makes old (has_handed_on settings) new = HandsOn settings old new
+Makes old (has_handed_on config) new = HandsOn config old new
 Makes old (has_collected before) new = Collects old new before
 Makes old was_refused new = IsSame old new
 
@@ -55,7 +55,7 @@ entries_ended t (Restart reason) = []
 abbrev pub entries_of : Call → List Transaction
 entries_of (has_read before after span now) = []
 entries_of (has_ended t now outcome) = entries_ended t outcome
-entries_of (has_handed_on settings) = []
+entries_of (has_handed_on config) = []
 entries_of (has_collected before) = []
 entries_of was_refused = []
 
@@ -78,7 +78,7 @@ Follows clients range (e ∷ h) = (e.client < clients) × Makes range e.call e.r
 -- what was settled at the opening: how the range was set up, how many clients there are, and what
 -- the range was then
 pub record Terms : Type 0 where
-  pub config : Settings
+  pub config : ConfigView
   pub clients : ℕ
   pub opened : RangeView
 

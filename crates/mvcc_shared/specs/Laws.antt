@@ -2,7 +2,7 @@
 use Rattle.std.specs.Prelude.{◌≡◌, ◌≢◌, List, [], ◌∷◌, ◌++◌, true, false, not, filter, reverse, None}
 use Rattle.std.specs.List.{AllByRecursion, Contains}
 use Rattle.tsc_span.specs.Span.{covers}
-use Rattle.timestamp_cache.specs.Words.{Time, is_before, Interval, KeyBytes}
+use Rattle.timestamp_cache.specs.Words.{Time, is_before, SpanView, KeyBytes}
 use Rattle.mvcc_versions.specs.Versions.{
   Contents,
   Row,
@@ -66,7 +66,7 @@ StrictByTimes = (t u : Transaction) (later between earlier : List Transaction)
 -- reads in every store where its read is just so. By serializability that is the store at its turn
 -- in the serial order.
 abbrev pub ReadsOwnWrites : Type 0
-ReadsOwnWrites = (from to : RangeView) (before after : Transaction) (span : Interval) (now : Time)
+ReadsOwnWrites = (from to : RangeView) (before after : Transaction) (span : SpanView) (now : Time)
     (rows : List Row) (there : Contents) → (reads : Reads from to before after span now)
     → SeesOwn from before span rows → Matches reads.read there
     → Matches (record { span = span; rows = rows }) (executed there before)

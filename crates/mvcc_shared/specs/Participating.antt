@@ -22,11 +22,11 @@ use Rattle.mvcc_shared.specs.History.{
   entries_of,
 }
 use Rattle.mvcc_shared.specs.Pending.{call_of}
-use Rattle.mvcc_shared.specs.Rule.{Laid, keeping, one_if, StateFits, IsAfter}
+use Rattle.mvcc_shared.specs.Rule.{StoredRange, keeping, one_if, StateFits, IsAfter}
 use Rattle.mvcc_shared.specs.Steps.{At, number_of, seen_of, resting, holding, front_of}
 
 abbrev pub Participant : Type 0
-Participant = TableSeat Laid Knowledge
+Participant = TableSeat StoredRange Knowledge
 
 -- the table has a word and a slot
 pub record IsSized (table : TableId) : Type 0 where
@@ -52,7 +52,7 @@ IsFront me = me ≡ (front_of me.0.setup me.0.front, [])
 
 -- A client holds the lock, and has this in hand, of which a call was made: the range is what that
 -- call made of the one before it, and the log has what the call adds.
-pub record CanRelease (me : At) (x : Laid) : Type 0 where
+pub record CanRelease (me : At) (x : StoredRange) : Type 0 where
   pub holds : me ≡ (holding me.0.setup (number_of me.0) (seen_of me.0), (0, x) ∷ [])
   pub made : Makes (range_after me.0.setup.opened (seen_of me.0)) (call_of x.value.pending)
       x.value.range

@@ -67,8 +67,8 @@ pub record KnowledgeFits (setup : Terms) (history : History) (v : Knowledge) : T
   pub front : BeginsWith history v.front
 
 -- what lies in the slot
-abbrev pub Laid : Type 0
-Laid = Box Served Global
+abbrev pub StoredRange : Type 0
+StoredRange = Box Served Global
 
 -- A range and its log are what a history leaves.
 pub record IsAfter (terms : Terms) (history : History) (served : Served) : Type 0 where
@@ -76,13 +76,13 @@ pub record IsAfter (terms : Terms) (history : History) (served : Served) : Type 
   pub log : served.log.items ≡ log_of history
 
 -- The range is at home, and is what the history leaves.
-abbrev pub IsHome : Terms → History → List (maybe.Option Laid) → Type 0
-IsHome setup history homes = (x : Laid) × (get_elem? homes 0 ≡ maybe.some (maybe.some x))
+abbrev pub IsHome : Terms → History → List (maybe.Option StoredRange) → Type 0
+IsHome setup history homes = (x : StoredRange) × (get_elem? homes 0 ≡ maybe.some (maybe.some x))
     × IsAfter setup history x.value
 
 -- There is one legal history. What each participant knows fits, and each client has one state.
 -- Where the lock is free, nobody holds it, and the range is at home. Else one client holds it.
-pub record RangeRule (setup : Terms) (s : State Laid Knowledge) : Type 0 where
+pub record RangeRule (setup : Terms) (s : State StoredRange Knowledge) : Type 0 where
   pub history : History
   pub legal : IsLegal setup history
   pub wide : length s.words ≡ 1

@@ -2,14 +2,14 @@
 use Rattle.std.specs.Prelude.{◌≡◌, ◌↔◌, ℕ, List, [], ◌∷◌, true, false, Some}
 use Rattle.std.specs.List.{AllByRecursion, Contains, sum_by}
 use Rattle.tsc_span.specs.Span.{covers}
-use Rattle.timestamp_cache.specs.Words.{KeyBytes, Interval, is_before}
+use Rattle.timestamp_cache.specs.Words.{KeyBytes, SpanView, is_before}
 use Rattle.mvcc_versions.specs.Versions.{Contents, Row, latest, AreInKeyOrder}
 use Rattle.mvcc_range.specs.Serial.{Transaction, empty, executed}
 use Rattle.mvcc_range.specs.Steps.{RangeView, Answered, Execution}
 
 -- What a scan of a store with one version of each key answers: a row for each key of the span that
 -- has something, and no other row, in the order of the keys.
-pub record IsScan (span : Interval) (rows : List Row) (store : Contents) : Type 0 where
+pub record IsScan (span : SpanView) (rows : List Row) (store : Contents) : Type 0 where
   pub just : (k : KeyBytes) (v : List ℕ) → Contains rows (record { key = k; value = v })
       ↔ ((covers span k ≡ true) × (store k ≡ Some v))
   pub order : AreInKeyOrder rows

@@ -1,3 +1,4 @@
+//! What the calls of a shared range answer.
 use crate::{Client, Dealer, SharedRange};
 use mvcc_range::{Range, RangeError, Transaction};
 

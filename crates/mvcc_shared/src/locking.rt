@@ -1,6 +1,6 @@
 //! Acquiring the lock, and releasing it.
 ghost use Rattle.std.specs.Prelude.{◌≡◌, [], true, false};
-ghost use Rattle.mvcc_shared.specs.Rule.{Laid};
+ghost use Rattle.mvcc_shared.specs.Rule.{StoredRange};
 ghost use Rattle.mvcc_shared.specs.Steps.{Acquires, number_of, seen_after, resting};
 ghost use Rattle.mvcc_shared.specs.Participating.{IsOf, IsAtRest, CanRelease};
 
@@ -14,7 +14,7 @@ fn try_acquire(shared: &SharedLock, who: &mut Participant) -> bool
     requires of { IsOf who.old shared.now.table_id }
     requires rest { IsAtRest who.old.me }
     ensures table { who.new.table_id ≡ who.old.table_id }
-    ensures acquired { result ≡ true → (x : Laid) × Acquires who.old.me who.new.me x }
+    ensures acquired { result ≡ true → (x : StoredRange) × Acquires who.old.me who.new.me x }
     ensures busy { result ≡ false → who.new.me ≡ who.old.me }
 {
     shared.compare_exchange::<Acquire>(who, 0, 0, 1) == 0
@@ -25,7 +25,7 @@ pub(crate) fn acquire<R: Wait>(rt: &R, shared: &SharedLock, who: &mut Participan
     requires of { IsOf who.old shared.now.table_id }
     requires rest { IsAtRest who.old.me }
     ensures table { who.new.table_id ≡ who.old.table_id }
-    ensures acquired { (x : Laid) × Acquires who.old.me who.new.me x }
+    ensures acquired { (x : StoredRange) × Acquires who.old.me who.new.me x }
 {
     let backoff = Backoff::new();
     for _ in rt.forever() {
@@ -40,7 +40,7 @@ pub(crate) fn acquire<R: Wait>(rt: &R, shared: &SharedLock, who: &mut Participan
 /// Releases the lock. The call that was made on what is in hand is the last of the history.
 pub(crate) fn release(shared: &SharedLock, who: &mut Participant)
     requires of { IsOf who.old shared.now.table_id }
-    requires can { (x : Laid) × CanRelease who.old.me x }
+    requires can { (x : StoredRange) × CanRelease who.old.me x }
     ensures table { who.new.table_id ≡ who.old.table_id }
     ensures released { who.new.me ≡ (
       resting who.old.me.0.setup (number_of who.old.me.0)

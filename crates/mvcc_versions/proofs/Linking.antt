@@ -19,7 +19,7 @@ use Rattle.std.proofs.lemmas.Bool.{cases_Bool}
 use Rattle.std.proofs.lemmas.Slice.Eq.{bytes_eq-Decides}
 use Rattle.tsc_span.specs.Span.{key_cmp}
 use Rattle.timestamp_cache.specs.Words.{Time, Owner, KeyBytes}
-use Rattle.mvcc_versions.specs.Versions.{Version, Write, laid, Chains, chain_of}
+use Rattle.mvcc_versions.specs.Versions.{Version, Write, stored, Chains, chain_of}
 use Rattle.mvcc_versions.specs.Maps.{IsRoom, HasRoom, HaveRoom}
 use Rattle.mvcc_versions.proofs.RowsAsOf.{is_at-key}
 
@@ -162,16 +162,16 @@ room_on ws i w m next d keeps room =
     have_room (length (drop i ws)) j m next ws
     (λ k has. keeps k j (subst (λ (n : ℕ). HasRoom n m.entries k) long has)) room
 
-pub laid_on : (ws : List Write) (i : ℕ) (w : Write) (at : Time) (by : Owner) (old m next : Map)
+pub stored_on : (ws : List Write) (i : ℕ) (w : Write) (at : Time) (by : Owner) (old m next : Map)
     (node : List Version) → drop i ws ≡ w ∷ drop (i + 1) ws → node ≡ one_version at by w
     → ((k : KeyBytes) → chain_of next.entries k ≡ (if bytes_eq w.key k then node
     ++ chain_of m.entries k else chain_of m.entries k))
-    → ((k : KeyBytes) → laid k at by (drop i ws) (chain_of m.entries k) ≡ laid k at by ws
+    → ((k : KeyBytes) → stored k at by (drop i ws) (chain_of m.entries k) ≡ stored k at by ws
     (chain_of old.entries k))
-    → (k : KeyBytes) → laid k at by (drop (i + 1) ws) (chain_of next.entries k) ≡ laid k at by ws
-    (chain_of old.entries k)
-laid_on ws i w at by old m next node d is chains so_far k =
-    ap (λ (vs : List Version). laid k at by (drop (i + 1) ws) vs) (chains k
+    → (k : KeyBytes) → stored k at by (drop (i + 1) ws) (chain_of next.entries k) ≡ stored k at by
+    ws (chain_of old.entries k)
+stored_on ws i w at by old m next node d is chains so_far k =
+    ap (λ (vs : List Version). stored k at by (drop (i + 1) ws) vs) (chains k
     ∙ ap (λ (x : List Version). if bytes_eq w.key k then x ++ chain_of m.entries k else
     chain_of m.entries k) is)
-    ∙ (sym (ap (λ (xs : List Write). laid k at by xs (chain_of m.entries k)) d) ∙ so_far k)
+    ∙ (sym (ap (λ (xs : List Write). stored k at by xs (chain_of m.entries k)) d) ∙ so_far k)

@@ -6,7 +6,7 @@ use Rattle.std.proofs.lemmas.Bool.{cases_Bool, both_ways}
 use Rattle.std.proofs.lemmas.Slice.Eq.{bytes_eq-Decides}
 use Rattle.std.proofs.lemmas.List.Elements.{All-from_recursion, recursion_from_All}
 use Rattle.tsc_span.specs.Span.{covers}
-use Rattle.timestamp_cache.specs.Words.{KeyBytes, Interval}
+use Rattle.timestamp_cache.specs.Words.{KeyBytes, SpanView}
 use Rattle.mvcc_versions.specs.Versions.{
   Content,
   Contents,
@@ -203,7 +203,7 @@ order_put k c (r ∷ rs) o = elim (cases_Bool (lower r.key k)) [
 abbrev after : Contents → Write → Contents
 after there w k = if bytes_eq w.key k then w.content else there k
 
-one_write : (span : Interval) (rows : List Row) (w : Write) (there : Contents)
+one_write : (span : SpanView) (rows : List Row) (w : Write) (there : Contents)
     → Matches (record { span = span; rows = rows }) there
     → Matches (record { span = span; rows = put_write span rows w }) (after there w)
 one_write span rows w there m = elim (cases_Bool (covers span w.key)) [
@@ -234,7 +234,7 @@ one_write span rows w there m = elim (cases_Bool (covers span w.key)) [
     ]
 
 -- So rows that are what is there are, with writes put over them, what is there after these.
-pub rows_written : (span : Interval) (rows : List Row) (ws : List Write) (there : Contents)
+pub rows_written : (span : SpanView) (rows : List Row) (ws : List Write) (there : Contents)
     → Matches (record { span = span; rows = rows }) there
     → Matches (record { span = span; rows = put_writes span rows ws })
     (λ k. after_writes k (there k) ws)

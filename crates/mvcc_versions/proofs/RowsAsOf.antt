@@ -17,9 +17,9 @@ use Rattle.std.proofs.lemmas.List.Elements.{All-from_recursion, recursion_from_A
 use Rattle.std.proofs.lemmas.Map.Keys.{sorted_head, sorted_tail}
 use Rattle.std.proofs.lemmas.List.Kept.{IsStrictlySortedBy-filter}
 use Rattle.tsc_span.specs.Span.{before, after, last, nothing, between, point, covers, key_cmp, is_below, end_keys, different_keys, key_of_cut}
-use Rattle.tsc_span.proofs.CutOrder.{key_cmp_back, key_cmp-same}
+use Rattle.tsc_span.proofs.CutsTotal.{key_cmp_back, key_cmp-same}
 use Rattle.tsc_span.proofs.Overlaps.{is_below-opposite, is_below-transitive}
-use Rattle.timestamp_cache.specs.Words.{Time, KeyBytes, Interval}
+use Rattle.timestamp_cache.specs.Words.{Time, KeyBytes, SpanView}
 use Rattle.mvcc_versions.specs.Versions.{Content, Contents, Version, Row, content_as_of, as_of, row_of, AreInKeyOrder, Matches, Chains}
 use Rattle.mvcc_versions.specs.RowsIn.{row_for, row_in, rows_in, stops_before}
 use Rattle.mvcc_versions.proofs.Lists.{each}
@@ -114,7 +114,7 @@ absent k [] all = refl
 absent k (r ∷ rs) all = rw (above_other k r.key all.0) (absent k rs all.1)
 
 -- what holds of each key holds of each row
-each_row : (P : KeyBytes → Type 0) (span : Interval) (at : Time) (es : Entries)
+each_row : (P : KeyBytes → Type 0) (span : SpanView) (at : Time) (es : Entries)
     → AllByRecursion (λ (k : KeyBytes). P k) (keys_of es)
     → AllByRecursion (λ (r : Row). P r.key) (rows_in span at es)
 each_row P span at [] all = tt
@@ -136,7 +136,7 @@ above_first e es sorted = each (λ (q : KeyBytes). key_cmp e.0 q ≡ Less)
     (sorted_head key_cmp e.0 (keys_of es) sorted)
 
 -- each row lies in the span
-rows_within : (span : Interval) (at : Time) (es : Entries)
+rows_within : (span : SpanView) (at : Time) (es : Entries)
     → AllByRecursion (λ (r : Row). covers span r.key ≡ true) (rows_in span at es)
 rows_within span at [] = tt
 rows_within span at (e ∷ es) = elim (cases_Bool (covers span e.0)) [
@@ -152,7 +152,7 @@ rows_within span at (e ∷ es) = elim (cases_Bool (covers span e.0)) [
     front (Some b) c rest = (c, rest)
 
 -- and they are in order
-rows_order : (span : Interval) (at : Time) (es : Entries) → AreSorted es
+rows_order : (span : SpanView) (at : Time) (es : Entries) → AreSorted es
     → AreInKeyOrder (rows_in span at es)
 rows_order span at [] sorted = tt
 rows_order span at (e ∷ es) sorted = elim (cases_Bool (covers span e.0)) [
@@ -169,7 +169,7 @@ rows_order span at (e ∷ es) sorted = elim (cases_Bool (covers span e.0)) [
         (each_row (λ (q : KeyBytes). lower e.0 q ≡ true) span at es (above_first e es sorted), rest)
 
 -- Of each key of the span they say what its versions say.
-rows_say : (span : Interval) (at : Time) (es : Entries) (k : KeyBytes) → AreSorted es
+rows_say : (span : SpanView) (at : Time) (es : Entries) (k : KeyBytes) → AreSorted es
     → covers span k ≡ true → row_of k (rows_in span at es) ≡ content_as_of at
     (unwrap_or (lookup (is_at (key_cmp k)) es) [])
 rows_say span at [] k sorted c = refl
@@ -210,7 +210,7 @@ rows_say span at (e ∷ es) k sorted c = elim (cases_Bool (bytes_eq e.0 k)) [
     ]
 
 -- So they are what is there.
-pub rows_match : (span : Interval) (at : Time) (es : Chains) → AreSorted es
+pub rows_match : (span : SpanView) (at : Time) (es : Chains) → AreSorted es
     → Matches (record { span = span; rows = rows_in span at es }) (as_of at es)
 rows_match span at es sorted = record {
   rows = λ k c. rows_say span at es k sorted c;
@@ -258,7 +258,7 @@ same_key : (a q : KeyBytes) (other : Option KeyBytes) → slice_get (different_k
 same_key a q other e = let same : Some a ≡ Some q = sym (first_key a other) ∙ e in cc
 
 -- A key of a span is not below its first end key.
-from_first : (span : Interval) (k q : KeyBytes) → covers span k ≡ true → slice_get (end_keys span) 0
+from_first : (span : SpanView) (k q : KeyBytes) → covers span k ≡ true → slice_get (end_keys span) 0
     ≡ Some q → is_le (key_cmp q k) ≡ true
 from_first nothing k q c e = absurd (let never : false ≡ true = c in cc)
 from_first (between (before a) to) k q c e =
@@ -271,7 +271,7 @@ from_first (between (after a) to) k q c e =
 from_first (between last to) k q c e = absurd (let never : false ≡ true = c in cc)
 
 -- A span without end keys has no keys.
-no_first : (span : Interval) (k : KeyBytes) → slice_get (end_keys span) 0 ≡ None
+no_first : (span : SpanView) (k : KeyBytes) → slice_get (end_keys span) 0 ≡ None
     → covers span k ≡ false
 no_first nothing k e = refl
 no_first (between (before a) to) k e =
@@ -281,7 +281,7 @@ no_first (between (after a) to) k e =
 no_first (between last to) k e = refl
 
 -- so there are no rows of it
-none_covered : (span : Interval) (at : Time) (es : Entries)
+none_covered : (span : SpanView) (at : Time) (es : Entries)
     → AllByRecursion (λ (k : KeyBytes). covers span k ≡ false) (keys_of es)
     → rows_in span at es ≡ []
 none_covered span at [] all = refl
@@ -292,13 +292,13 @@ each_key : (P : KeyBytes → Type 0) (ks : List KeyBytes) → ((k : KeyBytes) �
 each_key P [] f = tt
 each_key P (k ∷ ks) f = (f k, each_key P ks f)
 
-pub no_rows : (span : Interval) (at : Time) (es : Entries) → slice_get (end_keys span) 0 ≡ None
+pub no_rows : (span : SpanView) (at : Time) (es : Entries) → slice_get (end_keys span) 0 ≡ None
     → rows_in span at es ≡ []
 no_rows span at es e = none_covered span at es (each_key (λ (k : KeyBytes). covers span k ≡ false)
     (keys_of es) (λ k. no_first span k e))
 
 -- From the first end key on there are all rows.
-pub rows_from : (span : Interval) (at : Time) (q : KeyBytes) (es : Entries)
+pub rows_from : (span : SpanView) (at : Time) (q : KeyBytes) (es : Entries)
     → slice_get (end_keys span) 0 ≡ Some q
     → rows_in span at (entries_between key_cmp (Included q) Unbounded es) ≡ rows_in span at es
 rows_from span at q [] e = refl
@@ -330,17 +330,17 @@ sorted_from q es sorted =
     (keys_of es) sorted)
 
 -- Where a span stops before a key, it has neither that nor any above it.
-stops_on : (span : Interval) (k m : KeyBytes) → stops_before span k ≡ true → lower k m ≡ true
+stops_on : (span : SpanView) (k m : KeyBytes) → stops_before span k ≡ true → lower k m ≡ true
     → stops_before span m ≡ true
 stops_on nothing k m stops l = refl
 stops_on (between from to) k m stops l = is_below-transitive to (after k) (after m) stops l
 
-stops_out : (span : Interval) (k : KeyBytes) → stops_before span k ≡ true → covers span k ≡ false
+stops_out : (span : SpanView) (k : KeyBytes) → stops_before span k ≡ true → covers span k ≡ false
 stops_out nothing k stops = refl
 stops_out (between from to) k stops =
     stopped (is_below (before k) from) (is_below to (after k)) stops
 
-pub rows_stop : (span : Interval) (at : Time) (e : KeyBytes × List Version) (es : Entries)
+pub rows_stop : (span : SpanView) (at : Time) (e : KeyBytes × List Version) (es : Entries)
     → AreSorted (e ∷ es) → stops_before span e.0 ≡ true → rows_in span at (e ∷ es) ≡ []
 rows_stop span at e es sorted stops = none_covered span at (e ∷ es) (
   stops_out span e.0 stops,
@@ -351,7 +351,7 @@ rows_stop span at e es sorted stops = none_covered span at (e ∷ es) (
 -- ---- what is there is read in one way
 
 -- rows say nothing of what lies outside
-outside_none : (span : Interval) (k : KeyBytes) (rs : List Row) → covers span k ≡ false
+outside_none : (span : SpanView) (k : KeyBytes) (rs : List Row) → covers span k ≡ false
     → AllByRecursion (λ (r : Row). covers span r.key ≡ true) rs → row_of k rs ≡ None
 outside_none span k [] out all = refl
 outside_none span k (r ∷ rs) out all = elim (cases_Bool (bytes_eq r.key k)) [
@@ -416,7 +416,7 @@ same_rows (r ∷ rs) (q ∷ qs) o p same = elim (cases_Bool (lower r.key q.key))
     ]
 
 -- So two reads of a span that match the same contents are the same.
-pub matches_once : (span : Interval) (rs qs : List Row) (there : Contents)
+pub matches_once : (span : SpanView) (rs qs : List Row) (there : Contents)
     → Matches (record { span = span; rows = rs }) there
     → Matches (record { span = span; rows = qs }) there → rs ≡ qs
 matches_once span rs qs there a b =
@@ -477,14 +477,14 @@ key_matches q c there is = record {
     ordered (Some b) = (tt, tt)
 
 -- A read of a key's span matches just where it has that row.
-pub key_still : (q : KeyBytes) (c : Content) (span : Interval) (rs : List Row) (there : Contents)
+pub key_still : (q : KeyBytes) (c : Content) (span : SpanView) (rs : List Row) (there : Contents)
     → span ≡ point q → c ≡ there q
     → (rs ≡ row_for q c) ↔ Matches (record { span = span; rows = rs }) there
 key_still q c span rs there e is = (
-  λ same. subst (λ (s : Interval). Matches (record { span = s; rows = rs }) there) (sym e)
+  λ same. subst (λ (s : SpanView). Matches (record { span = s; rows = rs }) there) (sym e)
       (subst (λ (qs : List Row). Matches (record { span = point q; rows = qs }) there) (sym same)
       (key_matches q c there is)),
   λ m. matches_once (point q) rs (row_for q c) there
-      (subst (λ (s : Interval). Matches (record { span = s; rows = rs }) there) e m)
+      (subst (λ (s : SpanView). Matches (record { span = s; rows = rs }) there) e m)
       (key_matches q c there is),
 )

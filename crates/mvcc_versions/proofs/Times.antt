@@ -3,13 +3,13 @@ use Rattle.std.proofs.Common.{◌≡◌, inl, inr, true, false, Some, None, Opti
 use Rattle.std.proofs.lemmas.Bool.{cases_Bool, both_ways}
 use Rattle.tsc_time.proofs.TimeOrder.{is_before-itself, is_before-opposite, no_earlier-transitive}
 use Rattle.timestamp_cache.specs.Words.{Time, is_in_range, is_before}
-use Rattle.timestamp_cache.specs.Earliest.{TellsEarliest}
+use Rattle.timestamp_cache.specs.Earliest.{ReportsEarliest}
 use Rattle.mvcc_versions.specs.Versions.{IsAfter}
 
 -- ---- one key
 
 pub from_itself : (from : Time) → is_in_range from ≡ true
-    → TellsEarliest (IsAfter None) from (Some from)
+    → ReportsEarliest (IsAfter None) from (Some from)
 from_itself from range = record {
   in_range = range;
   from_on = is_before-itself from;
@@ -18,7 +18,7 @@ from_itself from range = record {
 }
 
 pub already_after : (last from : Time) → is_in_range from ≡ true → is_before last from ≡ true
-    → TellsEarliest (IsAfter (Some last)) from (Some from)
+    → ReportsEarliest (IsAfter (Some last)) from (Some from)
 already_after last from range h = record {
   in_range = range;
   from_on = is_before-itself from;
@@ -27,15 +27,15 @@ already_after last from range h = record {
 }
 
 pub after_next : (last from : Time) (next : Option Time) → is_before last from ≡ false
-    → TellsEarliest (λ t. is_before last t ≡ true) last next
-    → TellsEarliest (IsAfter (Some last)) from next
-after_next last from None on tells =
-    λ t range later is. tells t range (is_before-opposite last t is) is
-after_next last from (Some n) on tells = record {
-  in_range = tells.in_range;
-  from_on = no_earlier-transitive from last n on (is_before-opposite last n tells.holds);
-  holds = tells.holds;
-  least = λ t range later is. tells.least t range (is_before-opposite last t is) is;
+    → ReportsEarliest (λ t. is_before last t ≡ true) last next
+    → ReportsEarliest (IsAfter (Some last)) from next
+after_next last from None on reports =
+    λ t range later is. reports t range (is_before-opposite last t is) is
+after_next last from (Some n) on reports = record {
+  in_range = reports.in_range;
+  from_on = no_earlier-transitive from last n on (is_before-opposite last n reports.holds);
+  holds = reports.holds;
+  least = λ t range later is. reports.least t range (is_before-opposite last t is) is;
 }
 
 -- what is later than a key's last write stays so

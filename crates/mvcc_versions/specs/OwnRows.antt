@@ -2,7 +2,7 @@
 use Rattle.std.specs.Prelude.{ℕ, suc, List, [], ◌∷◌, ◌++◌, Bool, false, if◌then◌else◌}
 use Rattle.std.specs.Ordering.{is_lt}
 use Rattle.std.specs.Str.{bytes_eq}
-use Rattle.tsc_span.specs.Span.{Interval, covers, key_cmp}
+use Rattle.tsc_span.specs.Span.{SpanView, covers, key_cmp}
 use Rattle.timestamp_cache.specs.Words.{KeyBytes}
 use Rattle.mvcc_versions.specs.Versions.{Content, Row, Write}
 use Rattle.mvcc_versions.specs.RowsIn.{row_for}
@@ -24,10 +24,10 @@ put_row (r ∷ rs) k c = if is_lt (key_cmp r.key k) then r ∷ put_row rs k c
     else if bytes_eq r.key k then row_for k c ++ rs else row_for k c ++ r ∷ rs
 
 -- rows with a write put over them, where its key lies in the span
-abbrev pub put_write : Interval → List Row → Write → List Row
+abbrev pub put_write : SpanView → List Row → Write → List Row
 put_write span rs w = if covers span w.key then put_row rs w.key w.content else rs
 
 -- rows with several writes put over them, one after another
-abbrev pub put_writes : Interval → List Row → List Write → List Row
+abbrev pub put_writes : SpanView → List Row → List Write → List Row
 put_writes span rs [] = rs
 put_writes span rs (w ∷ ws) = put_writes span (put_write span rs w) ws

@@ -21,7 +21,7 @@ use Rattle.std.specs.Ordering.{is_lt}
 use Rattle.std.specs.Str.{bytes_eq}
 use Rattle.std.specs.BTreeMap.{is_at}
 use Rattle.std.specs.Map.{lookup}
-use Rattle.tsc_span.specs.Span.{Interval, nothing, between, is_below, covers, key_cmp}
+use Rattle.tsc_span.specs.Span.{SpanView, nothing, between, is_below, covers, key_cmp}
 use Rattle.timestamp_cache.specs.Words.{Time, is_before, Owner, KeyBytes}
 
 -- what a key has: bytes, or nothing, as before its first write and after a deletion
@@ -59,7 +59,7 @@ pub record Row : Type 0 where
 
 -- a span that was read, and the rows that were answered
 pub record Read : Type 0 where
-  pub span : Interval
+  pub span : SpanView
   pub rows : List Row
 
 -- ---- reads as of a time
@@ -114,9 +114,9 @@ after_writes k now [] = now
 after_writes k now (w ∷ ws) = after_writes k (if bytes_eq w.key k then w.content else now) ws
 
 -- the versions of a key after a transaction's writes at a time, one after another
-abbrev pub laid : KeyBytes → Time → Owner → List Write → List Version → List Version
-laid k at by [] vs = vs
-laid k at by (w ∷ ws) vs = laid k at by ws (if bytes_eq w.key k then record {
+abbrev pub stored : KeyBytes → Time → Owner → List Write → List Version → List Version
+stored k at by [] vs = vs
+stored k at by (w ∷ ws) vs = stored k at by ws (if bytes_eq w.key k then record {
   at = at;
   by = by;
   content = w.content;
@@ -149,12 +149,12 @@ kept_from from (v ∷ vs) = if is_before v.at from then unless_deletion v v.cont
 -- ---- parts of the key space
 
 -- whether a span lies within another
-abbrev pub is_within : Interval → Interval → Bool
+abbrev pub is_within : SpanView → SpanView → Bool
 is_within nothing outer = true
 is_within (between first end) nothing = false
 is_within (between first end) (between from to) = not (is_below first from) && not (is_below to end)
 
 -- whether each key that is written lies in a span
-abbrev pub are_within : List Write → Interval → Bool
+abbrev pub are_within : List Write → SpanView → Bool
 are_within [] outer = true
 are_within (w ∷ ws) outer = covers outer w.key && are_within ws outer

@@ -23,13 +23,13 @@ ghost use Rattle.std.specs.Str.{bytes_eq};
 ghost use Rattle.std.specs.BTreeMap.{get};
 ghost use Rattle.tsc_span.specs.Span.{key_cmp};
 ghost use Rattle.timestamp_cache.specs.Words.{KeyBytes, is_before};
-ghost use Rattle.timestamp_cache.specs.Earliest.{TellsEarliest};
+ghost use Rattle.timestamp_cache.specs.Earliest.{ReportsEarliest};
 ghost use Rattle.mvcc_versions.specs.Versions.{
   content_as_of,
   as_of,
   newest_time,
   IsAfter,
-  laid,
+  stored,
   chain_of,
   kept_from,
   unless_deletion,
@@ -101,7 +101,7 @@ pub(crate) fn time_after(
     key: &Key,
     from: Timestamp,
 ) -> Option<Timestamp>
-    ensures { TellsEarliest (IsAfter (newest_time (chain_of chains.now.entries key.now))) from
+    ensures { ReportsEarliest (IsAfter (newest_time (chain_of chains.now.entries key.now))) from
         result }
 {
     time_after_one(newest_time(chains, key), from)
@@ -109,7 +109,7 @@ pub(crate) fn time_after(
 
 /// The earliest time, from one on, that is later than a key's last write.
 fn time_after_one(last: Option<Timestamp>, from: Timestamp) -> Option<Timestamp>
-    ensures { TellsEarliest (IsAfter last) from result }
+    ensures { ReportsEarliest (IsAfter last) from result }
 {
     match last {
         Some(last) => time_behind(last, from),
@@ -119,7 +119,7 @@ fn time_after_one(last: Option<Timestamp>, from: Timestamp) -> Option<Timestamp>
 
 /// The earliest time, from one on, that is later than another.
 fn time_behind(last: Timestamp, from: Timestamp) -> Option<Timestamp>
-    ensures { TellsEarliest (IsAfter (Some last)) from result }
+    ensures { ReportsEarliest (IsAfter (Some last)) from result }
 {
     if last < from {
         Some(from)
@@ -264,7 +264,7 @@ pub(crate) fn link_all(
 )
     requires nodes { nodes ≡ nodes_of at by writes.now }
     requires room { HaveRoom (length writes.now) chains.old.entries writes.now }
-    ensures { (k : KeyBytes) → chain_of chains.new.entries k ≡ laid k at by writes.now
+    ensures { (k : KeyBytes) → chain_of chains.new.entries k ≡ stored k at by writes.now
         (chain_of chains.old.entries k) }
 {
     let mut rest = nodes;

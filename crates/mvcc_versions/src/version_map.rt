@@ -1,13 +1,13 @@
 //! The versions of keys as one value.
 ghost use Rattle.std.specs.Prelude.{◌≡◌, ◌↔◌, [], length, IsTrue, IfOk, OnOk};
 ghost use Rattle.timestamp_cache.specs.Words.{KeyBytes};
-ghost use Rattle.timestamp_cache.specs.Earliest.{TellsEarliest};
+ghost use Rattle.timestamp_cache.specs.Earliest.{ReportsEarliest};
 ghost use Rattle.mvcc_versions.specs.Versions.{
   chain_of,
   as_of,
   newest_time,
   IsAfter,
-  laid,
+  stored,
   kept_from,
   Matches,
 };
@@ -65,14 +65,14 @@ impl VersionMap {
 
     /// The earliest time, from one on, that is later than the last write of a key.
     pub fn time_after(&self, key: &Key, from: Timestamp) -> Option<Timestamp>
-        ensures { TellsEarliest (IsAfter (newest_time (chain_of self.now key.now))) from
+        ensures { ReportsEarliest (IsAfter (newest_time (chain_of self.now key.now))) from
             result }
     {
         chains::time_after(&self.chains, key, from)
     }
 
-    /// Makes room for the versions of some writes, so that [`lay_down`](VersionMap::lay_down) needs
-    /// no memory. No key gets a version.
+    /// Makes room for the versions of some writes, so that
+    /// [`store_versions`](VersionMap::store_versions) needs no memory. No key gets a version.
     pub fn make_room(&mut self, alloc: Global, writes: &[Write]) -> Result<(), NoMemory>
         ensures same { (k : KeyBytes) → chain_of self.new k
             ≡ chain_of self.old k }
@@ -94,7 +94,7 @@ impl VersionMap {
     }
 
     /// Lays down versions that were made for writes, each as the newest of its key.
-    pub fn lay_down(
+    pub fn store_versions(
         &mut self,
         writes: &[Write],
         nodes: LinkedList<LinkedList<Version>>,
@@ -103,7 +103,7 @@ impl VersionMap {
     )
         requires nodes { nodes ≡ nodes_of at by writes.now }
         requires room { HaveRoom (length writes.now) self.old writes.now }
-        ensures { (k : KeyBytes) → chain_of self.new k ≡ laid k at by writes.now
+        ensures { (k : KeyBytes) → chain_of self.new k ≡ stored k at by writes.now
             (chain_of self.old k) }
     {
         chains::link_all(&mut self.chains, writes, nodes, at, by);

@@ -1,3 +1,4 @@
+//! The versions of keys: which value a key has at which time.
 use std::marker::Model;
 use timestamp_cache::{Key, Span, Timestamp, Uuid};
 

@@ -202,13 +202,13 @@ fn commit(range: &mut Range, writer: &Transaction) -> Result<Text, RangeError> {
 
 /// Makes a call.
 pub fn answer((range, begun): &mut Scene, call: &str) -> Result<Text> {
-    let (alloc, mut told) = (*begun.allocator(), Ok(Text::new()));
+    let (alloc, mut reported) = (*begun.allocator(), Ok(Text::new()));
     let [verb, first, second, third, more, ..] = words(call, ' ');
     match (verb, begun.get_mut(first.parse().unwrap_or(usize::MAX))) {
         ("", _) => {}
         _ if !more.is_empty() => bail!("too many words"),
-        ("read", Some(reader)) => told = read(range, reader, &span(alloc, second)?),
-        ("commit", Some(writer)) => told = commit(range, writer),
+        ("read", Some(reader)) => reported = read(range, reader, &span(alloc, second)?),
+        ("commit", Some(writer)) => reported = commit(range, writer),
         ("put", Some(writer)) => {
             let content = Vec::from_slice(alloc, third.as_bytes())?;
             let content = (!third.is_empty()).then_some(content);
@@ -225,9 +225,9 @@ pub fn answer((range, begun): &mut Scene, call: &str) -> Result<Text> {
         ("collect", _) => range.collect_garbage(time(first)?),
         _ => bail!("no such call"),
     }
-    match told {
+    match reported {
         Err(RangeError::TooEarly) => Ok(Text::of("too early")),
-        told => Ok(told?),
+        reported => Ok(reported?),
     }
 }
 
@@ -239,12 +239,12 @@ pub fn play(alloc: Global, pages: &str, first: &str, scenarios: &str) -> Result<
         let mut scene = open(alloc, "a..z", pages).or_else(|_| open(alloc, "a..z", pages))?;
         for row in first.lines().chain(scenario.lines()) {
             let (call, wanted) = row.split_once(" -> ").unwrap_or((row, ""));
-            let mut told = answer(&mut scene, call).unwrap_or_else(Text::of);
-            if told.as_str().contains("memory") {
-                told = answer(&mut scene, call).unwrap_or_else(Text::of);
+            let mut reported = answer(&mut scene, call).unwrap_or_else(Text::of);
+            if reported.as_str().contains("memory") {
+                reported = answer(&mut scene, call).unwrap_or_else(Text::of);
             }
-            let told = told.as_str().trim_end();
-            ensure!(told == wanted, "{row}, behind:{name}: {told}");
+            let reported = reported.as_str().trim_end();
+            ensure!(reported == wanted, "{row}, behind:{name}: {reported}");
         }
     }
     Ok(())

@@ -122,7 +122,7 @@ fn count(rows: &[Row], verb: &str, word: &str) -> usize {
     let rows = rows
         .iter()
         .filter(|(call, _)| call.as_str().starts_with(verb));
-    let rows = rows.filter(|(_, told)| told.as_str().starts_with(word));
+    let rows = rows.filter(|(_, reported)| reported.as_str().starts_with(word));
     rows.count()
 }
 

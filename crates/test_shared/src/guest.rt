@@ -4,11 +4,11 @@ ghost use Rattle.std.specs.Prelude.{◌≡◌, All};
 use crate::watch::Watch;
 use std::alloc::Global;
 use std::sync::Wait;
-use test_support::rows::{Refusal, Told, of_no_memory};
+use test_support::rows::{Refusal, Reported, of_no_memory};
 use timestamp_cache::{SeatSummary, earliest_write_at, may_write_at, summary_at};
 use tsc_cache::{Added, Figures, Mark};
 use tsc_shared::TryAddFault::Refused;
-use tsc_shared::{AddFault, Gone, Receipt, Seat, SharedCache, Snapshot, TryAddFault};
+use tsc_shared::{AddFault, Receipt, Seat, SharedCache, Snapshot, TryAddFault};
 use tsc_span::{Span, SpanRef};
 use tsc_time::{NoMemory, Timestamp, Value};
 use uuid::Uuid;
@@ -25,7 +25,7 @@ pub enum By {
 
 impl By {
     /// The call of a word.
-    pub fn of(word: &str) -> Told<By> {
+    pub fn of(word: &str) -> Reported<By> {
         match word {
             "gate" => Ok(By::Gate),
             "plain" => Ok(By::Plain),
@@ -58,7 +58,7 @@ pub fn guests_of<'a>(
 }
 
 /// The place of an Add, and what it did.
-fn told_of(made: Result<Receipt, TryAddFault>) -> Told<(u64, Added)> {
+fn reported_of(made: Result<Receipt, TryAddFault>) -> Reported<(u64, Added)> {
     match made {
         Ok(receipt) => Ok((receipt.place, receipt.added)),
         Err(TryAddFault::DeskBusy | TryAddFault::SeatInside) => Err(Refusal::Busy),
@@ -66,10 +66,6 @@ fn told_of(made: Result<Receipt, TryAddFault>) -> Told<(u64, Added)> {
         Err(Refused(AddFault::NoMemory)) => Err(Refusal::Memory),
         Err(Refused(AddFault::TooLarge)) => Err(Refusal::TooLarge),
     }
-}
-
-fn of_gone(_gone: Gone) -> Refusal {
-    Refusal::NoRow
 }
 
 impl Guest<'_> {
@@ -89,9 +85,9 @@ impl Guest<'_> {
         Mark { span, value }: &Mark,
         now: Timestamp,
         (by, gate): (By, &Watch),
-    ) -> Told<(u64, Added)> {
+    ) -> Reported<(u64, Added)> {
         let (cache, seat) = (self.cache, &mut self.seat);
-        told_of(match by {
+        reported_of(match by {
             By::Gate => cache
                 .add_gated(rt, seat, span, *value, now, gate)
                 .map_err(Refused),
@@ -107,9 +103,9 @@ impl Guest<'_> {
         marks: &[Mark],
         now: Timestamp,
         (by, gate): (By, &Watch),
-    ) -> Told<(u64, Added)> {
+    ) -> Reported<(u64, Added)> {
         let (cache, seat) = (self.cache, &mut self.seat);
-        told_of(match by {
+        reported_of(match by {
             By::Gate => cache
                 .add_all_gated(rt, seat, marks, now, gate)
                 .map_err(Refused),
@@ -118,41 +114,43 @@ impl Guest<'_> {
         })
     }
 
-    pub fn get(&mut self, span: &SpanRef<'_>) -> Told<Value> {
-        match self.cache.get_max_ref(&mut self.seat, span) {
-            Ok(answer) => Ok(answer.value),
-            Err(gone) => Err(of_gone(gone)),
-        }
+    pub fn get(&mut self, span: &SpanRef<'_>) -> Reported<Value> {
+        Ok(self.cache.get_max_ref(&mut self.seat, span).value)
     }
 
-    pub fn low(&mut self) -> Told<Timestamp> {
-        match self.cache.low_water(&mut self.seat) {
-            Ok(floor) => Ok(floor.time),
-            Err(gone) => Err(of_gone(gone)),
-        }
+    pub fn low(&mut self) -> Reported<Timestamp> {
+        Ok(self.cache.floor(&mut self.seat).time)
     }
 
-    pub fn figures(&mut self) -> Told<Figures> {
-        match self.cache.figures(&mut self.seat) {
-            Ok(told) => Ok(told.figures),
-            Err(gone) => Err(of_gone(gone)),
-        }
+    pub fn figures(&mut self) -> Reported<Figures> {
+        Ok(self.cache.figures(&mut self.seat).figures)
     }
 
-    pub fn snapshot(&mut self) -> Told<Snapshot> {
+    pub fn snapshot(&mut self) -> Reported<Snapshot> {
         self.cache.snapshot(&mut self.seat).map_err(of_no_memory)
     }
 
     /// What it tells of a span in so many marks.
-    pub fn tell(&mut self, alloc: Global, span: &Span, most: usize) -> Told<SeatSummary> {
+    pub fn report(&mut self, alloc: Global, span: &Span, most: usize) -> Reported<SeatSummary> {
         summary_at(alloc, self.cache, &mut self.seat, span, most).map_err(of_no_memory)
     }
 
-    pub fn earliest(&mut self, spans: &[Span], at: Timestamp, by: Uuid) -> Told<Option<Timestamp>> {
-        earliest_write_at(self.cache, &mut self.seat, spans, at, by).map_err(of_gone)
+    pub fn earliest(
+        &mut self,
+        spans: &[Span],
+        at: Timestamp,
+        by: Uuid,
+    ) -> Reported<Option<Timestamp>> {
+        match earliest_write_at(self.cache, &mut self.seat, spans, at, by) {
+            Ok(free) => Ok(free),
+            Err(none) => match none {},
+        }
     }
 
-    pub fn may(&mut self, span: &Span, at: Timestamp, by: Uuid) -> Told<bool> {
-        may_write_at(self.cache, &mut self.seat, span, at, by).map_err(of_gone)
+    pub fn may(&mut self, span: &Span, at: Timestamp, by: Uuid) -> Reported<bool> {
+        match may_write_at(self.cache, &mut self.seat, span, at, by) {
+            Ok(may) => Ok(may),
+            Err(none) => match none {},
+        }
     }
 }

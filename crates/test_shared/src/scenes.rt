@@ -9,7 +9,7 @@ use std::sync::atomic::Ordering::SeqCst;
 use std::thread;
 use std::thread::Threads;
 use test_support::at;
-use test_support::rows::{Refusal, Told};
+use test_support::rows::{Refusal, Reported};
 use tsc_cache::{Added, Mark};
 use tsc_span::{Key, Span, SpanFault, SpanRef};
 use tsc_time::{Timestamp, Value};
@@ -51,7 +51,12 @@ fn letter_of(number: u64) -> u8 {
 }
 
 /// The Add that is held up, made by some call.
-fn add<R: Wait>(rt: &R, scene: &Scene<'_>, guest: &mut Guest<'_>, by: By) -> Told<(u64, Added)> {
+fn add<R: Wait>(
+    rt: &R,
+    scene: &Scene<'_>,
+    guest: &mut Guest<'_>,
+    by: By,
+) -> Reported<(u64, Added)> {
     guest.add_marks(rt, &scene.marks, scene.now, (by, &scene.gate))
 }
 
@@ -84,7 +89,7 @@ fn add_until_made<R: Wait>(
     guest: &mut Guest<'_>,
     mark: &Mark,
     by: By,
-) -> Told<u64> {
+) -> Reported<u64> {
     let mut refused: u32 = 0;
     for _ in 0..CALLS.1 {
         let made = guest.add_mark(rt, mark, mark.value.time(), (by, &scene.gate));
@@ -120,7 +125,7 @@ fn crowd<R: Wait + Abort>(rt: &R, alloc: Global, scene: &Scene<'_>, guest: &mut 
         };
         match add_until_made(rt, scene, guest, &mark, by) {
             Ok(place) => match scene.places.get(place as usize) {
-                Some(told) => assert!(rt; told.fetch_add(1, SeqCst) == 0),
+                Some(reported) => assert!(rt; reported.fetch_add(1, SeqCst) == 0),
                 None => assert!(rt; false, "{place}"),
             },
             Err(refusal) => {

@@ -10,7 +10,7 @@
 //! | `see = 1` | How many Adds a lookup has seen. |
 //! | `gated = 1` | The gate was told of one Add. |
 //! | `fill 9 = 1 0 0`, `often [a] 40 = 1 0 0` | A batch of numbers; 40 Adds of a key. |
-//! | `tell [a,z) 9 = 3` | A seat tells of a span in 9 marks, which a new cache takes over. |
+//! | `report [a,z) 9 = 3` | A seat tells of a span in 9 marks, which a new cache takes over. |
 //! | `next [a] = 20.0 A` | What that cache answers. |
 //! | `keep = 3`, `kept [a] = 20.0 A` | A seat keeps a snapshot, and what that answers then. |
 //! | `held 9 20.0 [a] 20.0 A = done` | The scenes of `scenes.rt`, with their rounds. |
@@ -28,8 +28,10 @@ use std::sync::atomic::AtomicU64;
 use std::sync::atomic::Ordering::SeqCst;
 use std::test::Fail;
 use std::thread::Threads;
-use test_support::rows::{Refusal, SpanBytes, Told, of_config, span, span_bytes, time};
-use test_support::{Table, again_told, at, marks, opening, told, told_added, told_value, written};
+use test_support::rows::{Refusal, Reported, SpanBytes, of_config, span, span_bytes, time};
+use test_support::{
+    Table, again_reported, at, marks, opening, reported, reported_added, reported_value, written,
+};
 use timestamp_cache::apply;
 use tsc_cache::{Added, Cache, Config, Figures, Mark, TimestampCache};
 use tsc_shared::{OpenFault, Seat, SharedCache, Snapshot};
@@ -54,32 +56,32 @@ struct Stage<'a, R> {
 }
 
 impl<'a, R> Stage<'a, R> {
-    fn guest(&mut self) -> Told<&mut Guest<'a>> {
+    fn guest(&mut self) -> Reported<&mut Guest<'a>> {
         self.guests.get_mut(self.seat).ok_or(Refusal::NoRow)
     }
 
     /// What a call gives, which is made again where it is refused memory.
-    fn once<T: Drop>(&self, told: Told<T>) -> Told<T> {
-        match told {
+    fn once<T: Drop>(&self, reported: Reported<T>) -> Reported<T> {
+        match reported {
             Err(Refusal::Memory) if self.is_once => Err(Refusal::NoMemory),
-            told => told,
+            reported => reported,
         }
     }
 
     /// A seat tells of a span, and a new cache takes that over.
-    fn tell(&mut self, text: &str, most: usize) -> Told<u64> {
+    fn report(&mut self, text: &str, most: usize) -> Reported<u64> {
         let alloc = self.alloc;
         let span = span(alloc, text)?;
-        let told = self.guest()?.tell(alloc, &span, most)?;
+        let reported = self.guest()?.report(alloc, &span, most)?;
         let config = Config::new(132, 132, 2, 10, at(5, 0)).map_err(of_config)?;
         let mut next = Cache::new(alloc, config).map_err(|_| Refusal::NoMemory)?;
-        apply(&mut next, &told.summary, at(50, 0)).map_err(|_| Refusal::NoMemory)?;
+        apply(&mut next, &reported.summary, at(50, 0)).map_err(|_| Refusal::NoMemory)?;
         self.next = Some(next);
-        Ok(told.front)
+        Ok(reported.front)
     }
 
     /// A seat keeps the cache as it sees it.
-    fn keep(&mut self) -> Told<u64> {
+    fn keep(&mut self) -> Reported<u64> {
         let snapshot = self.guest()?.snapshot()?;
         let front = snapshot.front;
         self.kept = Some(snapshot);
@@ -87,7 +89,7 @@ impl<'a, R> Stage<'a, R> {
     }
 
     /// How many Adds a lookup of the floor has seen.
-    fn see(&mut self) -> Told<u64> {
+    fn see(&mut self) -> Reported<u64> {
         let guest = self.guest()?;
         guest.low()?;
         Ok(guest.seen())
@@ -96,7 +98,7 @@ impl<'a, R> Stage<'a, R> {
 
 impl<R: Wait> Stage<'_, R> {
     /// A batch of the numbers below an end.
-    fn fill(&mut self, end: u32) -> Told<Added> {
+    fn fill(&mut self, end: u32) -> Reported<Added> {
         let mut marks = Vec::new(self.alloc);
         for number in 0..end {
             let key = Key::new(self.alloc, &number.to_be_bytes()).map_err(|_| Refusal::NoMemory)?;
@@ -109,7 +111,7 @@ impl<R: Wait> Stage<'_, R> {
     }
 
     /// Adds of a key, and what came of the last one.
-    fn add_often(&mut self, text: &str, count: u64) -> Told<Added> {
+    fn add_often(&mut self, text: &str, count: u64) -> Reported<Added> {
         let bytes = span_bytes(self.alloc, text)?;
         let mut mark = Mark {
             span: bytes.span(self.alloc)?,
@@ -137,7 +139,7 @@ impl<R: Threads + Wait + Abort + Sync> Stage<'_, R> {
     }
 
     /// Plays the scene that some words name.
-    fn play_words(&mut self, words: &[&str]) -> Told<()> {
+    fn play_words(&mut self, words: &[&str]) -> Reported<()> {
         match *words {
             [name @ ("held" | "stopped"), rounds, now, ref words @ ..] => {
                 let marks = marks(self.alloc, words)?;
@@ -158,7 +160,7 @@ impl<R: Threads + Wait + Abort + Sync> Stage<'_, R> {
         rounds: u64,
         now: Timestamp,
         marks: Vec<Mark>,
-    ) -> Told<()> {
+    ) -> Reported<()> {
         let (seats, is_held) = (self.guests.len() as u64, !marks.is_empty());
         let mut places = Vec::new(self.alloc);
         for _ in 0..if is_held {
@@ -185,9 +187,13 @@ impl<R: Threads + Wait + Abort + Sync> Stage<'_, R> {
         if is_held && !scene.gate.met.load(SeqCst) {
             return Err(Refusal::NoThread);
         }
-        let is_told = |place: &AtomicU64| place.load(SeqCst) != 0;
-        let count = scene.places.iter().filter(|place| is_told(place)).count();
-        let has_gap = !scene.places.iter().take(count).all(is_told);
+        let is_reported = |place: &AtomicU64| place.load(SeqCst) != 0;
+        let count = scene
+            .places
+            .iter()
+            .filter(|place| is_reported(place))
+            .count();
+        let has_gap = !scene.places.iter().take(count).all(is_reported);
         if has_gap { Err(Refusal::NoRow) } else { Ok(()) }
     }
 }
@@ -197,44 +203,44 @@ impl<R: Wait> Table for Stage<'_, R> {
         true
     }
 
-    fn sit(&mut self, seat: &str) -> Told<()> {
+    fn sit(&mut self, seat: &str) -> Reported<()> {
         self.seat = if seat.is_empty() { 0 } else { seat.parse()? };
         Ok(())
     }
 
-    fn open(&mut self, _config: Config, _limit: u64) -> Told<()> {
+    fn open(&mut self, _config: Config, _limit: u64) -> Reported<()> {
         Err(Refusal::NoRow)
     }
 
-    fn add(&mut self, _bytes: &SpanBytes, mark: &Mark, now: Timestamp) -> Told<Added> {
+    fn add(&mut self, _bytes: &SpanBytes, mark: &Mark, now: Timestamp) -> Reported<Added> {
         let guest = self.guests.get_mut(self.seat).ok_or(Refusal::NoRow)?;
         let made = guest.add_mark(self.rt, mark, now, (self.by, &self.gate));
         Ok(self.once(made)?.1)
     }
 
-    fn add_all(&mut self, marks: &[Mark], now: Timestamp) -> Told<Added> {
+    fn add_all(&mut self, marks: &[Mark], now: Timestamp) -> Reported<Added> {
         let guest = self.guests.get_mut(self.seat).ok_or(Refusal::NoRow)?;
         let made = guest.add_marks(self.rt, marks, now, (self.by, &self.gate));
         Ok(self.once(made)?.1)
     }
 
-    fn get(&mut self, bytes: &SpanBytes) -> Told<Value> {
+    fn get(&mut self, bytes: &SpanBytes) -> Reported<Value> {
         self.guest()?.get(&bytes.looked_up())
     }
 
-    fn low(&mut self) -> Told<Timestamp> {
+    fn low(&mut self) -> Reported<Timestamp> {
         self.guest()?.low()
     }
 
-    fn figures(&mut self) -> Told<Figures> {
+    fn figures(&mut self) -> Reported<Figures> {
         self.guest()?.figures()
     }
 
-    fn earliest(&mut self, spans: &[Span], at: Timestamp, by: Uuid) -> Told<Option<Timestamp>> {
+    fn earliest(&mut self, spans: &[Span], at: Timestamp, by: Uuid) -> Reported<Option<Timestamp>> {
         self.guest()?.earliest(spans, at, by)
     }
 
-    fn may(&mut self, spans: &[Span], at: Timestamp, by: Uuid) -> Told<bool> {
+    fn may(&mut self, spans: &[Span], at: Timestamp, by: Uuid) -> Reported<bool> {
         let mut all = true;
         for span in spans {
             all &= self.guest()?.may(span, at, by)?;
@@ -242,33 +248,33 @@ impl<R: Wait> Table for Stage<'_, R> {
         Ok(all)
     }
 
-    fn call(&mut self, words: &[&str]) -> Told<String> {
+    fn call(&mut self, words: &[&str]) -> Reported<String> {
         let alloc = self.alloc;
         match *words {
             ["by", how] => self.by = By::of(how)?,
             ["once"] => self.is_once = true,
-            ["fill", end] => return told_added(alloc, self.fill(end.parse()?)?),
+            ["fill", end] => return reported_added(alloc, self.fill(end.parse()?)?),
             ["often", text, count] => {
-                return told_added(alloc, self.add_often(text, count.parse()?)?);
+                return reported_added(alloc, self.add_often(text, count.parse()?)?);
             }
             ["see"] => return written(alloc, self.see()?),
-            ["gated"] => return written(alloc, self.gate.told()),
+            ["gated"] => return written(alloc, self.gate.reported()),
             ["tell", text, most] => {
                 let most = most.parse()?;
-                return written(alloc, again_told!(self.tell(text, most))?);
+                return written(alloc, again_reported!(self.report(text, most))?);
             }
-            ["keep"] => return written(alloc, again_told!(self.keep())?),
+            ["keep"] => return written(alloc, again_reported!(self.keep())?),
             ["next", text] => {
                 let next = self.next.as_ref().ok_or(Refusal::NoRow)?;
-                return told_value(alloc, next.get_max(&span(alloc, text)?));
+                return reported_value(alloc, next.get_max(&span(alloc, text)?));
             }
             ["kept", text] => {
                 let kept = self.kept.as_ref().ok_or(Refusal::NoRow)?;
-                return told_value(alloc, kept.cache.get_max(&span(alloc, text)?));
+                return reported_value(alloc, kept.cache.get_max(&span(alloc, text)?));
             }
             _ => return Err(Refusal::NoRow),
         }
-        told(alloc, "done")
+        reported(alloc, "done")
     }
 }
 

@@ -6,7 +6,7 @@ use crate::stage::play;
 use std::test::Fail;
 
 /// A seat tells of what both have added, and of what it saw before.
-const TOLD: &str =
+const REPORTED: &str =
     "case with a mark for each key, the next cache answers as this one, with its owners
 open 132 132 2 10 5.0 100 = done
 add [a] 20.0 A 20.0 = 1 0 0
@@ -60,8 +60,8 @@ next [a] = 20.0 A
 next [d] = 21.0 B";
 
 #[test]
-fn a_seat_tells_what_all_have_added(rt: HostRuntime) -> Result<(), Fail> {
-    play(&rt, rt.alloc(), 2, TOLD)
+fn a_seat_reports_what_all_have_added(rt: HostRuntime) -> Result<(), Fail> {
+    play(&rt, rt.alloc(), 2, REPORTED)
 }
 
 #[test]
@@ -70,6 +70,6 @@ fn a_snapshot_stays_as_it_is(rt: HostRuntime) -> Result<(), Fail> {
 }
 
 #[test]
-fn a_refused_summary_can_be_told_again(rt: HostRuntime) -> Result<(), Fail> {
+fn a_refused_summary_can_be_reported_again(rt: HostRuntime) -> Result<(), Fail> {
     play(&rt, rt.alloc(), 2, AGAIN)
 }

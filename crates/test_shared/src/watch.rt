@@ -14,7 +14,7 @@ const PAUSES: u32 = 50;
 
 #[derive(Drop)]
 pub struct Watch {
-    told: AtomicU64,
+    reported: AtomicU64,
     /// How many seats are to look.
     lookers: u64,
     /// How many have looked.
@@ -28,7 +28,7 @@ pub struct Watch {
 impl Watch {
     pub fn new(lookers: u64) -> Watch {
         Watch {
-            told: AtomicU64::new(0),
+            reported: AtomicU64::new(0),
             lookers,
             looked: AtomicU64::new(0),
             met: AtomicBool::new(false),
@@ -40,7 +40,7 @@ impl Watch {
     /// meanwhile, if it yields.
     pub fn is_reached(&self, yields: bool) -> bool {
         for _ in 0..if yields { TURNS } else { SPINS } {
-            if self.told() > 0 {
+            if self.reported() > 0 {
                 return true;
             }
             if yields {
@@ -54,8 +54,8 @@ impl Watch {
     }
 
     /// How many Adds it was told of.
-    pub fn told(&self) -> u64 {
-        self.told.load(Ordering::SeqCst)
+    pub fn reported(&self) -> u64 {
+        self.reported.load(Ordering::SeqCst)
     }
 
     /// Waits until all have looked, or one has given up, and tells whether all had before the
@@ -78,7 +78,7 @@ impl Watch {
 }
 
 impl Gate for Watch {
-    ghost HasTold = { λ _ _. Unit {0} };
+    ghost HasReported = { λ _ _. Unit {0} };
 
     fn start(&self, _thread: u32, _call: u32) {}
 
@@ -88,7 +88,7 @@ impl Gate for Watch {
         for _ in 0..PAUSES {
             hint::spin_loop();
         }
-        self.told.fetch_add(1, Ordering::SeqCst);
+        self.reported.fetch_add(1, Ordering::SeqCst);
         self.met.store(self.is_met(), Ordering::SeqCst);
     }
 }

@@ -6,7 +6,7 @@ use std::alloc::Global;
 use std::sync::Wait;
 use std::test::Fail;
 use test_support::at;
-use test_support::rows::{SpanBytes, Told, of_cache, owner, span_bytes};
+use test_support::rows::{Reported, SpanBytes, of_cache, owner, span_bytes};
 use tsc_cache::{Added, Cache, Mark, TimestampCache};
 use tsc_time::Value;
 
@@ -29,12 +29,12 @@ impl Numbers {
         (self.state >> 33) % end.max(1)
     }
 
-    fn span(&mut self, alloc: Global) -> Told<SpanBytes> {
+    fn span(&mut self, alloc: Global) -> Reported<SpanBytes> {
         let place = self.below(34) as usize;
         span_bytes(alloc, SPANS.split(' ').nth(place).unwrap_or(""))
     }
 
-    fn mark(&mut self, alloc: Global) -> Told<Mark> {
+    fn mark(&mut self, alloc: Global) -> Reported<Mark> {
         let span = self.span(alloc)?.span(alloc)?;
         let time = at(self.below(40), (self.below(2) % 2) as u32);
         let id = owner(["A", "B", "-"].get(self.below(3) as usize).unwrap_or(&""))?;
@@ -43,7 +43,7 @@ impl Numbers {
     }
 
     /// Up to four marks.
-    fn marks(&mut self, alloc: Global) -> Told<Vec<Mark>> {
+    fn marks(&mut self, alloc: Global) -> Reported<Vec<Mark>> {
         let mut marks = Vec::new(alloc);
         for _ in 0..self.below(5) {
             marks.push(self.mark(alloc)?)?;
@@ -61,7 +61,7 @@ struct Both<'a, R> {
 
 impl<R: Wait> Both<'_, R> {
     /// Adds to both, and tells what each of them answers.
-    fn add(&mut self, numbers: &mut Numbers) -> Told<(Added, Added)> {
+    fn add(&mut self, numbers: &mut Numbers) -> Reported<(Added, Added)> {
         let (alloc, now) = (self.seats.alloc, at(20, 0));
         if numbers.below(2) == 0 {
             let mark = numbers.mark(alloc)?;
@@ -74,7 +74,7 @@ impl<R: Wait> Both<'_, R> {
     }
 
     /// Whether both answer an Add and a lookup alike.
-    fn is_alike(&mut self, numbers: &mut Numbers) -> Told<bool> {
+    fn is_alike(&mut self, numbers: &mut Numbers) -> Reported<bool> {
         let (one, other) = self.add(numbers)?;
         let bytes = numbers.span(self.seats.alloc)?;
         Ok(one == other && self.seats.get(&bytes)? == self.alone.get_max_ref(&bytes.looked_up()))

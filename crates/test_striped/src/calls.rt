@@ -6,8 +6,8 @@ use std::alloc::Global;
 use std::process::Abort;
 use std::sync::Wait;
 use std::test::Fail;
-use test_support::rows::{Refusal, Told, span, span_bytes};
-use test_support::{marks, told, told_added, told_value, written};
+use test_support::rows::{Refusal, Reported, span, span_bytes};
+use test_support::{marks, reported, reported_added, reported_value, written};
 use tsc_span::Key;
 use tsc_striped::{AddFault, Busy, OpenFault, StripedCache, TryAddFault};
 
@@ -89,19 +89,19 @@ const OPENINGS: &str = "8256 b = done
 8255 b d = the largest page has fewer than 8256";
 
 /// Plays the words of a row.
-fn answer<R: Wait>(seats: &mut Seats<'_, R>, words: &[&str]) -> Told<String> {
+fn answer<R: Wait>(seats: &mut Seats<'_, R>, words: &[&str]) -> Reported<String> {
     let alloc = seats.alloc;
     match *words {
         ["add", ref mark @ ..] => {
             let marks = marks(alloc, mark)?;
             let mark = marks.first().ok_or(Refusal::NoRow)?;
-            told_added(alloc, seats.add(mark)?)
+            reported_added(alloc, seats.add(mark)?)
         }
-        ["batch", ref all @ ..] => told_added(alloc, seats.add_all(&marks(alloc, all)?)?),
-        ["get", text] => told_value(alloc, seats.get(&span_bytes(alloc, text)?)?),
+        ["batch", ref all @ ..] => reported_added(alloc, seats.add_all(&marks(alloc, all)?)?),
+        ["get", text] => reported_value(alloc, seats.get(&span_bytes(alloc, text)?)?),
         ["tries", count] => {
             seats.tries = count.parse().ok();
-            told(alloc, "done")
+            reported(alloc, "done")
         }
         ["stripe", number] => {
             let (low, all) = seats.stripe(number.parse()?)?;
@@ -116,13 +116,13 @@ fn answer<R: Wait>(seats: &mut Seats<'_, R>, words: &[&str]) -> Told<String> {
         ["gated", ref mark @ ..] => {
             let marks = marks(alloc, mark)?;
             let mark = marks.first().ok_or(Refusal::NoRow)?;
-            told_added(alloc, seats.add_gated(mark)?)
+            reported_added(alloc, seats.add_gated(mark)?)
         }
         ["gated_all", ref all @ ..] => {
-            told_added(alloc, seats.add_all_gated(&marks(alloc, all)?)?)
+            reported_added(alloc, seats.add_all_gated(&marks(alloc, all)?)?)
         }
         ["sum_up", text] => written(alloc, seats.sum_up(&span(alloc, text)?)?),
-        ["take_over", number] => told_added(alloc, seats.take_over(number.parse()?)?),
+        ["take_over", number] => reported_added(alloc, seats.take_over(number.parse()?)?),
         ["snapshot", text] => written(alloc, seats.snapshot(&span(alloc, text)?)?),
         ["number"] => written(alloc, seats.number()?),
         ["meet"] => written(alloc, seats.meet()),
@@ -139,12 +139,12 @@ fn holds<R: Wait>(seats: &mut Seats<'_, R>, row: &str, may_again: bool) -> Resul
         words.push(word)?;
     }
     let before = seats.seen();
-    let mut told = answer(seats, &words);
-    if may_again && matches!(told, Err(Refusal::Memory)) && seats.seen() == before {
-        told = answer(seats, &words);
+    let mut reported = answer(seats, &words);
+    if may_again && matches!(reported, Err(Refusal::Memory)) && seats.seen() == before {
+        reported = answer(seats, &words);
     }
-    match told {
-        Ok(told) => Ok(told.as_str() == wanted),
+    match reported {
+        Ok(reported) => Ok(reported.as_str() == wanted),
         Err(Refusal::NoMemory) => Err(Refusal::NoMemory.into()),
         Err(refusal) => Ok(refusal.name() == wanted),
     }
@@ -176,7 +176,7 @@ fn opens(alloc: Global, row: &str) -> Result<bool, Fail> {
     let (size, row) = row.split_once(' ').ok_or("no size")?;
     let (bounds, wanted) = row.split_once(" = ").ok_or("no row")?;
     let text = match StripedCache::open(alloc, config(size.parse()?)?, keys(alloc, bounds)?, 2) {
-        Ok(_) => told(alloc, "done")?,
+        Ok(_) => reported(alloc, "done")?,
         Err(fault) => written(alloc, fault)?,
     };
     Ok(text.as_str() == wanted)

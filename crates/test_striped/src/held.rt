@@ -16,7 +16,7 @@ use std::sync::atomic::{AtomicBool, AtomicU32};
 use std::test::Fail;
 use std::thread::{self, Threads};
 use test_support::at;
-use test_support::rows::{Refusal, Told, span};
+use test_support::rows::{Refusal, Reported, span};
 use timestamp_cache::{Uuid, earliest_write_at, may_write_at};
 use tsc_span::Span;
 use tsc_striped::{Busy, Gate, Seat, StripedCache, TryAddFault};
@@ -30,7 +30,7 @@ const TURNS: u32 = 10_000_000;
 /// told of.
 #[derive(Drop)]
 pub struct Hold {
-    told: AtomicU32,
+    reported: AtomicU32,
     is_held: AtomicBool,
     is_over: AtomicBool,
     has_returned: AtomicBool,
@@ -39,11 +39,18 @@ pub struct Hold {
 impl Hold {
     pub fn new() -> Hold {
         Hold {
-            told: AtomicU32::new(0),
+            reported: AtomicU32::new(0),
             is_held: AtomicBool::new(false),
             is_over: AtomicBool::new(false),
             has_returned: AtomicBool::new(false),
         }
+    }
+
+    /// A gate that lets each Add go on at once.
+    pub fn open() -> Hold {
+        let hold = Hold::new();
+        hold.let_go();
+        hold
     }
 
     /// Waits until an Add is held up, and tells whether one is.
@@ -57,8 +64,8 @@ impl Hold {
     }
 
     /// How many Adds it was told of.
-    pub fn told(&self) -> u32 {
-        self.told.load(SeqCst)
+    pub fn reported(&self) -> u32 {
+        self.reported.load(SeqCst)
     }
 }
 
@@ -74,14 +81,14 @@ fn is_set(flag: &AtomicBool) -> bool {
 }
 
 impl Gate for Hold {
-    ghost HasTold = { λ _ _. Unit {0} };
+    ghost HasReported = { λ _ _. Unit {0} };
 
     fn start(&self, _thread: u32, _call: u32) {}
 
     fn done(&self, _thread: u32, _call: u32) {}
 
     fn publish(&self, _seat: u32) {
-        self.told.fetch_add(1, SeqCst);
+        self.reported.fetch_add(1, SeqCst);
         self.is_held.store(true, SeqCst);
         thread::yield_now();
         is_set(&self.is_over);
@@ -109,8 +116,8 @@ fn ask_beside<R: Wait>(
         return false;
     };
     let waiting = Waiting { cache: striped, rt };
-    let told = earliest_write_at(&waiting, seat, slice::from_ref(other), wanted, by);
-    let Ok(time) = told else { unreachable!() };
+    let reported = earliest_write_at(&waiting, seat, slice::from_ref(other), wanted, by);
+    let Ok(time) = reported else { unreachable!() };
     matches!(time, Some(later) if wanted < later)
 }
 
@@ -137,7 +144,7 @@ fn call_beside<R: Wait>(
 }
 
 /// The first seat adds, and is held up. The second one makes its calls meanwhile, and sees the Add
-/// once it has returned. Whether all came as it should.
+/// once it has returned. A third one makes none. Whether all came as it should.
 fn take_part<R: Wait>(
     rt: &R,
     striped: &StripedCache,
@@ -156,24 +163,29 @@ fn take_part<R: Wait>(
         hold.has_returned.store(true, SeqCst);
         return added.is_ok() && striped.get_max(rt, &mut seat, own) == value;
     }
+    if seat.number() > 1 {
+        return true;
+    }
     let is_right = hold.is_reached() && call_beside(rt, striped, &mut seat, own, other);
     hold.let_go();
     is_right && is_set(&hold.has_returned) && striped.get_max(rt, &mut seat, own) == value
 }
 
-/// A cache with three stripes, and two seats.
-fn open(alloc: Global) -> Told<(StripedCache, Vec<Seat>)>
+/// A cache with three stripes, and three seats.
+pub fn open(alloc: Global) -> Reported<(StripedCache, Vec<Seat>)>
     ensures { IfOk result (λ opened. All (λ seat. seat.cache ≡ opened.0) opened.1.items) }
 {
-    let opened = StripedCache::open(alloc, config(8256)?, keys(alloc, "b d")?, 2);
+    let opened = StripedCache::open(alloc, config(8256)?, keys(alloc, "b d")?, 3);
     let Ok((striped, mut dealer)) = opened else {
         return Err(Refusal::NoMemory);
     };
     let one = striped.deal(&mut dealer).ok_or(Refusal::NoRow)?;
-    let other = striped.deal(&mut dealer).ok_or(Refusal::NoRow)?;
+    let two = striped.deal(&mut dealer).ok_or(Refusal::NoRow)?;
+    let three = striped.deal(&mut dealer).ok_or(Refusal::NoRow)?;
     let mut seats = Vec::new(alloc);
     seats.push(one)?;
-    seats.push(other)?;
+    seats.push(two)?;
+    seats.push(three)?;
     Ok((striped, seats))
 }
 
@@ -187,14 +199,14 @@ fn play<R: Threads + Wait + Sync>(
     requires { All (λ seat. seat.cache ≡ striped.now) seats.items }
 {
     let hold = Hold::new();
-    let told = thread::map_vec(
+    let reported = thread::map_vec(
         rt,
         seats,
         &|seat: Seat| -> bool
             requires { seat.cache ≡ striped.now }
         { take_part(rt, striped, seat, &hold, spans) },
     )?;
-    Ok(hold.told() == 1 && told.len() == 2 && told.iter().all(|is_right| *is_right))
+    Ok(hold.reported() == 1 && reported.len() == 3 && reported.iter().all(|is_right| *is_right))
 }
 
 #[test]

@@ -1,51 +1,24 @@
 //! Two seats of a cache in stripes, which take turns.
 ghost use Rattle.std.specs.Prelude.{◌≡◌};
 
+use crate::held::Hold;
 use std::alloc::Global;
 use std::mem;
 use std::sync::Wait;
-use std::sync::atomic::AtomicU32;
-use std::sync::atomic::Ordering::SeqCst;
 use test_support::at;
-use test_support::rows::{Refusal, SpanBytes, Told, key, of_no_memory};
+use test_support::rows::{Refusal, Reported, SpanBytes, key, of_no_memory};
 use timestamp_cache::ReadSummary;
 use tsc_cache::{Added, Config, Figures, Mark};
 use tsc_span::{Key, Span, SpanRef};
 use tsc_striped::{
-    AddFault, Busy, Dealer, Gate, Receipt, Seat, SnapshotFault, StripedCache, TryAddFault,
+    AddFault, Busy, Dealer, Receipt, Seat, SnapshotFault, StripedCache, TryAddFault,
 };
 use tsc_striped_leases::{apply_in_stripes, summary_in_stripes, try_apply_in_stripes};
 use tsc_time::{Timestamp, Value};
 
-/// A gate that counts the Adds that it is told of.
-#[derive(Drop)]
-struct Counted {
-    told: AtomicU32,
-}
-
-impl Gate for Counted {
-    ghost HasTold = { λ _ _. Unit {0} };
-
-    fn start(&self, _thread: u32, _call: u32) {}
-
-    fn done(&self, _thread: u32, _call: u32) {}
-
-    fn publish(&self, _seat: u32) {
-        self.told.fetch_add(1, SeqCst);
-    }
-}
-
-impl Counted {
-    fn new() -> Counted {
-        Counted {
-            told: AtomicU32::new(0),
-        }
-    }
-
-    /// Whether it was told of an accepted Add once, and of a refused one never.
-    fn is_told(&self, added: &Told<Receipt>) -> bool {
-        self.told.load(SeqCst) == u32::from(added.is_ok())
-    }
+/// Whether a gate was called once for an accepted Add, and not for a refused one.
+fn is_right(gate: &Hold, added: &Reported<Receipt>) -> bool {
+    gate.reported() == u32::from(added.is_ok())
 }
 
 /// A cache in stripes, its dealer, and its two seats, of which the first one makes the next call.
@@ -67,12 +40,12 @@ pub struct Seats<'a, R> {
 }
 
 /// Pages of so many bytes, with a floor at 5.
-pub fn config(size: u32) -> Told<Config> {
+pub fn config(size: u32) -> Reported<Config> {
     Config::new(size, size, 2, 10, at(5, 0)).map_err(|_| Refusal::PageSize)
 }
 
 /// The keys of these texts.
-pub fn keys(alloc: Global, texts: &str) -> Told<Vec<Key>> {
+pub fn keys(alloc: Global, texts: &str) -> Reported<Vec<Key>> {
     let mut keys = Vec::new(alloc);
     for text in texts.split(' ') {
         keys.push(Key::new(alloc, &key(alloc, text)?).map_err(|_| Refusal::NoMemory)?)?;
@@ -97,7 +70,7 @@ fn of_busy(_busy: Busy) -> Refusal {
 
 impl<'a, R: Wait> Seats<'a, R> {
     /// A cache with two seats, which are all that it has.
-    pub fn open(rt: &'a R, alloc: Global, size: u32, bounds: Vec<Key>) -> Told<Seats<'a, R>> {
+    pub fn open(rt: &'a R, alloc: Global, size: u32, bounds: Vec<Key>) -> Reported<Seats<'a, R>> {
         let opened = StripedCache::open(alloc, config(size)?, bounds, 2);
         let Ok((striped, mut dealer)) = opened else {
             return Err(Refusal::NoMemory);
@@ -131,11 +104,11 @@ impl<'a, R: Wait> Seats<'a, R> {
     }
 
     /// Which of its seat's own Adds the last Add was.
-    pub fn number(&self) -> Told<u64> {
+    pub fn number(&self) -> Reported<u64> {
         self.number.ok_or(Refusal::NoRow)
     }
 
-    pub fn add(&mut self, mark: &Mark) -> Told<Added> {
+    pub fn add(&mut self, mark: &Mark) -> Reported<Added> {
         let (striped, seat, now) = (&self.striped, &mut self.seat, at(20, 0));
         let receipt = match self.tries {
             Some(tries) => striped
@@ -148,7 +121,7 @@ impl<'a, R: Wait> Seats<'a, R> {
         Ok(self.turn(receipt))
     }
 
-    pub fn add_all(&mut self, marks: &[Mark]) -> Told<Added> {
+    pub fn add_all(&mut self, marks: &[Mark]) -> Reported<Added> {
         let (striped, seat, now) = (&self.striped, &mut self.seat, at(20, 0));
         let receipt = match self.tries {
             Some(tries) => striped
@@ -160,7 +133,7 @@ impl<'a, R: Wait> Seats<'a, R> {
     }
 
     /// Looks up a single key by a span of its own, and another span by the bytes of its keys.
-    pub fn get(&mut self, bytes: &SpanBytes) -> Told<Value> {
+    pub fn get(&mut self, bytes: &SpanBytes) -> Reported<Value> {
         let (striped, seat) = (&self.striped, &mut self.seat);
         let is_point = bytes.to.is_none() && !bytes.is_onward;
         if is_point {
@@ -180,9 +153,9 @@ impl<'a, R: Wait> Seats<'a, R> {
     }
 
     /// Adds a mark with a gate.
-    pub fn add_gated(&mut self, mark: &Mark) -> Told<Added> {
+    pub fn add_gated(&mut self, mark: &Mark) -> Reported<Added> {
         let (striped, seat, now) = (&self.striped, &mut self.seat, at(20, 0));
-        let gate = Counted::new();
+        let gate = Hold::open();
         let added = match self.tries {
             Some(tries) => striped
                 .try_add_gated(seat, &mark.span, mark.value, now, tries, &gate)
@@ -191,16 +164,16 @@ impl<'a, R: Wait> Seats<'a, R> {
                 .add_gated(self.rt, seat, &mark.span, mark.value, now, &gate)
                 .map_err(of_add),
         };
-        if !gate.is_told(&added) {
+        if !is_right(&gate, &added) {
             return Err(Refusal::NoRow);
         }
         Ok(self.turn(added?))
     }
 
     /// Adds all of them with one gate.
-    pub fn add_all_gated(&mut self, marks: &[Mark]) -> Told<Added> {
+    pub fn add_all_gated(&mut self, marks: &[Mark]) -> Reported<Added> {
         let (striped, seat, now) = (&self.striped, &mut self.seat, at(20, 0));
-        let gate = Counted::new();
+        let gate = Hold::open();
         let added = match self.tries {
             Some(tries) => striped
                 .try_add_all_gated(seat, marks, now, tries, &gate)
@@ -209,14 +182,14 @@ impl<'a, R: Wait> Seats<'a, R> {
                 .add_all_gated(self.rt, seat, marks, now, &gate)
                 .map_err(of_add),
         };
-        if !gate.is_told(&added) {
+        if !is_right(&gate, &added) {
             return Err(Refusal::NoRow);
         }
         Ok(self.turn(added?))
     }
 
     /// The floor and the figures of a stripe.
-    pub fn stripe(&mut self, stripe: u32) -> Told<(Timestamp, Figures)> {
+    pub fn stripe(&mut self, stripe: u32) -> Reported<(Timestamp, Figures)> {
         if stripe >= self.striped.stripes() {
             return Err(Refusal::NoRow);
         }
@@ -231,7 +204,7 @@ impl<'a, R: Wait> Seats<'a, R> {
     }
 
     /// How many copies a snapshot of a span has.
-    pub fn snapshot(&mut self, span: &Span) -> Told<usize> {
+    pub fn snapshot(&mut self, span: &Span) -> Reported<usize> {
         let (striped, seat) = (&self.striped, &mut self.seat);
         let Some(tries) = self.tries else {
             let snapshot = striped.snapshot(self.rt, seat, span).map_err(of_no_memory)?;
@@ -245,7 +218,7 @@ impl<'a, R: Wait> Seats<'a, R> {
     }
 
     /// Keeps a summary of each stripe that a span touches, and tells how many there are.
-    pub fn sum_up(&mut self, span: &Span) -> Told<usize> {
+    pub fn sum_up(&mut self, span: &Span) -> Reported<usize> {
         let (rt, alloc, seat) = (self.rt, self.alloc, &mut self.seat);
         self.summaries = summary_in_stripes(rt, alloc, &self.striped, seat, span, 9).map_err(
             of_no_memory,
@@ -254,7 +227,7 @@ impl<'a, R: Wait> Seats<'a, R> {
     }
 
     /// Applies one of the summaries to the same cache.
-    pub fn take_over(&mut self, number: usize) -> Told<Added> {
+    pub fn take_over(&mut self, number: usize) -> Reported<Added> {
         let (striped, seat, now) = (&self.striped, &mut self.seat, at(20, 0));
         let one = self.summaries.get(number).ok_or(Refusal::NoRow)?;
         let receipt = match self.tries {
@@ -281,7 +254,7 @@ impl<'a, R: Wait> Seats<'a, R> {
     }
 
     /// How many stripes the cache had.
-    pub fn close(self) -> Told<usize> {
+    pub fn close(self) -> Reported<usize> {
         let mut seats = Vec::with_capacity(self.alloc, 2)?;
         seats.push(self.seat)?;
         seats.push(self.other)?;

@@ -4,16 +4,15 @@
 //! No contract speaks of progress: this finds a call that waits while it holds locks, one that
 //! waits for ever, and one that answers before it has all locks. `scripts/refuse stop` stops the
 //! Add's thread as the system may, and lets nobody go on before the call has waited.
-ghost use Rattle.std.specs.Prelude.{◌≡◌, All, IfOk};
+ghost use Rattle.std.specs.Prelude.{◌≡◌, All};
 
-use crate::held::Hold;
-use crate::seats::{config, keys};
+use crate::held::{Hold, open};
 use std::alloc::Global;
 use std::sync::Wait;
 use std::test::Fail;
 use std::thread::{self, Threads};
 use test_support::at;
-use test_support::rows::{Refusal, Told, span};
+use test_support::rows::span;
 use tsc_span::Span;
 use tsc_striped::{Seat, StripedCache};
 use tsc_time::Value;
@@ -114,24 +113,6 @@ fn take_part<R: Wait>(rt: &R, striped: &StripedCache, seat: Seat, scene: &Scene)
     is_right
 }
 
-/// A cache with three stripes, and three seats.
-fn open(alloc: Global) -> Told<(StripedCache, Vec<Seat>)>
-    ensures { IfOk result (λ opened. All (λ seat. seat.cache ≡ opened.0) opened.1.items) }
-{
-    let opened = StripedCache::open(alloc, config(8256)?, keys(alloc, "b d")?, 3);
-    let Ok((striped, mut dealer)) = opened else {
-        return Err(Refusal::NoMemory);
-    };
-    let one = striped.deal(&mut dealer).ok_or(Refusal::NoRow)?;
-    let two = striped.deal(&mut dealer).ok_or(Refusal::NoRow)?;
-    let three = striped.deal(&mut dealer).ok_or(Refusal::NoRow)?;
-    let mut seats = Vec::new(alloc);
-    seats.push(one)?;
-    seats.push(two)?;
-    seats.push(three)?;
-    Ok((striped, seats))
-}
-
 /// Each seat takes part on a thread of its own.
 fn play<R: Threads + Wait + Sync>(
     rt: &R,
@@ -141,14 +122,14 @@ fn play<R: Threads + Wait + Sync>(
 ) -> Result<bool, Fail>
     requires { All (λ seat. seat.cache ≡ striped.now) seats.items }
 {
-    let told = thread::map_vec(
+    let reported = thread::map_vec(
         rt,
         seats,
         &|seat: Seat| -> bool
             requires { seat.cache ≡ striped.now }
         { take_part(rt, striped, seat, scene) },
     )?;
-    Ok(told.len() == 3 && told.iter().all(|is_right| *is_right))
+    Ok(reported.len() == 3 && reported.iter().all(|is_right| *is_right))
 }
 
 /// Plays the scene of a call.

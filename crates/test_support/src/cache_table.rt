@@ -9,9 +9,11 @@
 //! | `share = done` | A version of the cache is kept, so that it shares its pages. |
 //! | `drop = done` | All such versions are let go. |
 //! | `memory = 436` | So many bytes have the blocks of memory that hold the pages. |
-use crate::again_told;
-use crate::player::{Table, play, told, told_added, written};
-use crate::rows::{Refusal, SpanBytes, Told, of_bytes, of_cache, of_no_memory, span, time, value};
+use crate::again_reported;
+use crate::player::{Table, play, reported, reported_added, written};
+use crate::rows::{
+    Refusal, Reported, SpanBytes, of_bytes, of_cache, of_no_memory, span, time, value,
+};
 use std::alloc::Global;
 use std::mem;
 use std::test::Fail;
@@ -82,7 +84,7 @@ fn add_between(
 }
 
 /// SpanBytes of digits in hexadecimal, two each.
-fn from_hex(alloc: Global, digits: &str) -> Told<Vec<u8>> {
+fn from_hex(alloc: Global, digits: &str) -> Reported<Vec<u8>> {
     let mut bytes = Vec::new(alloc);
     for place in (0..digits.len()).step_by(2) {
         let two = digits
@@ -94,7 +96,7 @@ fn from_hex(alloc: Global, digits: &str) -> Told<Vec<u8>> {
 }
 
 /// What bytes are refused as, a few times over, if that is one answer.
-fn alike(first: &mut Option<Refusal>, answer: Told<Added>) -> Told<()> {
+fn alike(first: &mut Option<Refusal>, answer: Reported<Added>) -> Reported<()> {
     let refusal = answer.err().ok_or(Refusal::NoRow)?;
     match *first.get_or_insert(refusal) {
         one if one == refusal => Ok(()),
@@ -116,7 +118,7 @@ impl CacheTable {
 
     /// Goes on with the next version, and keeps the one before. Room for that is there before, so
     /// that nothing is done where memory is refused.
-    fn go_on(&mut self, made: Result<(Cache, Added), CacheFault>) -> Told<Added> {
+    fn go_on(&mut self, made: Result<(Cache, Added), CacheFault>) -> Reported<Added> {
         let (next, added) = made.map_err(of_cache)?;
         self.versions.reserve(1).map_err(|_| Refusal::Memory)?;
         self.versions
@@ -126,7 +128,7 @@ impl CacheTable {
     }
 
     /// Adds keys of numbers in place.
-    fn fill(&mut self, first: u32, end: u32, step: u32, value: Value) -> Told<()> {
+    fn fill(&mut self, first: u32, end: u32, step: u32, value: Value) -> Reported<()> {
         for number in (first..end).step_by(step.max(1) as usize) {
             let bytes = number.to_be_bytes();
             let key = KeyRef::new(&bytes).map_err(|_| Refusal::NoRow)?;
@@ -136,14 +138,14 @@ impl CacheTable {
         Ok(())
     }
 
-    fn summary(&self, name: &str) -> Told<&[u8]> {
+    fn summary(&self, name: &str) -> Reported<&[u8]> {
         let has_name = |it: &&(u8, Vec<u8>)| [it.0].as_slice() == name.as_bytes();
         let (_, bytes) = self.summaries.iter().find(has_name).ok_or(Refusal::NoRow)?;
         Ok(bytes.as_slice())
     }
 
     /// Keeps bytes by a name, in place of those that had it.
-    fn name(&mut self, name: &str, bytes: Vec<u8>) -> Told<String> {
+    fn name(&mut self, name: &str, bytes: Vec<u8>) -> Reported<String> {
         let [name] = name.as_bytes() else {
             return Err(Refusal::NoRow)
         };
@@ -155,26 +157,26 @@ impl CacheTable {
         written(self.alloc, len)
     }
 
-    fn apply_bytes(&mut self, bytes: &[u8], now: &str) -> Told<Added> {
-        let told = ReadSummary::from_bytes(self.alloc, bytes).map_err(of_summary)?;
-        apply(&mut self.cache, &told, time(now)?).map_err(of_cache)
+    fn apply_bytes(&mut self, bytes: &[u8], now: &str) -> Reported<Added> {
+        let reported = ReadSummary::from_bytes(self.alloc, bytes).map_err(of_summary)?;
+        apply(&mut self.cache, &reported, time(now)?).map_err(of_cache)
     }
 
     /// How each beginning of a summary is refused, and the whole with a byte behind it.
-    fn cuts(&mut self, name: &str, now: &str) -> Told<String> {
+    fn cuts(&mut self, name: &str, now: &str) -> Reported<String> {
         let mut bytes = self.summary(name)?.to_vec(self.alloc)?;
         let whole = bytes.len();
         bytes.push(0)?;
         let mut first = None;
         for len in (0..=bytes.len()).filter(|len| *len != whole) {
-            let told = self.apply_bytes(bytes.get(..len).unwrap_or(&bytes), now);
-            alike(&mut first, told)?;
+            let reported = self.apply_bytes(bytes.get(..len).unwrap_or(&bytes), now);
+            alike(&mut first, reported)?;
         }
         Err(first.unwrap_or(Refusal::NoRow))
     }
 
     /// How a summary with another byte at one of some places is refused.
-    fn changes(&mut self, name: &str, (first, last): (&str, &str), now: &str) -> Told<String> {
+    fn changes(&mut self, name: &str, (first, last): (&str, &str), now: &str) -> Reported<String> {
         let mut bytes = self.summary(name)?.to_vec(self.alloc)?;
         let last = match last {
             "-" => bytes.len().saturating_sub(1),
@@ -184,23 +186,25 @@ impl CacheTable {
         for place in first.parse()?..=last {
             for by in [0x01, 0x10, 0x80, 0xff] {
                 bytes.get_mut(place).map(|byte| *byte ^= by);
-                let told = self.apply_bytes(&bytes, now);
+                let reported = self.apply_bytes(&bytes, now);
                 bytes.get_mut(place).map(|byte| *byte ^= by);
-                alike(&mut one, told)?;
+                alike(&mut one, reported)?;
             }
         }
         Err(one.unwrap_or(Refusal::NoRow))
     }
 
-    fn tell(&mut self, name: &str, text: &str, most: &str) -> Told<String> {
+    fn report(&mut self, name: &str, text: &str, most: &str) -> Reported<String> {
         let (alloc, span) = (self.alloc, span(self.alloc, text)?);
         let most = if most == "all" {
             usize::MAX
         } else {
             most.parse()?
         };
-        let told = again_told!(summary(alloc, &self.cache, &span, most).map_err(of_no_memory))?;
-        let bytes = again_told!(told.to_bytes().map_err(of_no_memory))?;
+        let reported = again_reported!(summary(alloc, &self.cache, &span, most).map_err(
+            of_no_memory
+        ))?;
+        let bytes = again_reported!(reported.to_bytes().map_err(of_no_memory))?;
         self.name(name, bytes)
     }
 }
@@ -210,7 +214,7 @@ impl Table for CacheTable {
         kind != "seats"
     }
 
-    fn sit(&mut self, seat: &str) -> Told<()> {
+    fn sit(&mut self, seat: &str) -> Reported<()> {
         if seat.is_empty() {
             Ok(())
         } else {
@@ -218,13 +222,13 @@ impl Table for CacheTable {
         }
     }
 
-    fn open(&mut self, config: Config, _limit: u64) -> Told<()> {
+    fn open(&mut self, config: Config, _limit: u64) -> Reported<()> {
         self.cache = Cache::new(self.alloc, config).map_err(|_| Refusal::NoMemory)?;
         self.versions.clear();
         Ok(())
     }
 
-    fn add(&mut self, bytes: &SpanBytes, mark: &Mark, now: Timestamp) -> Told<Added> {
+    fn add(&mut self, bytes: &SpanBytes, mark: &Mark, now: Timestamp) -> Reported<Added> {
         let cache = &mut self.cache;
         match (self.by, mark.span.borrowed().key()) {
             (By::Key, Some(_)) => {
@@ -240,7 +244,7 @@ impl Table for CacheTable {
         }
     }
 
-    fn add_all(&mut self, marks: &[Mark], now: Timestamp) -> Told<Added> {
+    fn add_all(&mut self, marks: &[Mark], now: Timestamp) -> Reported<Added> {
         match self.by {
             By::Next => {
                 let made = self.cache.next_all(marks, now);
@@ -252,23 +256,23 @@ impl Table for CacheTable {
         }
     }
 
-    fn get(&mut self, bytes: &SpanBytes) -> Told<Value> {
+    fn get(&mut self, bytes: &SpanBytes) -> Reported<Value> {
         Ok(self.cache.get_max_ref(&bytes.looked_up()))
     }
 
-    fn low(&mut self) -> Told<Timestamp> {
+    fn low(&mut self) -> Reported<Timestamp> {
         Ok(self.cache.low_water())
     }
 
-    fn figures(&mut self) -> Told<Figures> {
+    fn figures(&mut self) -> Reported<Figures> {
         Ok(self.cache.figures())
     }
 
-    fn earliest(&mut self, spans: &[Span], at: Timestamp, by: Uuid) -> Told<Option<Timestamp>> {
+    fn earliest(&mut self, spans: &[Span], at: Timestamp, by: Uuid) -> Reported<Option<Timestamp>> {
         Ok(earliest_write(&self.cache, spans, at, by))
     }
 
-    fn may(&mut self, spans: &[Span], at: Timestamp, by: Uuid) -> Told<bool> {
+    fn may(&mut self, spans: &[Span], at: Timestamp, by: Uuid) -> Reported<bool> {
         Ok(
             spans
                 .iter()
@@ -276,7 +280,7 @@ impl Table for CacheTable {
         )
     }
 
-    fn call(&mut self, words: &[&str]) -> Told<String> {
+    fn call(&mut self, words: &[&str]) -> Reported<String> {
         let alloc = self.alloc;
         match *words {
             ["by", name] => {
@@ -297,21 +301,21 @@ impl Table for CacheTable {
             }
             ["drop"] => self.versions.clear(),
             ["memory"] => return written(alloc, self.cache.memory()),
-            ["summary", name, text, most] => return self.tell(name, text, most),
+            ["summary", name, text, most] => return self.report(name, text, most),
             ["take", name, digits] => drop(self.name(name, from_hex(alloc, digits)?)?),
             ["same", one, other] => {
                 let is_same = self.summary(one)? == self.summary(other)?;
-                return told(alloc, if is_same { "yes" } else { "no" });
+                return reported(alloc, if is_same { "yes" } else { "no" });
             }
             ["apply", name, now] => {
                 let bytes = self.summary(name)?.to_vec(alloc)?;
-                return told_added(alloc, again_told!(self.apply_bytes(&bytes, now))?);
+                return reported_added(alloc, again_reported!(self.apply_bytes(&bytes, now))?);
             }
             ["cuts", name, now] => return self.cuts(name, now),
             ["changes", name, first, last, now] => return self.changes(name, (first, last), now),
             _ => return Err(Refusal::NoRow),
         }
-        told(alloc, "done")
+        reported(alloc, "done")
     }
 }
 

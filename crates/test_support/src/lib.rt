@@ -6,7 +6,7 @@ mod player;
 pub mod rows;
 
 pub use cache_table::{CacheTable, play_by, play_on_caches};
-pub use player::{Table, marks, opening, play, told, told_added, told_value, written};
+pub use player::{Table, marks, opening, play, reported, reported_added, reported_value, written};
 use std::alloc::{AllocError, Global};
 use std::array;
 use std::fmt::Display;

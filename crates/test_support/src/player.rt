@@ -4,7 +4,7 @@
 //! `open` that is refused memory is made once more, and then has to be answered. Before a call
 //! `seat 1` names the seat that makes it.
 use crate::rows::{
-    Refusal, SpanBytes, Told, name_of, of_config, owner, span, span_bytes, time, value,
+    Refusal, Reported, SpanBytes, name_of, of_config, owner, span, span_bytes, time, value,
 };
 use std::alloc::Global;
 use std::fmt::Display;
@@ -16,11 +16,11 @@ use uuid::Uuid;
 
 /// A call, and once more where it is refused memory.
 #[macro_export]
-macro_rules! again_told {
+macro_rules! again_reported {
     ($call:expr) => {
         match $call {
             Err($crate::rows::Refusal::Memory) => $call,
-            told => told,
+            reported => reported,
         }
     };
 }
@@ -30,39 +30,39 @@ pub trait Table {
     /// Whether cases that begin with this word are played.
     fn plays(&self, kind: &str) -> bool;
     /// The seat of this number makes the next call, if it names one.
-    fn sit(&mut self, seat: &str) -> Told<()>;
+    fn sit(&mut self, seat: &str) -> Reported<()>;
 
-    fn open(&mut self, config: Config, limit: u64) -> Told<()>;
+    fn open(&mut self, config: Config, limit: u64) -> Reported<()>;
     /// Adds a mark, whose span is also there by its bytes.
-    fn add(&mut self, bytes: &SpanBytes, mark: &Mark, now: Timestamp) -> Told<Added>;
+    fn add(&mut self, bytes: &SpanBytes, mark: &Mark, now: Timestamp) -> Reported<Added>;
 
-    fn add_all(&mut self, marks: &[Mark], now: Timestamp) -> Told<Added>;
+    fn add_all(&mut self, marks: &[Mark], now: Timestamp) -> Reported<Added>;
 
-    fn get(&mut self, bytes: &SpanBytes) -> Told<Value>;
+    fn get(&mut self, bytes: &SpanBytes) -> Reported<Value>;
 
-    fn low(&mut self) -> Told<Timestamp>;
+    fn low(&mut self) -> Reported<Timestamp>;
 
-    fn figures(&mut self) -> Told<Figures>;
+    fn figures(&mut self) -> Reported<Figures>;
 
-    fn earliest(&mut self, spans: &[Span], at: Timestamp, by: Uuid) -> Told<Option<Timestamp>>;
+    fn earliest(&mut self, spans: &[Span], at: Timestamp, by: Uuid) -> Reported<Option<Timestamp>>;
 
-    fn may(&mut self, spans: &[Span], at: Timestamp, by: Uuid) -> Told<bool>;
+    fn may(&mut self, spans: &[Span], at: Timestamp, by: Uuid) -> Reported<bool>;
     /// A call of this table alone.
-    fn call(&mut self, words: &[&str]) -> Told<String>;
+    fn call(&mut self, words: &[&str]) -> Reported<String>;
 }
 
 /// A text of at most a hundred bytes, in one growth, so that none is made good by a smaller one.
-pub fn written<D: Display + Drop>(alloc: Global, text: D) -> Told<String> {
-    let mut told = String::with_capacity(alloc, 100)?;
-    told.write_fmt(text)?;
-    Ok(told)
+pub fn written<D: Display + Drop>(alloc: Global, text: D) -> Reported<String> {
+    let mut reported = String::with_capacity(alloc, 100)?;
+    reported.write_fmt(text)?;
+    Ok(reported)
 }
 
-fn told_time(alloc: Global, time: Timestamp) -> Told<String> {
+fn reported_time(alloc: Global, time: Timestamp) -> Reported<String> {
     written(alloc, format_args!("{}.{}", time.wall(), time.logical()))
 }
 
-pub fn told_value(alloc: Global, value: Value) -> Told<String> {
+pub fn reported_value(alloc: Global, value: Value) -> Reported<String> {
     let time = value.time();
     written(
         alloc,
@@ -70,28 +70,28 @@ pub fn told_value(alloc: Global, value: Value) -> Told<String> {
     )
 }
 
-pub fn told_added(alloc: Global, added: Added) -> Told<String> {
+pub fn reported_added(alloc: Global, added: Added) -> Reported<String> {
     let (kept, rotated) = (u8::from(added.kept), u8::from(added.rotated));
     written(alloc, format_args!("{kept} {rotated} {}", added.evicted))
 }
 
-pub fn told(alloc: Global, answer: &str) -> Told<String> {
+pub fn reported(alloc: Global, answer: &str) -> Reported<String> {
     Ok(String::from_str(alloc, answer)?)
 }
 
-fn config(first: &str, max: &str, pages: &str, retention: &str, low: &str) -> Told<Config> {
+fn config(first: &str, max: &str, pages: &str, retention: &str, low: &str) -> Reported<Config> {
     let (first, max, pages) = (first.parse()?, max.parse()?, pages.parse()?);
     Config::new(first, max, pages, retention.parse()?, time(low)?).map_err(of_config)
 }
 
 /// The configuration and the limit of Adds of the words behind `open`.
-pub fn opening(row: &str) -> Told<(Config, u64)> {
+pub fn opening(row: &str) -> Reported<(Config, u64)> {
     let [first, max, pages, retention, low, limit, ..] = crate::words(row, ' ');
     Ok((config(first, max, pages, retention, low)?, limit.parse()?))
 }
 
 /// The marks of a batch.
-pub fn marks(alloc: Global, words: &[&str]) -> Told<Vec<Mark>> {
+pub fn marks(alloc: Global, words: &[&str]) -> Reported<Vec<Mark>> {
     let mut marks = Vec::new(alloc);
     for three in words.chunks(3) {
         let [text, at, by] = *three else {
@@ -103,7 +103,7 @@ pub fn marks(alloc: Global, words: &[&str]) -> Told<Vec<Mark>> {
     Ok(marks)
 }
 
-fn spans(alloc: Global, texts: &[&str]) -> Told<Vec<Span>> {
+fn spans(alloc: Global, texts: &[&str]) -> Reported<Vec<Span>> {
     let mut spans = Vec::new(alloc);
     for text in texts {
         spans.push(span(alloc, text)?)?;
@@ -112,25 +112,25 @@ fn spans(alloc: Global, texts: &[&str]) -> Told<Vec<Span>> {
 }
 
 /// What a call answers.
-fn answer<T: Table>(alloc: Global, table: &mut T, words: &[&str]) -> Told<String> {
+fn answer<T: Table>(alloc: Global, table: &mut T, words: &[&str]) -> Reported<String> {
     match *words {
         ["open", first, max, pages, retention, low, limit] => {
             let (config, limit) = (config(first, max, pages, retention, low)?, limit.parse()?);
             table.open(config, limit)?;
-            told(alloc, "done")
+            reported(alloc, "done")
         }
         ["add", text, at, by, now] => {
             let (bytes, value, now) = (span_bytes(alloc, text)?, value(at, by)?, time(now)?);
             let span = bytes.span(alloc)?;
             let mark = Mark { span, value };
-            told_added(alloc, again_told!(table.add(&bytes, &mark, now))?)
+            reported_added(alloc, again_reported!(table.add(&bytes, &mark, now))?)
         }
         ["batch", now, ref words @ ..] => {
             let (marks, now) = (marks(alloc, words)?, time(now)?);
-            told_added(alloc, again_told!(table.add_all(&marks, now))?)
+            reported_added(alloc, again_reported!(table.add_all(&marks, now))?)
         }
-        ["get", text] => told_value(alloc, table.get(&span_bytes(alloc, text)?)?),
-        ["low"] => told_time(alloc, table.low()?),
+        ["get", text] => reported_value(alloc, table.get(&span_bytes(alloc, text)?)?),
+        ["low"] => reported_time(alloc, table.low()?),
         ["figures"] => {
             let all = table.figures()?;
             let (pages, rotations, nodes) = (all.pages, all.rotations, all.nodes);
@@ -141,12 +141,12 @@ fn answer<T: Table>(alloc: Global, table: &mut T, words: &[&str]) -> Told<String
         }
         ["may", at, by, ref texts @ ..] => {
             let may = table.may(&spans(alloc, texts)?, time(at)?, owner(by)?)?;
-            told(alloc, if may { "yes" } else { "no" })
+            reported(alloc, if may { "yes" } else { "no" })
         }
         ["earliest", at, by, ref texts @ ..] => {
             match table.earliest(&spans(alloc, texts)?, time(at)?, owner(by)?)? {
-                Some(then) => told_time(alloc, then),
-                None => told(alloc, "none"),
+                Some(then) => reported_time(alloc, then),
+                None => reported(alloc, "none"),
             }
         }
         _ => table.call(words),
@@ -154,13 +154,13 @@ fn answer<T: Table>(alloc: Global, table: &mut T, words: &[&str]) -> Told<String
 }
 
 /// Plays a row, and says whether it holds.
-fn holds<T: Table>(alloc: Global, table: &mut T, call: &str, wanted: &str) -> Told<bool> {
+fn holds<T: Table>(alloc: Global, table: &mut T, call: &str, wanted: &str) -> Reported<bool> {
     let mut words = Vec::with_capacity(alloc, call.split(' ').count())?;
     for word in call.split(' ') {
         words.push(word)?;
     }
     match answer(alloc, table, &words) {
-        Ok(told) => Ok(told.as_str() == wanted),
+        Ok(reported) => Ok(reported.as_str() == wanted),
         Err(Refusal::NoMemory) => Err(Refusal::NoMemory),
         Err(Refusal::NoThread) => Err(Refusal::NoThread),
         Err(Refusal::Memory) => is_there(alloc),
@@ -169,7 +169,7 @@ fn holds<T: Table>(alloc: Global, table: &mut T, call: &str, wanted: &str) -> To
 }
 
 /// That a row does not hold whose call was refused memory twice, where memory is there.
-fn is_there(alloc: Global) -> Told<bool> {
+fn is_there(alloc: Global) -> Reported<bool> {
     let _one: Vec<u8> = Vec::with_capacity(alloc, 1)?;
     Ok(false)
 }

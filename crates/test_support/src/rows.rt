@@ -58,7 +58,7 @@ impl Refusal {
     }
 }
 
-pub type Told<T> = Result<T, Refusal>;
+pub type Reported<T> = Result<T, Refusal>;
 
 impl From<AllocError> for Refusal {
     fn from(_refused: AllocError) -> Refusal {
@@ -116,14 +116,14 @@ fn of_span(fault: SpanFault) -> Refusal {
     }
 }
 
-pub fn time(text: &str) -> Told<Timestamp> {
+pub fn time(text: &str) -> Reported<Timestamp> {
     let (wall, logical) = text.split_once('.').ok_or(Refusal::NoRow)?;
     let (wall, logical) = (wall.parse()?, logical.parse()?);
     Timestamp::new(wall, logical).ok_or(Refusal::Time)
 }
 
 /// The owner with this name.
-pub fn owner(text: &str) -> Told<Uuid> {
+pub fn owner(text: &str) -> Reported<Uuid> {
     match text.as_bytes() {
         [b'-'] => Ok(Uuid::nil()),
         [letter] => Ok(Uuid::from_bytes([*letter; 16])),
@@ -131,7 +131,7 @@ pub fn owner(text: &str) -> Told<Uuid> {
     }
 }
 
-pub fn value(at: &str, by: &str) -> Told<Value> {
+pub fn value(at: &str, by: &str) -> Reported<Value> {
     Ok(Value::of(time(at)?, owner(by)?))
 }
 
@@ -150,7 +150,7 @@ fn letter_of(id: &Uuid) -> char {
 }
 
 /// Adds the bytes of a text without `*`.
-fn push_bytes(bytes: &mut Vec<u8>, text: &str) -> Told<()> {
+fn push_bytes(bytes: &mut Vec<u8>, text: &str) -> Reported<()> {
     let mut parts = text.split('%');
     bytes.extend_from_slice(parts.next().unwrap_or("").as_bytes())?;
     for part in parts {
@@ -162,7 +162,7 @@ fn push_bytes(bytes: &mut Vec<u8>, text: &str) -> Told<()> {
 }
 
 /// The bytes of a key.
-pub fn key(alloc: Global, text: &str) -> Told<Vec<u8>> {
+pub fn key(alloc: Global, text: &str) -> Reported<Vec<u8>> {
     let mut bytes = Vec::with_capacity(alloc, text.len().saturating_add(4))?;
     if let Some(number) = text.strip_prefix('#') {
         bytes.extend_from_slice(&u32::to_be_bytes(number.parse()?))?;
@@ -189,7 +189,7 @@ pub struct SpanBytes {
     pub is_onward: bool,
 }
 
-pub fn span_bytes(alloc: Global, text: &str) -> Told<SpanBytes> {
+pub fn span_bytes(alloc: Global, text: &str) -> Reported<SpanBytes> {
     let last = text.len().saturating_sub(1);
     let inner = text.get(1..last).ok_or(Refusal::NoRow)?;
     let (exclude_from, exclude_to) = (text.starts_with('('), text.ends_with(')'));
@@ -219,7 +219,7 @@ impl SpanBytes {
         }
     }
 
-    pub fn span(&self, alloc: Global) -> Told<Span> {
+    pub fn span(&self, alloc: Global) -> Reported<Span> {
         let from = Key::new(alloc, &self.from).map_err(of_span)?;
         match &self.to {
             Some(to) => {
@@ -232,6 +232,6 @@ impl SpanBytes {
     }
 }
 
-pub fn span(alloc: Global, text: &str) -> Told<Span> {
+pub fn span(alloc: Global, text: &str) -> Reported<Span> {
     span_bytes(alloc, text)?.span(alloc)
 }

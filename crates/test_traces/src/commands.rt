@@ -16,7 +16,7 @@ fn calls<R: Runtime>(rt: &R, row: Cells) -> Holds {
     let [
         status,
         output_of,
-        told,
+        reported,
         command,
         trace,
         log,
@@ -40,8 +40,8 @@ fn calls<R: Runtime>(rt: &R, row: Cells) -> Holds {
     };
     let is_counted = counts.is_empty() || watch.counts(alloc)?.as_str() == counts;
     let is_written = output.into_inner().inner == bytes_of(alloc, output_of)?;
-    let is_told = errors.into_inner().inner == bytes_of(alloc, told)?;
-    Ok(came == status.parse()? && is_counted && is_written && is_told)
+    let is_reported = errors.into_inner().inner == bytes_of(alloc, reported)?;
+    Ok(came == status.parse()? && is_counted && is_written && is_reported)
 }
 
 /// Each call of a stream moves a byte, and fails in turn. At last a call fails that is not made.
@@ -77,7 +77,7 @@ fn lists_of_a_command_run_at_one_time(rt: HostRuntime) -> Result<(), Fail> {
 
 /// How far a command is: each call of a trace is told once, as it is made.
 #[test]
-fn each_call_is_told_once(rt: HostRuntime) -> Result<(), Fail> {
+fn each_call_is_reported_once(rt: HostRuntime) -> Result<(), Fail> {
     all_hold!(rt, '|'; calls(&rt) => "
 0|reads log||watched replay|reads|||0 (0, 0, 6) 0
 0|right¶||watched check|reads|reads log||0 (0, 0, 6) 0

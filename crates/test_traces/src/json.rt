@@ -6,11 +6,11 @@ use tsc_trace_format::read_trace as read_values;
 
 /// What a reader gives, asked once more where it is refused memory: `Ok` with the number of calls,
 /// or the fault.
-macro_rules! told {
+macro_rules! reported {
     ($alloc:ident, $reading:expr) => {{
         let read = match $reading {
             Err(TraceFault::NoMemory) => $reading,
-            told => told,
+            reported => reported,
         };
         let count = read.map(|trace| {
             let lists = trace.threads.slice().iter();
@@ -24,8 +24,8 @@ macro_rules! told {
 /// JSON values.
 fn reads(alloc: Global, [wanted, text, ..]: Cells) -> Holds {
     let bytes = trace_of(alloc, WIDE, text)?;
-    let quick = told!(alloc, read_trace(alloc, &bytes));
-    let by_values = told!(alloc, read_values(alloc, &bytes));
+    let quick = reported!(alloc, read_trace(alloc, &bytes));
+    let by_values = reported!(alloc, read_values(alloc, &bytes));
     Ok(quick.as_str() == wanted && by_values.as_str() == wanted)
 }
 
@@ -42,7 +42,7 @@ Err(NotJson)|{"page_first":132,"page_max":8256,"min_pages":2,"retention":10,"low
 
 /// As many lists, calls, marks and bytes of a key as there may be.
 #[test]
-fn limits_are_not_told_too_early(rt: HostRuntime) -> Result<(), Fail> {
+fn limits_are_not_reported_too_early(rt: HostRuntime) -> Result<(), Fail> {
     all_hold!(rt, '|'; reads(rt.alloc()) => r#"
 Ok(0)|[[],¦[],×62¦[]]
 Ok(65536)|[[¦{"op":"low"},×65535¦{"op":"low"}]]

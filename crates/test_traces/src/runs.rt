@@ -28,7 +28,7 @@ fn lists_run_while_others_are_held_up(rt: HostRuntime) -> Result<(), Fail> {
 }
 
 #[test]
-fn an_add_is_not_seen_before_its_gate_was_told(rt: HostRuntime) -> Result<(), Fail> {
+fn an_add_is_not_seen_before_its_gate_was_notified(rt: HostRuntime) -> Result<(), Fail> {
     all_hold!(rt, '|'; runs(&rt) => r#"
 2 (2, 2, 0) 1|unseen|add|0 0 add 0 1 0 0¶1 0 get 0 5.0 none¶
 2 (2, 2, 0) 1|unseen|batch|0 0 batch 0 1 0 0¶1 0 get 0 5.0 none¶"#);
@@ -37,7 +37,7 @@ fn an_add_is_not_seen_before_its_gate_was_told(rt: HostRuntime) -> Result<(), Fa
 
 /// For `scripts/refuse growth`: a call that is refused memory is done too, and ends its list.
 #[test]
-fn a_gate_is_told_of_each_call_in_its_order(rt: HostRuntime) -> Result<(), Fail> {
+fn a_gate_is_notified_of_each_call_in_its_order(rt: HostRuntime) -> Result<(), Fail> {
     all_hold!(rt, '|'; runs(&rt) => r#"
 0 (6, 6, 0) 3||[[{"op":"low"},{"op":"batch","marks":[{"span":{"start":"61"},"time":[20,0]},{"span":{"start":"64"},"time":[20,0]}],"now":[20,0]},{"op":"get","span":{"start":"61"}}],[{"op":"add","span":{"start":"62"},"time":[20,0],"now":[20,0]},{"op":"get","span":{"start":"62"}},{"op":"add","span":{"start":"63"},"time":[4,0],"now":[20,0]}]]|-"#);
     Ok(())

@@ -17,7 +17,7 @@ pub(crate) struct Watch<'r> {
     rule: &'r str,
     /// Threads that saw what they waited for.
     met: AtomicU64,
-    told: (AtomicU64, AtomicU64, AtomicU64),
+    reported: (AtomicU64, AtomicU64, AtomicU64),
     published: AtomicU64,
     /// Lists that have begun, calls that are done, and counts that came out of their order.
     begun: AtomicU64,
@@ -33,7 +33,7 @@ impl<'r> Watch<'r> {
     }
 
     fn of(&self, thread: u32) -> &AtomicU64 {
-        [&self.told.0, &self.told.1, &self.told.2][thread.min(2) as usize]
+        [&self.reported.0, &self.reported.1, &self.reported.2][thread.min(2) as usize]
     }
 
     /// Counts a start or an end, of which the first two lists' counts are known.
@@ -53,19 +53,19 @@ impl<'r> Watch<'r> {
 
     /// Whether each call that has started is done, and all came in their order.
     pub(crate) fn is_in_order(&self) -> bool {
-        let (first, second, others) = &self.told;
-        let told = first.load(SeqCst) | second.load(SeqCst) | others.load(SeqCst);
-        told % 2 == 0 && self.wrong.load(SeqCst) == 0
+        let (first, second, others) = &self.reported;
+        let reported = first.load(SeqCst) | second.load(SeqCst) | others.load(SeqCst);
+        reported % 2 == 0 && self.wrong.load(SeqCst) == 0
     }
 
     /// The threads that saw what they waited for, the starts and ends, and the Adds.
     pub(crate) fn counts(&self, alloc: Global) -> Result<String, AllocError> {
-        format!(in alloc; "{:?} {:?} {:?}", self.met, self.told, self.published)
+        format!(in alloc; "{:?} {:?} {:?}", self.met, self.reported, self.published)
     }
 }
 
 impl Gate for Watch<'_> {
-    ghost HasTold = { λ _ _. Unit {0} };
+    ghost HasReported = { λ _ _. Unit {0} };
 
     fn start(&self, thread: u32, call: u32) {
         self.count(thread, u64::from(call).saturating_mul(2));
@@ -92,13 +92,13 @@ impl Gate for Watch<'_> {
         self.wrong.fetch_add(u64::from(is_wrong), SeqCst);
         if self.rule == "unseen" {
             // The first call of the second list has started and ended.
-            self.wait_for(&self.told.1, 2);
+            self.wait_for(&self.reported.1, 2);
         }
     }
 }
 
 impl Progress for Watch<'_> {
     fn made(&self) {
-        self.told.2.fetch_add(1, SeqCst);
+        self.reported.2.fetch_add(1, SeqCst);
     }
 }

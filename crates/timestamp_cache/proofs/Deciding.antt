@@ -6,7 +6,7 @@ use Rattle.std.proofs.lemmas.Bool.{cases_Bool}
 use Rattle.std.proofs.lemmas.Bool.Decides.{Decides-and, Decides-or}
 use Rattle.std.proofs.lemmas.Slice.Eq.{bytes_eq-Decides}
 use Rattle.tsc_time.specs.Time.{Time, is_before, is_same_time}
-use Rattle.tsc_time.specs.OwnedTime.{Owner, OwnedTime}
+use Rattle.tsc_time.specs.ValueView.{Owner, ValueView}
 use Rattle.tsc_time.proofs.TimeOrder.{is_same_time-Decides}
 use Rattle.timestamp_cache.specs.Clear.{IsClearOf}
 
@@ -26,17 +26,17 @@ is_owned_by-Decides (Some owner) by = (
 )
 
 -- whether a write is clear
-abbrev pub is_clear : OwnedTime → Owner → Time → Bool
+abbrev pub is_clear : ValueView → Owner → Time → Bool
 is_clear read by at = is_before read.time at ||
     (is_same_time read.time at && is_owned_by read.owner by)
 
-pub is_clear-Decides : (read : OwnedTime) (by : Owner) (at : Time) →
+pub is_clear-Decides : (read : ValueView) (by : Owner) (at : Time) →
     Decides (is_clear read by at) (IsClearOf read by at)
 is_clear-Decides read by at = Decides-or _ _ (λ e. e, λ e. e)
     (Decides-and _ _ (is_same_time-Decides read.time at) (is_owned_by-Decides read.owner by))
 
 -- it is or it isn't
-pub clear_or_not : (read : OwnedTime) (by : Owner) (at : Time) →
+pub clear_or_not : (read : ValueView) (by : Owner) (at : Time) →
     IsClearOf read by at ⊎ (IsClearOf read by at → ⊥)
 clear_or_not read by at = elim (cases_Bool (is_clear read by at)) [
   | inl h ↦ inl ((is_clear-Decides read by at).0 h)

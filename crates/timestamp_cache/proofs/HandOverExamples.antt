@@ -1,13 +1,13 @@
 -- What is told of a span whose lease is handed on, and what another cache makes of it.
 use Rattle.std.proofs.Common.{◌≡◌, refl, true≢false, [], ◌∷◌, codes, Some, None}
-use Rattle.tsc_time.specs.OwnedTime.{unowned}
+use Rattle.tsc_time.specs.ValueView.{unowned}
 use Rattle.tsc_time.specs.Joint.{joint_above}
 use Rattle.tsc_span.specs.Span.{before, after, last, nothing, between, point}
 use Rattle.tsc_cache.specs.Rotation.{next_size}
 use Rattle.tsc_cache.specs.State.{CacheState, look, step_all}
-use Rattle.tsc_cache.proofs.ExampleSettings.{at, of_first, of_second, usual, twenty, without_end, without_ends, mark, add, state_after}
-use Rattle.timestamp_cache.specs.HandOver.{Summary, summary_answer, IsWithin, marks_told}
-use Rattle.timestamp_cache.specs.Stretches.{stretch_end, told_more}
+use Rattle.tsc_cache.proofs.ExampleConfig.{at, of_first, of_second, usual, twenty, without_end, without_ends, mark, add, state_after}
+use Rattle.timestamp_cache.specs.HandOver.{Summary, summary_answer, IsWithin, marks_reported}
+use Rattle.timestamp_cache.specs.Stretches.{stretch_end, reported_more}
 
 -- ---- a cache with a read of a key and one of a range, and what is told of it
 
@@ -20,16 +20,20 @@ abbrev begun : Summary
 begun = record { span = without_end (codes "a") (codes "z"); floor = at 5 0; marks = [] }
 
 -- all of it
-abbrev all_told : Summary
-all_told = record begun {
+abbrev all_reported : Summary
+all_reported = record begun {
   marks = mark (point (codes "b")) (of_first twenty) ∷
       mark (point (codes "d")) (of_second (at 22 7)) ∷
       mark (without_ends (codes "d") (codes "f")) (of_second (at 22 7)) ∷ [];
 }
 
 -- with room for one mark
-abbrev one_told : Summary
-one_told = record begun { floor = at 22 7; marks = mark (point (codes "b")) (of_first twenty) ∷ [] }
+abbrev one_reported : Summary
+one_reported = record begun {
+  floor = at 22 7;
+  marks = mark (point (codes "b")) (of_first twenty) ∷
+      [];
+}
 
 -- ---- which spans lie within
 
@@ -60,45 +64,46 @@ without_a_key_it_goes_on = refl
 
 -- ---- one stretch more
 
-pub a_stretch_at_the_floor_is_not_told : told_more 1 begun
+pub a_stretch_at_the_floor_is_not_reported : reported_more 1 begun
     (between (before (codes "a")) (before (codes "b"))) (unowned (at 5 0)) ≡ begun
-a_stretch_at_the_floor_is_not_told = refl
+a_stretch_at_the_floor_is_not_reported = refl
 
-pub a_stretch_above_it_is_a_mark : told_more 1 begun (point (codes "b")) (of_first twenty) ≡
+pub a_stretch_above_it_is_a_mark : reported_more 1 begun (point (codes "b")) (of_first twenty) ≡
     record begun { marks = mark (point (codes "b")) (of_first twenty) ∷ [] }
 a_stretch_above_it_is_a_mark = refl
 
-pub without_room_the_floor_is_raised : told_more 1
-    (told_more 1 begun (point (codes "b")) (of_first twenty)) (point (codes "d"))
-    (of_second (at 22 7)) ≡ one_told
+pub without_room_the_floor_is_raised : reported_more 1
+    (reported_more 1 begun (point (codes "b")) (of_first twenty)) (point (codes "d"))
+    (of_second (at 22 7)) ≡ one_reported
 without_room_the_floor_is_raised = refl
 
 -- ---- what is told is what the cache answers, raised to the floor
 
-pub a_key_is_told_with_its_owner : summary_answer all_told (point (codes "b")) ≡ of_first twenty
-a_key_is_told_with_its_owner = refl
+pub a_key_is_reported_with_its_owner : summary_answer all_reported (point (codes "b")) ≡ of_first
+    twenty
+a_key_is_reported_with_its_owner = refl
 
-pub a_key_inside_a_range_is_told : summary_answer all_told (point (codes "e")) ≡
+pub a_key_inside_a_range_is_reported : summary_answer all_reported (point (codes "e")) ≡
     look two_reads (point (codes "e"))
 unfolding next_size
-a_key_inside_a_range_is_told = refl
+a_key_inside_a_range_is_reported = refl
 
-pub the_end_of_a_range_is_not : summary_answer all_told (point (codes "f")) ≡
+pub the_end_of_a_range_is_not : summary_answer all_reported (point (codes "f")) ≡
     look two_reads (point (codes "f"))
 unfolding next_size
 the_end_of_a_range_is_not = refl
 
-pub a_range_over_several_stretches_is : summary_answer all_told
+pub a_range_over_several_stretches_is : summary_answer all_reported
     (without_end (codes "c") (codes "e")) ≡ look two_reads (without_end (codes "c") (codes "e"))
 unfolding next_size
 a_range_over_several_stretches_is = refl
 
-pub what_was_left_out_is_at_the_floor : summary_answer one_told (point (codes "e")) ≡
+pub what_was_left_out_is_at_the_floor : summary_answer one_reported (point (codes "e")) ≡
     joint_above (at 22 7) (look two_reads (point (codes "e")) ∷ [])
 unfolding next_size
 what_was_left_out_is_at_the_floor = refl
 
-pub and_nobody_owns_it : summary_answer one_told (point (codes "e")) ≡ unowned (at 22 7)
+pub and_nobody_owns_it : summary_answer one_reported (point (codes "e")) ≡ unowned (at 22 7)
 and_nobody_owns_it = refl
 
 -- ---- another cache takes it over
@@ -107,23 +112,23 @@ abbrev other : CacheState
 other = state_after (record usual { low_water = at 3 0 })
     (add (point (codes "b")) (of_second twenty) twenty ∷ [])
 
-pub what_is_added : marks_told one_told ≡ mark begun.span (unowned (at 22 7)) ∷
+pub what_is_added : marks_reported one_reported ≡ mark begun.span (unowned (at 22 7)) ∷
     mark (point (codes "b")) (of_first twenty) ∷ []
 what_is_added = refl
 
 pub two_readers_at_one_time_leave_no_owner : look
-    (step_all usual other (marks_told all_told) (at 23 0)).state (point (codes "b")) ≡
+    (step_all usual other (marks_reported all_reported) (at 23 0)).state (point (codes "b")) ≡
     unowned twenty
 unfolding next_size
 two_readers_at_one_time_leave_no_owner = refl
 
 pub elsewhere_in_the_span_its_floor_holds : look
-    (step_all usual other (marks_told all_told) (at 23 0)).state (point (codes "c")) ≡
+    (step_all usual other (marks_reported all_reported) (at 23 0)).state (point (codes "c")) ≡
     unowned (at 5 0)
 unfolding next_size
 elsewhere_in_the_span_its_floor_holds = refl
 
-pub outside_nothing_changes : look (step_all usual other (marks_told all_told) (at 23 0)).state
-    (point (codes "z")) ≡ unowned (at 3 0)
+pub outside_nothing_changes : look (step_all usual other (marks_reported all_reported)
+    (at 23 0)).state (point (codes "z")) ≡ unowned (at 3 0)
 unfolding next_size
 outside_nothing_changes = refl

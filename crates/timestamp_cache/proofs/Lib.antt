@@ -6,7 +6,7 @@ pub mod Carrying
 pub mod Pushing
 pub mod ClearExamples
 pub mod Within
-pub mod Telling
+pub mod Reporting
 pub mod Walking
 pub mod Going
 pub mod TakingOver

@@ -17,12 +17,12 @@ use Rattle.std.proofs.Common.{
 }
 use Rattle.std.proofs.lemmas.List.Elements.{Contains-push}
 use Rattle.tsc_time.specs.Time.{Time}
-use Rattle.tsc_time.specs.OwnedTime.{OwnedTime}
+use Rattle.tsc_time.specs.ValueView.{ValueView}
 use Rattle.tsc_time.specs.Joint.{IsAtMost}
-use Rattle.tsc_span.specs.Span.{KeyBytes, Interval, nothing, between, before, after, is_below, point, covers}
-use Rattle.tsc_span.proofs.CutOrder.{sides_in_order}
-use Rattle.tsc_page_nodes.specs.Page.{Mark}
-use Rattle.tsc_cache.specs.Settings.{Settings}
+use Rattle.tsc_span.specs.Span.{KeyBytes, SpanView, nothing, between, before, after, is_below, point, covers}
+use Rattle.tsc_span.proofs.CutsTotal.{sides_in_order}
+use Rattle.tsc_page_model.specs.Page.{Mark}
+use Rattle.tsc_cache.specs.ConfigView.{ConfigView}
 use Rattle.tsc_cache.specs.State.{look}
 use Rattle.tsc_cache.specs.declared.history.Entry.{Entry}
 use Rattle.tsc_cache.specs.History.{History, state_of}
@@ -31,7 +31,7 @@ use Rattle.tsc_cache.proofs.FloorJoints.{above_each}
 use Rattle.tsc_cache.proofs.Histories.{state_of-push, kept_up, rising}
 use Rattle.tsc_cache.proofs.StatesSeen.{answers_look}
 use Rattle.timestamp_cache.specs.HandOver.{IsWithin}
-use Rattle.timestamp_cache.specs.Laws.{AnswersRise, SummariesTellNoLess}
+use Rattle.timestamp_cache.specs.Laws.{AnswersRise, SummariesReportNoLess}
 
 -- ---- answers
 
@@ -40,40 +40,40 @@ abbrev entry_of : List Mark → Time → Entry
 entry_of ms now = record { seat = 0; number = 0; marks = ms; now = now }
 
 -- a cache to which more is added stands for a history with one entry more
-pub stands_longer : (old new : CacheView) (settings : Settings) (h : History) (ms : List Mark)
-    (now : Time) → RepresentsState old settings (state_of settings h)
+pub stands_longer : (old new : CacheView) (config : ConfigView) (h : History) (ms : List Mark)
+    (now : Time) → RepresentsState old config (state_of config h)
     → StandsAfterAll old new ms now
-    → RepresentsState new settings (state_of settings (h
+    → RepresentsState new config (state_of config (h
     ++ (record { seat = 0; number = 0; marks = ms; now = now }) ∷ []))
-stands_longer old new settings h ms now was adds =
-    subst (RepresentsState new settings) (sym (state_of-push settings h (entry_of ms now)))
-    (adds settings (state_of settings h) was)
+stands_longer old new config h ms now was adds =
+    subst (RepresentsState new config) (sym (state_of-push config h (entry_of ms now)))
+    (adds config (state_of config h) was)
 
 pub answers_rise : AnswersRise
 answers_rise = record {
-  no_less = λ old new settings h ms now span was adds. let longer : History = h ++ entry_of ms now
+  no_less = λ old new config h ms now span was adds. let longer : History = h ++ entry_of ms now
       ∷ [] in
-      let is : RepresentsState new settings (state_of settings longer) =
-      stands_longer old new settings h ms now was adds in
-      let rises : IsAtMost (look (state_of settings h) span) (look (state_of settings longer) span)
-      = rising.answers settings h longer span (entry_of ms now ∷ [], refl) in
-      subst (λ (v : OwnedTime). IsAtMost v (cache_answer new span))
-      (sym (answers_look old settings (state_of settings h) span was))
-      (subst (IsAtMost (look (state_of settings h) span))
-      (sym (answers_look new settings (state_of settings longer) span is)) rises);
-  kept = λ old new settings h ms now m span was adds own over. let longer : History = h
+      let is : RepresentsState new config (state_of config longer) =
+      stands_longer old new config h ms now was adds in
+      let rises : IsAtMost (look (state_of config h) span) (look (state_of config longer) span)
+      = rising.answers config h longer span (entry_of ms now ∷ [], refl) in
+      subst (λ (v : ValueView). IsAtMost v (cache_answer new span))
+      (sym (answers_look old config (state_of config h) span was))
+      (subst (IsAtMost (look (state_of config h) span))
+      (sym (answers_look new config (state_of config longer) span is)) rises);
+  kept = λ old new config h ms now m span was adds own over. let longer : History = h
       ++ entry_of ms now ∷ [] in
-      let is : RepresentsState new settings (state_of settings longer) =
-      stands_longer old new settings h ms now was adds in
-      subst (IsAtMost m.value) (sym (answers_look new settings (state_of settings longer) span is))
-      (kept_up settings longer (entry_of ms now) m span (Contains-push h (entry_of ms now)) own
+      let is : RepresentsState new config (state_of config longer) =
+      stands_longer old new config h ms now was adds in
+      subst (IsAtMost m.value) (sym (answers_look new config (state_of config longer) span is))
+      (kept_up config longer (entry_of ms now) m span (Contains-push h (entry_of ms now)) own
       over);
 }
 
 -- ---- summaries
 
 -- a key of a span lies within it
-key_within : (span : Interval) (k : KeyBytes) → covers span k ≡ true → IsWithin (point k) span
+key_within : (span : SpanView) (k : KeyBytes) → covers span k ≡ true → IsWithin (point k) span
 key_within nothing k c = absurd (let never : false ≡ true = c in cc)
 key_within (between from to) k c = (
   sides_in_order k,
@@ -90,9 +90,11 @@ key_within (between from to) k c = (
     high false true h = absurd (let never : false ≡ true = h in cc)
     high false false h = refl
 
-pub summaries_tell_no_less : SummariesTellNoLess
-summaries_tell_no_less = record {
-  no_less = λ s told inner tells within. subst (IsAtMost (look s inner)) (sym (tells inner within))
-      (above_each told.floor (look s inner ∷ []) (look s inner) (Contains-push [] (look s inner)));
+pub summaries_report_no_less : SummariesReportNoLess
+summaries_report_no_less = record {
+  no_less = λ s reported inner reports within. subst (IsAtMost (look s inner))
+      (sym (reports inner within))
+      (above_each reported.floor (look s inner ∷ []) (look s inner)
+      (Contains-push [] (look s inner)));
   keys = key_within;
 }

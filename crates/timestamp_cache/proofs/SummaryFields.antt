@@ -12,11 +12,11 @@ use Rattle.std.proofs.lemmas.Slice.Eq.{bytes_eq-Decides}
 use Rattle.uuid.specs.Parts.{is_nil_bytes, zero_bytes}
 use Rattle.tsc_time.proofs.TimeOrder.{parts_below}
 use Rattle.tsc_time.specs.Time.{Time, is_in_range}
-use Rattle.tsc_time.specs.OwnedTime.{Owner, OwnedTime, owner_of, IsMadeOwner, IsMadeValue}
+use Rattle.tsc_time.specs.ValueView.{Owner, ValueView, owner_of, IsMadeOwner, IsMadeValue}
 use Rattle.tsc_span.specs.Span.{longest_key, KeyBytes, Cut, before, after, last, is_below}
-use Rattle.tsc_span.specs.Span.{Interval, nothing, between}
+use Rattle.tsc_span.specs.Span.{SpanView, nothing, between}
 use Rattle.tsc_span.specs.MadeSpan.{IsKey, IsMadeCut, IsMadeSpan}
-use Rattle.tsc_page_nodes.specs.Page.{Mark}
+use Rattle.tsc_page_model.specs.Page.{Mark}
 use Rattle.timestamp_cache.specs.declared.summary_fault.SummaryFault.TheVariants.{Form}
 use Rattle.timestamp_cache.specs.SummaryBytes.{key_bytes, cut_bytes, span_bytes, time_bytes}
 use Rattle.timestamp_cache.specs.SummaryBytes.{owner_bytes, value_bytes, mark_bytes, IsMadeMark}
@@ -127,7 +127,7 @@ between_again from to rest made_from made_to order =
     (cut_again to rest made_to)
     ∙ ap (λ (b : Bool). cond b (Ok (between from to)) (Err Form) >>= λ s. Ok (s, rest)) order
 
-between_taken : (bytes : List ℕ) (p : Interval × List ℕ) → AreBytes bytes → between_at bytes ≡ Ok p
+between_taken : (bytes : List ℕ) (p : SpanView × List ℕ) → AreBytes bytes → between_at bytes ≡ Ok p
     → Takes (1 ∷ bytes) (span_bytes p.0) p.1 × IsMadeSpan p.0
 unfolding between_at
 between_taken bytes p small e =
@@ -140,31 +140,31 @@ between_taken bytes p small e =
     let tb = cut_taken a.0.1 b.0 ta.0.small b.1 in
     let both : Takes bytes (cut_bytes a.0.0 ++ cut_bytes b.0.0) b.0.1 = takes_both bytes
     (cut_bytes a.0.0) a.0.1 (cut_bytes b.0.0) b.0.1 ta.0 tb.0 in
-    let read : Interval × List ℕ = (s.0, b.0.1) in
+    let read : SpanView × List ℕ = (s.0, b.0.1) in
     let here : Takes (1 ∷ bytes) (span_bytes (between a.0.0 b.0.0)) b.0.1 × IsMadeSpan
     (between a.0.0 b.0.0) =
     (takes_byte 1 bytes (cut_bytes a.0.0 ++ cut_bytes b.0.0) b.0.1 both, (ta.1, tb.1, g.0)) in
-    subst (λ (q : Interval × List ℕ). Takes (1 ∷ bytes) (span_bytes q.0) q.1 × IsMadeSpan q.0)
+    subst (λ (q : SpanView × List ℕ). Takes (1 ∷ bytes) (span_bytes q.0) q.1 × IsMadeSpan q.0)
     (same_ok read p s.2)
-    (subst (λ (t : Interval). Takes (1 ∷ bytes) (span_bytes t) b.0.1 × IsMadeSpan t)
+    (subst (λ (t : SpanView). Takes (1 ∷ bytes) (span_bytes t) b.0.1 × IsMadeSpan t)
     (same_ok (between a.0.0 b.0.0) s.0 g.1) here)
 
-span_again : (s : Interval) (rest : List ℕ) → IsMadeSpan s → span_at (span_bytes s ++ rest) ≡ Ok
+span_again : (s : SpanView) (rest : List ℕ) → IsMadeSpan s → span_at (span_bytes s ++ rest) ≡ Ok
     (s, rest)
 unfolding span_at
 span_again nothing rest made = refl
 span_again (between from to) rest made = between_again from to rest made.0 made.1 made.2
 
-span_by_taken : (kind : ℕ) (bytes : List ℕ) (p : Interval × List ℕ) → AreBytes bytes → span_by kind
+span_by_taken : (kind : ℕ) (bytes : List ℕ) (p : SpanView × List ℕ) → AreBytes bytes → span_by kind
     bytes ≡ Ok p → Takes (kind ∷ bytes) (span_bytes p.0) p.1 × IsMadeSpan p.0
 span_by_taken zero bytes p small e =
-    let read : Interval × List ℕ = (nothing, bytes) in
-    subst (λ (q : Interval × List ℕ). Takes (0 ∷ bytes) (span_bytes q.0) q.1 × IsMadeSpan q.0)
+    let read : SpanView × List ℕ = (nothing, bytes) in
+    subst (λ (q : SpanView × List ℕ). Takes (0 ∷ bytes) (span_bytes q.0) q.1 × IsMadeSpan q.0)
     (same_ok read p e) (record { parts = refl; small = small }, tt)
 span_by_taken (suc zero) bytes p small e = between_taken bytes p small e
 span_by_taken (suc (suc kind)) bytes p small e = absurd cc
 
-span_taken : (bytes : List ℕ) (p : Interval × List ℕ) → AreBytes bytes → span_at bytes ≡ Ok p →
+span_taken : (bytes : List ℕ) (p : SpanView × List ℕ) → AreBytes bytes → span_at bytes ≡ Ok p →
     Takes bytes (span_bytes p.0) p.1 × IsMadeSpan p.0
 unfolding span_at
 span_taken [] p small e = absurd cc
@@ -238,13 +238,13 @@ owner_again (Some o) made = (
       made.2,
 )
 
-value_made : (t : Time) (o : List ℕ) (v : OwnedTime) → is_in_range t ≡ true → AreSixteen o → ok
+value_made : (t : Time) (o : List ℕ) (v : ValueView) → is_in_range t ≡ true → AreSixteen o → ok
     (record { time = t; owner = owner_of o }) ≡ Ok v → (v.time ≡ t) × (owner_bytes v.owner ≡ o) ×
     IsMadeValue v
 value_made t o v range made e =
-    let read : OwnedTime = record { time = t; owner = owner_of o } in
+    let read : ValueView = record { time = t; owner = owner_of o } in
     let owner = owner_read o (is_nil_bytes o) refl made in
-    subst (λ (q : OwnedTime). (q.time ≡ t) × (owner_bytes q.owner ≡ o) × IsMadeValue q)
+    subst (λ (q : ValueView). (q.time ≡ t) × (owner_bytes q.owner ≡ o) × IsMadeValue q)
     (same_ok read v e) (refl, owner.0, record { time = range; owner = owner.1 })
 
 pub value_part : IsPart value_bytes value_at IsMadeValue
@@ -264,7 +264,7 @@ value_part =
 
 -- ---- marks
 
-mark_made : (s : Interval) (v : OwnedTime) (m : Mark) → IsMadeSpan s → IsMadeValue v → ok
+mark_made : (s : SpanView) (v : ValueView) (m : Mark) → IsMadeSpan s → IsMadeValue v → ok
     (record { span = s; value = v }) ≡ Ok m → (m.span ≡ s) × (m.value ≡ v) × IsMadeMark m
 mark_made s v m made_span made_value e =
     let read : Mark = record { span = s; value = v } in

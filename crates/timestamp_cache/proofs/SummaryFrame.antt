@@ -18,7 +18,7 @@ use Rattle.timestamp_cache.specs.declared.summary_fault.SummaryFault.TheVariants
 use Rattle.timestamp_cache.specs.HandOver.{Summary}
 use Rattle.timestamp_cache.specs.SummaryBytes.{content_bytes, framed, sealed, summary_bytes}
 use Rattle.timestamp_cache.specs.SummaryBytes.{IsMadeSummary}
-use Rattle.timestamp_cache.specs.SummaryReading.{Read, ◌>>=◌, Gives, told_by, content_at, unsealed}
+use Rattle.timestamp_cache.specs.SummaryReading.{Read, ◌>>=◌, Gives, reported_by, content_at, unsealed}
 use Rattle.timestamp_cache.specs.SummaryReading.{summary_of}
 use Rattle.timestamp_cache.proofs.SummaryParts.{AreBytes, AreBytes-take, AreBytes-drop}
 use Rattle.timestamp_cache.proofs.SummaryParts.{AreBytes-rest, bind_ok, test_ok, guard_ok, same_ok}
@@ -182,31 +182,33 @@ unfolding unsealed
 unsealed_again content size = content_again_at content size
 
 -- what is written is read back
-pub read_back : (told : Summary) → IsMadeSummary told → summary_of (summary_bytes told) ≡ Ok told
-read_back told made = ap (λ (r : Read (List ℕ)). r >>= told_by)
-    (unsealed_again (content_bytes told) made.size) ∙ content_again told made
+pub read_back : (reported : Summary) → IsMadeSummary reported →
+    summary_of (summary_bytes reported) ≡ Ok reported
+read_back reported made = ap (λ (r : Read (List ℕ)). r >>= reported_by)
+    (unsealed_again (content_bytes reported) made.size) ∙ content_again reported made
 
 -- so what was written, if it was, is read back
-pub written_back : {V E : Type 0} (items : V → List ℕ) (r : Result V E) (told : Summary)
-    (content : List ℕ) → content ≡ content_bytes told → IsMadeSummary told
-    → IfOk r (λ v. items v ≡ sealed (framed content)) → IfOk r (λ v. summary_of (items v) ≡ Ok told)
-written_back items (Ok v) told content is made written = ap summary_of
-    (written ∙ ap (λ (x : List ℕ). sealed (framed x)) is) ∙ read_back told made
-written_back items (Err e) told content is made written = tt
+pub written_back : {V E : Type 0} (items : V → List ℕ) (r : Result V E) (reported : Summary)
+    (content : List ℕ) → content ≡ content_bytes reported → IsMadeSummary reported
+    → IfOk r (λ v. items v ≡ sealed (framed content)) →
+    IfOk r (λ v. summary_of (items v) ≡ Ok reported)
+written_back items (Ok v) reported content is made written = ap summary_of
+    (written ∙ ap (λ (x : List ℕ). sealed (framed x)) is) ∙ read_back reported made
+written_back items (Err e) reported content is made written = tt
 
 -- what is read was written
-pub read_is : (bytes : List ℕ) (told : Summary) → AreBytes bytes → summary_of bytes ≡ Ok told →
-    (bytes ≡ summary_bytes told) × IsMadeSummary told
-read_is bytes told small e =
-    let c = bind_ok (unsealed bytes) told_by told e in
+pub read_is : (bytes : List ℕ) (reported : Summary) → AreBytes bytes →
+    summary_of bytes ≡ Ok reported → (bytes ≡ summary_bytes reported) × IsMadeSummary reported
+read_is bytes reported small e =
+    let c = bind_ok (unsealed bytes) reported_by reported e in
     let frame = unsealed_taken bytes c.0 small c.1 in
-    let content = content_taken c.0 told frame.small frame.size c.2 in
+    let content = content_taken c.0 reported frame.small frame.size c.2 in
     (frame.is ∙ ap (λ (x : List ℕ). sealed (framed x)) content.0, content.1)
 
 pub is_written : (bytes : List ℕ) (r : Result Summary SummaryFault) → AreBytes bytes → Gives
-    (λ (told : Summary). told) r (summary_of bytes) → IfOk r
-    (λ told. (bytes ≡ summary_bytes told) × IsMadeSummary told)
-is_written bytes (Ok told) small given = read_is bytes told small given
+    (λ (reported : Summary). reported) r (summary_of bytes) → IfOk r
+    (λ reported. (bytes ≡ summary_bytes reported) × IsMadeSummary reported)
+is_written bytes (Ok reported) small given = read_is bytes reported small given
 is_written bytes (Err fault) small given = tt
 
 -- ---- bytes of a summary that were cut off
@@ -268,22 +270,24 @@ cut_behind content m size lt =
           number (λ e. omega (arith, len, lt))
     ]
 
-pub cut_refused : (told : Summary) (n : ℕ) → IsMadeSummary told → n < length (summary_bytes told) →
-    summary_of (take n (summary_bytes told)) ≡ Err Length
+pub cut_refused : (reported : Summary) (n : ℕ) → IsMadeSummary reported →
+    n < length (summary_bytes reported) → summary_of (take n (summary_bytes reported)) ≡ Err Length
 unfolding unsealed
-cut_refused told zero made lt = refl
-cut_refused told (suc m) made lt =
-    let content : List ℕ = content_bytes told in
-    let behind : (to_be_bytes w64 (length (content_bytes told)) ++ content_bytes told) ++ sha256
-    (framed (content_bytes told)) ≡ behind_version (content_bytes told) = append_assoc
-    (to_be_bytes w64 (length (content_bytes told))) (content_bytes told)
-    (sha256 (framed (content_bytes told))) in
-    let len : length (summary_bytes told) ≡ length (content_bytes told) + 41 = omega (
+cut_refused reported zero made lt = refl
+cut_refused reported (suc m) made lt =
+    let content : List ℕ = content_bytes reported in
+    let behind : (to_be_bytes w64 (length (content_bytes reported)) ++ content_bytes reported) ++
+    sha256
+    (framed (content_bytes reported)) ≡ behind_version (content_bytes reported) = append_assoc
+    (to_be_bytes w64 (length (content_bytes reported))) (content_bytes reported)
+    (sha256 (framed (content_bytes reported))) in
+    let len : length (summary_bytes reported) ≡ length (content_bytes reported) + 41 = omega (
       arith,
-      length-append (framed (content_bytes told)) (sha256 (framed (content_bytes told))),
-      framed-length (content_bytes told),
-      length-sha256 (framed (content_bytes told)),
+      length-append (framed (content_bytes reported)) (sha256 (framed (content_bytes reported))),
+      framed-length (content_bytes reported),
+      length-sha256 (framed (content_bytes reported)),
     ) in
-    let below : m < length (content_bytes told) + 40 = omega (arith, len, lt) in
-    ap (λ (x : List ℕ). content_at (1 ∷ take m x) >>= told_by) behind
-    ∙ ap (λ (r : Read (List ℕ)). r >>= told_by) (cut_behind (content_bytes told) m made.size below)
+    let below : m < length (content_bytes reported) + 40 = omega (arith, len, lt) in
+    ap (λ (x : List ℕ). content_at (1 ∷ take m x) >>= reported_by) behind
+    ∙ ap (λ (r : Read (List ℕ)). r >>= reported_by)
+    (cut_behind (content_bytes reported) m made.size below)

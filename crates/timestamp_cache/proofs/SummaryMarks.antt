@@ -9,9 +9,9 @@ use Rattle.std.proofs.lemmas.List.{append-nil, nil_from_length, drop_all}
 use Rattle.std.proofs.Math.Seq.{drop-cons}
 use Rattle.std.proofs.lemmas.List.Concat.{flat_map-cons}
 use Rattle.tsc_time.specs.Time.{Time, is_in_range}
-use Rattle.tsc_span.specs.Span.{Interval}
+use Rattle.tsc_span.specs.Span.{SpanView}
 use Rattle.tsc_span.specs.MadeSpan.{IsMadeSpan}
-use Rattle.tsc_page_nodes.specs.Page.{Mark}
+use Rattle.tsc_page_model.specs.Page.{Mark}
 use Rattle.timestamp_cache.specs.declared.summary_fault.SummaryFault.{SummaryFault}
 use Rattle.timestamp_cache.specs.declared.summary_fault.SummaryFault.TheVariants as faults
 use Rattle.timestamp_cache.specs.declared.summary_fault.SummaryFault.TheVariants.{Form}
@@ -20,7 +20,7 @@ use Rattle.timestamp_cache.specs.SummaryBytes.{span_bytes, time_bytes, mark_byte
 use Rattle.timestamp_cache.specs.SummaryBytes.{content_bytes, IsMadeMark, IsMadeSummary}
 use Rattle.timestamp_cache.specs.SummaryReading.{Part, ◌>>=◌, Fails, number_at, span_at}
 use Rattle.timestamp_cache.specs.SummaryReading.{time_at, mark_at, marks_at, counted_at, reads_at}
-use Rattle.timestamp_cache.specs.SummaryReading.{told_at, told_by}
+use Rattle.timestamp_cache.specs.SummaryReading.{reported_at, reported_by}
 use Rattle.timestamp_cache.proofs.SummaryParts.{AreBytes, bind_ok, test_ok, ok, same_ok, Takes}
 use Rattle.timestamp_cache.proofs.SummaryParts.{takes_both, IsPart, joined, wide_part}
 use Rattle.timestamp_cache.proofs.SummaryFields.{span_part, time_part, mark_part}
@@ -102,8 +102,8 @@ counted_part = record {
 
 -- what is known of a summary that is read
 abbrev IsRead : Summary → Type 0
-IsRead told = IsMadeSpan told.span × ((is_in_range told.floor ≡ true) ×
-    ((length told.marks < 2 ^ 64) × AllByRecursion IsMadeMark told.marks))
+IsRead reported = IsMadeSpan reported.span × ((is_in_range reported.floor ≡ true) ×
+    ((length reported.marks < 2 ^ 64) × AllByRecursion IsMadeMark reported.marks))
 
 abbrev reads_bytes : Time × List Mark → List ℕ
 reads_bytes reads = time_bytes reads.0 ++ marks_bytes reads.1
@@ -127,37 +127,41 @@ reads_part =
     (λ reads. reads.0) (λ reads. reads.1) AreMadeReads
     time_part counted_part (λ reads made. (made.0, made.1, refl)) reads_made
 
-told_made : (s : Interval) (reads : Time × List Mark) (told : Summary) → IsMadeSpan s → AreMadeReads
-    reads → ok (record { span = s; floor = reads.0; marks = reads.1 }) ≡ Ok told
-    → (told.span ≡ s) × ((told.floor, told.marks) ≡ reads) × IsRead told
-told_made s reads told span made e =
+reported_made : (s : SpanView) (reads : Time × List Mark) (reported : Summary) → IsMadeSpan s →
+    AreMadeReads
+    reads → ok (record { span = s; floor = reads.0; marks = reads.1 }) ≡ Ok reported
+    → (reported.span ≡ s) × ((reported.floor, reported.marks) ≡ reads) × IsRead reported
+reported_made s reads reported span made e =
     let read : Summary = record { span = s; floor = reads.0; marks = reads.1 } in
     subst (λ (q : Summary). (q.span ≡ s) × ((q.floor, q.marks) ≡ reads) × IsRead q)
-    (same_ok read told e) (refl, refl, (span, made))
+    (same_ok read reported e) (refl, refl, (span, made))
 
-told_part : IsPart content_bytes told_at IsRead
-unfolding told_at
-told_part =
+reported_part : IsPart content_bytes reported_at IsRead
+unfolding reported_at
+reported_part =
     joined span_bytes span_at IsMadeSpan reads_bytes reads_at AreMadeReads
-    (λ s reads. Ok (record { span = s; floor = reads.0; marks = reads.1 })) (λ told. told.span)
-    (λ told. (told.floor, told.marks)) IsRead
-    span_part reads_part (λ told made. (made.0, made.1, refl)) told_made
+    (λ s reads. Ok (record { span = s; floor = reads.0; marks = reads.1 }))
+    (λ reported. reported.span) (λ reported. (reported.floor, reported.marks)) IsRead
+    span_part reads_part (λ reported made. (made.0, made.1, refl)) reported_made
 
-pub content_again : (told : Summary) → IsMadeSummary told → told_by (content_bytes told) ≡ Ok told
-unfolding told_by
-content_again told made =
-    ap (λ (bytes : List ℕ). told_at bytes >>= λ t. cond (eqb (length t.1) 0) (Ok t.0) (Err Form))
-    (sym (append-nil (content_bytes told)))
+pub content_again : (reported : Summary) → IsMadeSummary reported →
+    reported_by (content_bytes reported) ≡ Ok reported
+unfolding reported_by
+content_again reported made =
+    ap (λ (bytes : List ℕ). reported_at bytes >>= λ t. cond (eqb (length t.1) 0) (Ok t.0)
+    (Err Form))
+    (sym (append-nil (content_bytes reported)))
     ∙ ap (λ (r : Part Summary). r >>= λ t. cond (eqb (length t.1) 0) (Ok t.0) (Err Form))
-    (told_part.again told [] (made.span, (made.floor, (made.count, made.marks))))
+    (reported_part.again reported [] (made.span, (made.floor, (made.count, made.marks))))
 
-pub content_taken : (bytes : List ℕ) (told : Summary) → AreBytes bytes → length bytes < 2 ^ 64 →
-    told_by bytes ≡ Ok told → (bytes ≡ content_bytes told) × IsMadeSummary told
-unfolding told_by
-content_taken bytes told small size e =
-    let t = bind_ok (told_at bytes) (λ t. cond (eqb (length t.1) 0) (Ok t.0) (Err Form)) told e in
-    let g = test_ok (eqb (length t.0.1) 0) (Ok t.0.0) Form told t.2 in
-    let taken = told_part.taken bytes t.0 small t.1 in
+pub content_taken : (bytes : List ℕ) (reported : Summary) → AreBytes bytes → length bytes < 2 ^ 64 →
+    reported_by bytes ≡ Ok reported → (bytes ≡ content_bytes reported) × IsMadeSummary reported
+unfolding reported_by
+content_taken bytes reported small size e =
+    let t = bind_ok (reported_at bytes) (λ t. cond (eqb (length t.1) 0) (Ok t.0) (Err Form))
+    reported e in
+    let g = test_ok (eqb (length t.0.1) 0) (Ok t.0.0) Form reported t.2 in
+    let taken = reported_part.taken bytes t.0 small t.1 in
     let none : t.0.1 ≡ [] = nil_from_length t.0.1 (eqb-true _ _ g.0) in
     let all : bytes ≡ content_bytes t.0.0 = taken.0.parts ∙ ap
     (λ (rest : List ℕ). content_bytes t.0.0 ++ rest) none ∙ append-nil (content_bytes t.0.0) in
@@ -170,7 +174,8 @@ content_taken bytes told small size e =
       size = subst (λ (x : List ℕ). length x < 2 ^ 64) all
           size;
     } in
-    subst (λ (q : Summary). (bytes ≡ content_bytes q) × IsMadeSummary q) (same_ok t.0.0 told g.1)
+    subst (λ (q : Summary). (bytes ≡ content_bytes q) × IsMadeSummary q)
+    (same_ok t.0.0 reported g.1)
     (all, made)
 
 -- ---- reading in a loop

@@ -7,15 +7,15 @@ use Rattle.std.proofs.lemmas.Option.{same_Some}
 use Rattle.std.proofs.lemmas.Slice.Eq.{bytes_eq-Decides}
 use Rattle.std.proofs.lemmas.List.Folds.{list_any-append}
 use Rattle.tsc_time.proofs.Members.{IsIn, IsIn-from_Contains}
-use Rattle.tsc_span.specs.Span.{KeyBytes, Cut, before, after, last, is_below, smaller_cut, key_of_cut, different_keys, Interval, nothing, between, end_keys, key_cmp, range_for_lookup}
+use Rattle.tsc_span.specs.Span.{KeyBytes, Cut, before, after, last, is_below, smaller_cut, key_of_cut, different_keys, SpanView, nothing, between, end_keys, key_cmp, range_for_lookup}
 use Rattle.tsc_span.specs.LookupSpan.{span_for_lookup}
-use Rattle.tsc_span.proofs.CutOrder.{key_cmp-same, sides_in_order, no_cut_between_sides}
+use Rattle.tsc_span.proofs.CutsTotal.{key_cmp-same, sides_in_order, no_cut_between_sides}
 use Rattle.tsc_span.proofs.MadeSpans.{only_less, less_before, less_or_equal}
 use Rattle.tsc_span.proofs.Ranges.{range_of_less, range_of_equal}
 use Rattle.tsc_span.proofs.Overlaps.{is_below-opposite, no_lower-transitive, is_below-transitive}
-use Rattle.tsc_page_nodes.specs.Page.{Mark, PageMarks, marked_keys}
-use Rattle.tsc_page_nodes.specs.PageView.{PageView, is_in}
-use Rattle.tsc_page_nodes.specs.KeysAbove.{lies_above, IsLeastAbove}
+use Rattle.tsc_page_model.specs.Page.{Mark, PageMarks, marked_keys}
+use Rattle.tsc_page_model.specs.PageView.{PageView, is_in}
+use Rattle.tsc_page_model.specs.KeysAbove.{lies_above, IsLeastAbove}
 use Rattle.tsc_cache.specs.CacheView.{EachRepresents}
 use Rattle.tsc_cache.specs.Keys.{keys_on, keys_seen}
 use Rattle.tsc_cache.proofs.MarkLists.{all_marks}
@@ -218,7 +218,7 @@ marks_beside vs ps at to end stand stretch m c =
     of_cut (after k) seen = (stretch.whole k (seen k refl)).1
     of_cut last seen = λ h. none_above_last end
 
-    of_span : (s : Interval) → ((k : KeyBytes) → is_in k (end_keys s) ≡ true →
+    of_span : (s : SpanView) → ((k : KeyBytes) → is_in k (end_keys s) ≡ true →
         is_in k (keys_seen vs) ≡ true) → AreBeside at end s
     of_span nothing seen = tt
     of_span (between a b) seen = (

@@ -12,9 +12,9 @@ pub record IsEarliest (P : Time → Type 0) (from at : Time) : Type 0 where
       is_before t at ≡ false
 
 -- The earliest time, from one on, at which something holds; none where it holds at none in range.
-abbrev pub TellsEarliest : (Time → Type 0) → Time → Option Time → Type 0
-TellsEarliest P from (Some at) = IsEarliest P from at
-TellsEarliest P from None = (t : Time) → is_in_range t ≡ true → is_before t from ≡ false → P t → ⊥
+abbrev pub ReportsEarliest : (Time → Type 0) → Time → Option Time → Type 0
+ReportsEarliest P from (Some at) = IsEarliest P from at
+ReportsEarliest P from None = (t : Time) → is_in_range t ≡ true → is_before t from ≡ false → P t → ⊥
 
 -- What holds at a time holds at each later one.
 abbrev pub Stays : (Time → Type 0) → Type 0

@@ -1,7 +1,7 @@
 -- Kinds of seats: what the calls that only look need to know of a seat.
 use Rattle.std.specs.Prelude.{◌≡◌, ℕ}
-use Rattle.tsc_time.specs.OwnedTime.{OwnedTime}
-use Rattle.tsc_span.specs.Span.{Interval}
+use Rattle.tsc_time.specs.ValueView.{ValueView}
+use Rattle.tsc_span.specs.Span.{SpanView}
 use Rattle.tsc_cache.specs.State.{look}
 use Rattle.tsc_cache.specs.History.{History, state_of}
 use Rattle.tsc_shared.specs.Seats.{SeatView}
@@ -13,7 +13,7 @@ use Rattle.tsc_shared.specs.Answers as shared
 pub record SeatKind (S : Type 0) : Type 1 where
   pub seen : S → History
   pub count : S → ℕ
-  pub answer : S → History → Interval → OwnedTime
+  pub answer : S → History → SpanView → ValueView
   pub GoesOn : S → S → Type 0
 
 -- A seat has looked: it goes on, and counts as many Adds of its own as before.
@@ -22,8 +22,8 @@ pub record HasLookedOn {S : Type 0} (kind : SeatKind S) (old new : S) : Type 0 w
   pub count : kind.count new ≡ kind.count old
 
 -- A lookup answers after all that the seat has seen then.
-pub record LooksUp {S : Type 0} (kind : SeatKind S) (old new : S) (span : Interval)
-    (value : OwnedTime) : Type 0 where
+pub record LooksUp {S : Type 0} (kind : SeatKind S) (old new : S) (span : SpanView)
+    (value : ValueView) : Type 0 where
   pub goes_on : kind.GoesOn old new
   pub count : kind.count new ≡ kind.count old
   pub value_is : value ≡ kind.answer old (kind.seen new) span

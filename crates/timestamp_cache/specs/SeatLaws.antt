@@ -2,8 +2,8 @@
 use Rattle.std.specs.Prelude.{◌≡◌, refl}
 use Rattle.std.proofs.Common.{◌∙◌}
 use Rattle.tsc_time.specs.Time.{Time}
-use Rattle.tsc_time.specs.OwnedTime.{Owner}
-use Rattle.tsc_span.specs.Span.{Interval}
+use Rattle.tsc_time.specs.ValueView.{Owner}
+use Rattle.tsc_span.specs.Span.{SpanView}
 use Rattle.tsc_cache.specs.History.{BeginsWith}
 use Rattle.tsc_cache.proofs.Beginnings.{begins_itself, begins_on}
 use Rattle.tsc_cache.proofs.Histories.{no_write_below_a_read}
@@ -20,7 +20,7 @@ pub record SeatLaws {S : Type 0} (kind : SeatKind S) : Type 0 where
   pub onward : (old next new : S) → kind.GoesOn old next → kind.GoesOn next new →
       kind.GoesOn old new
   pub stays : (old new : S) → kind.GoesOn old new → kind.GoesOn new new
-  pub clear : (old new : S) (span : Interval) (by : Owner) (at : Time) → kind.GoesOn old new →
+  pub clear : (old new : S) (span : SpanView) (by : Owner) (at : Time) → kind.GoesOn old new →
       IsClearOf (kind.answer old (kind.seen new) span) by at →
       IsClearOfReads (kind.seen new) span by at
 

@@ -2,8 +2,8 @@
 use Rattle.std.specs.Prelude.{◌≡◌, ℕ, length, true}
 use Rattle.std.specs.List.{Contains}
 use Rattle.tsc_time.specs.Joint.{IsAtMost}
-use Rattle.tsc_span.specs.Span.{Interval, overlaps}
-use Rattle.tsc_page_nodes.specs.Page.{Mark}
+use Rattle.tsc_span.specs.Span.{SpanView, overlaps}
+use Rattle.tsc_page_model.specs.Page.{Mark}
 use Rattle.tsc_cache.specs.CacheView.{CacheView, RepresentsState}
 use Rattle.tsc_cache.specs.declared.history.Entry.{Entry}
 use Rattle.tsc_cache.specs.History.{History, state_of}
@@ -13,19 +13,19 @@ use Rattle.timestamp_cache.specs.declared.hand_over.SeatSummary.{SeatSummary}
 use Rattle.timestamp_cache.specs.HandOver.{Summary, Summarizes, IsWithin, summary_answer}
 
 -- A summary tells no less than each read of a history within its span.
-abbrev pub TellsReads : History → Summary → Type 0
-TellsReads h told = (inner : Interval) (e : Entry) (m : Mark) → IsWithin inner told.span →
+abbrev pub ReportsReads : History → Summary → Type 0
+ReportsReads h reported = (inner : SpanView) (e : Entry) (m : Mark) → IsWithin inner reported.span →
     Contains h e → Contains e.marks m → overlaps m.span inner ≡ true →
-    IsAtMost m.value (summary_answer told inner)
+    IsAtMost m.value (summary_answer reported inner)
 
 -- A seat summarizes a span, in at most `most` marks: a cache stands for the state of all that the
 -- seat has seen then, and the summary is of that cache. So it tells no less than each read there.
-pub record SummarizesAt (old new : SeatView) (of : Interval) (most : ℕ) (told : SeatSummary) :
+pub record SummarizesAt (old new : SeatView) (of : SpanView) (most : ℕ) (reported : SeatSummary) :
     Type 0 where
   pub goes_on : GoesOn old new
   pub count : new.count ≡ old.count
-  pub front : told.front ≡ length new.seen
+  pub front : reported.front ≡ length new.seen
   pub cache : CacheView
   pub stands : RepresentsState cache old.cache.config (state_of old.cache.config new.seen)
-  pub summarizes : Summarizes cache of most told.summary
-  pub reads : TellsReads new.seen told.summary
+  pub summarizes : Summarizes cache of most reported.summary
+  pub reads : ReportsReads new.seen reported.summary

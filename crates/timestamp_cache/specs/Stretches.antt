@@ -1,9 +1,9 @@
 -- How a summary is made: stretch by stretch of a span, each up to the next end key of a mark.
 use Rattle.std.specs.Prelude.{◌≡◌, ◌⊎◌, ℕ, List, [], ◌∷◌, ◌++◌, length, nat_lt, Bool, true, false, Option, Some, None, if◌then◌else◌}
 use Rattle.tsc_time.specs.Time.{is_before}
-use Rattle.tsc_time.specs.OwnedTime.{OwnedTime}
-use Rattle.tsc_span.specs.Span.{KeyBytes, Cut, before, after, last, is_below, Interval}
-use Rattle.tsc_page_nodes.specs.PageView.{is_in}
+use Rattle.tsc_time.specs.ValueView.{ValueView}
+use Rattle.tsc_span.specs.Span.{KeyBytes, Cut, before, after, last, is_below, SpanView}
+use Rattle.tsc_page_model.specs.PageView.{is_in}
 use Rattle.timestamp_cache.specs.HandOver.{Summary}
 
 -- whether a cut is the place after a key
@@ -35,14 +35,14 @@ pub record IsStretch (keys : List KeyBytes) (at to end : Cut) : Type 0 where
 -- A summary with one stretch more. Where the stretch's value is not above the floor, nothing
 -- changes. Else it has one mark more where there is room, or its floor is raised to the value's
 -- time.
-abbrev pub told_more : ℕ → Summary → Interval → OwnedTime → Summary
-told_more most told span v =
-    if is_before told.floor v.time
-    then (if nat_lt (length told.marks) most
+abbrev pub reported_more : ℕ → Summary → SpanView → ValueView → Summary
+reported_more most reported span v =
+    if is_before reported.floor v.time
+    then (if nat_lt (length reported.marks) most
     then record {
-      span = told.span;
-      floor = told.floor;
-      marks = told.marks ++ record { span = span; value = v } ∷ [];
+      span = reported.span;
+      floor = reported.floor;
+      marks = reported.marks ++ record { span = span; value = v } ∷ [];
     }
-    else record { span = told.span; floor = v.time; marks = told.marks })
-    else told
+    else record { span = reported.span; floor = v.time; marks = reported.marks })
+    else reported

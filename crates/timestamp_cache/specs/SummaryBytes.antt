@@ -6,10 +6,10 @@ use Rattle.std.specs.Int.{w32, w64, to_be_bytes}
 use Rattle.sha2.specs.Sha256.{sha256}
 use Rattle.uuid.specs.Parts.{zero_bytes}
 use Rattle.tsc_time.specs.Time.{Time, is_in_range}
-use Rattle.tsc_time.specs.OwnedTime.{Owner, OwnedTime, IsMadeValue}
-use Rattle.tsc_span.specs.Span.{KeyBytes, Cut, before, after, last, Interval, nothing, between}
+use Rattle.tsc_time.specs.ValueView.{Owner, ValueView, IsMadeValue}
+use Rattle.tsc_span.specs.Span.{KeyBytes, Cut, before, after, last, SpanView, nothing, between}
 use Rattle.tsc_span.specs.MadeSpan.{IsMadeSpan}
-use Rattle.tsc_page_nodes.specs.Page.{Mark}
+use Rattle.tsc_page_model.specs.Page.{Mark}
 use Rattle.timestamp_cache.specs.HandOver.{Summary}
 
 -- a key: its length, and as many bytes
@@ -23,7 +23,7 @@ cut_bytes (after k) = 1 ∷ key_bytes k
 cut_bytes last = 2 ∷ []
 
 -- a span: whether it is empty, and where it starts and stops
-abbrev pub span_bytes : Interval → List ℕ
+abbrev pub span_bytes : SpanView → List ℕ
 span_bytes nothing = 0 ∷ []
 span_bytes (between from to) = 1 ∷ cut_bytes from ++ cut_bytes to
 
@@ -35,7 +35,7 @@ abbrev pub owner_bytes : Option Owner → List ℕ
 owner_bytes None = zero_bytes
 owner_bytes (Some o) = o
 
-abbrev pub value_bytes : OwnedTime → List ℕ
+abbrev pub value_bytes : ValueView → List ℕ
 value_bytes v = time_bytes v.time ++ owner_bytes v.owner
 
 abbrev pub mark_bytes : Mark → List ℕ
@@ -46,7 +46,8 @@ abbrev pub marks_bytes : List Mark → List ℕ
 marks_bytes ms = to_be_bytes w64 (length ms) ++ flat_map mark_bytes ms
 
 abbrev pub content_bytes : Summary → List ℕ
-content_bytes told = span_bytes told.span ++ (time_bytes told.floor ++ marks_bytes told.marks)
+content_bytes reported = span_bytes reported.span ++
+    (time_bytes reported.floor ++ marks_bytes reported.marks)
 
 -- the version, the length of the content, and the content
 abbrev pub framed : List ℕ → List ℕ
@@ -57,7 +58,7 @@ abbrev pub sealed : List ℕ → List ℕ
 sealed bytes = bytes ++ sha256 bytes
 
 abbrev pub summary_bytes : Summary → List ℕ
-summary_bytes told = sealed (framed (content_bytes told))
+summary_bytes reported = sealed (framed (content_bytes reported))
 
 -- a mark of a span and a value that can be made
 abbrev pub IsMadeMark : Mark → Type 0
@@ -65,9 +66,9 @@ IsMadeMark m = IsMadeSpan m.span × IsMadeValue m.value
 
 -- A summary that can be made: of a span, a time and marks that can be, and no longer than a length
 -- tells.
-pub record IsMadeSummary (told : Summary) : Type 0 where
-  pub span : IsMadeSpan told.span
-  pub floor : is_in_range told.floor ≡ true
-  pub marks : AllByRecursion IsMadeMark told.marks
-  pub count : length told.marks < 2 ^ 64
-  pub size : length (content_bytes told) < 2 ^ 64
+pub record IsMadeSummary (reported : Summary) : Type 0 where
+  pub span : IsMadeSpan reported.span
+  pub floor : is_in_range reported.floor ≡ true
+  pub marks : AllByRecursion IsMadeMark reported.marks
+  pub count : length reported.marks < 2 ^ 64
+  pub size : length (content_bytes reported) < 2 ^ 64

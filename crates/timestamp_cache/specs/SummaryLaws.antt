@@ -8,6 +8,8 @@ use Rattle.timestamp_cache.specs.SummaryReading.{summary_of}
 -- Each summary that can be made is read back as it is. Of its bytes no beginning is read but all of
 -- them: it is told that bytes are missing.
 pub record SummariesAreReadBack : Type 0 where
-  pub whole : (told : Summary) → IsMadeSummary told → summary_of (summary_bytes told) ≡ Ok told
-  pub cut : (told : Summary) (n : ℕ) → IsMadeSummary told → n < length (summary_bytes told) →
-      summary_of (take n (summary_bytes told)) ≡ Err Length
+  pub whole : (reported : Summary) → IsMadeSummary reported →
+      summary_of (summary_bytes reported) ≡ Ok reported
+  pub cut : (reported : Summary) (n : ℕ) → IsMadeSummary reported →
+      n < length (summary_bytes reported) →
+      summary_of (take n (summary_bytes reported)) ≡ Err Length

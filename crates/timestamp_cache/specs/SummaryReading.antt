@@ -5,10 +5,10 @@ use Rattle.std.specs.Str.{bytes_eq}
 use Rattle.std.specs.Int.{Width, w32, w64, byte_len, from_be_bytes}
 use Rattle.sha2.specs.Sha256.{sha256}
 use Rattle.tsc_time.specs.Time.{Time, is_in_range}
-use Rattle.tsc_time.specs.OwnedTime.{OwnedTime, owner_of}
-use Rattle.tsc_span.specs.Span.{longest_key, KeyBytes, Cut, before, after, last, is_below, Interval}
+use Rattle.tsc_time.specs.ValueView.{ValueView, owner_of}
+use Rattle.tsc_span.specs.Span.{longest_key, KeyBytes, Cut, before, after, last, is_below, SpanView}
 use Rattle.tsc_span.specs.Span.{nothing, between}
-use Rattle.tsc_page_nodes.specs.Page.{Mark}
+use Rattle.tsc_page_model.specs.Page.{Mark}
 use Rattle.timestamp_cache.specs.declared.summary_fault.SummaryFault.{SummaryFault}
 use Rattle.timestamp_cache.specs.declared.summary_fault.SummaryFault.TheVariants.{Version, Length}
 use Rattle.timestamp_cache.specs.declared.summary_fault.SummaryFault.TheVariants.{Checksum, Form}
@@ -80,10 +80,10 @@ cut_at bytes = do
   cut_by side.0 side.1
 
 -- what lies between two places, where the first is below the second
-abbrev pub between_of : Cut → Cut → Read Interval
+abbrev pub between_of : Cut → Cut → Read SpanView
 between_of from to = if is_below from to then Ok (between from to) else Err Form
 
-unfoldable pub between_at : List ℕ → Part Interval
+unfoldable pub between_at : List ℕ → Part SpanView
 between_at bytes = do
   from ← cut_at bytes
   to ← cut_at from.1
@@ -91,12 +91,12 @@ between_at bytes = do
   Ok (span, to.1)
 
 -- a span, by whether something is in it
-abbrev pub span_by : ℕ → List ℕ → Part Interval
+abbrev pub span_by : ℕ → List ℕ → Part SpanView
 span_by zero bytes = Ok (nothing, bytes)
 span_by (suc zero) bytes = between_at bytes
 span_by (suc (suc kind)) bytes = Err Form
 
-unfoldable pub span_at : List ℕ → Part Interval
+unfoldable pub span_at : List ℕ → Part SpanView
 span_at bytes = do
   kind ← byte_at bytes
   span_by kind.0 kind.1
@@ -114,7 +114,7 @@ time_at bytes = do
   t ← time_of wall.0 logical.0
   Ok (t, logical.1)
 
-unfoldable pub value_at : List ℕ → Part OwnedTime
+unfoldable pub value_at : List ℕ → Part ValueView
 value_at bytes = do
   t ← time_at bytes
   owner ← bytes_at 16 t.1
@@ -147,17 +147,17 @@ reads_at bytes = do
   marks ← counted_at floor.1
   Ok ((floor.0, marks.0), marks.1)
 
-unfoldable pub told_at : List ℕ → Part Summary
-told_at bytes = do
+unfoldable pub reported_at : List ℕ → Part Summary
+reported_at bytes = do
   span ← span_at bytes
   reads ← reads_at span.1
   Ok (record { span = span.0; floor = reads.0.0; marks = reads.0.1 }, reads.1)
 
 -- all of the bytes as the content of a summary
-unfoldable pub told_by : List ℕ → Read Summary
-told_by bytes = do
-  told ← told_at bytes
-  if length told.1 == 0 then Ok told.0 else Err Form
+unfoldable pub reported_by : List ℕ → Read Summary
+reported_by bytes = do
+  reported ← reported_at bytes
+  if length reported.1 == 0 then Ok reported.0 else Err Form
 
 -- the content behind the version and the content's length, where bytes of that length and a digest
 -- stand, and the digest is that of all before it
@@ -179,4 +179,4 @@ unsealed (suc (suc version) ∷ rest) = Err Version
 
 -- the summary that bytes are
 abbrev pub summary_of : List ℕ → Read Summary
-summary_of bytes = unsealed bytes >>= told_by
+summary_of bytes = unsealed bytes >>= reported_by

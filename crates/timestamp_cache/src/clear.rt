@@ -1,6 +1,7 @@
+//! When a write is clear of what others have read.
 ghost use Rattle.std.specs.Prelude.{◌↔◌, IsTrue};
 ghost use Rattle.timestamp_cache.specs.Clear.{IsClearOf};
-ghost use Rattle.timestamp_cache.specs.Earliest.{TellsEarliest};
+ghost use Rattle.timestamp_cache.specs.Earliest.{ReportsEarliest};
 
 use crate::next_time;
 use tsc_time::{Timestamp, Value};
@@ -40,7 +41,7 @@ pub fn is_clear_of(read: Value, at: Timestamp, by: Uuid) -> bool
 /// assert_eq!(rt; earliest_clear_of(read, at(30), id('B')), Some(at(30)));
 /// ```
 pub fn earliest_clear_of(read: Value, at: Timestamp, by: Uuid) -> Option<Timestamp>
-    ensures { TellsEarliest (λ t. IsClearOf read by t) at result }
+    ensures { ReportsEarliest (λ t. IsClearOf read by t) at result }
 {
     if is_clear_of(read, at, by) {
         return Some(at);

@@ -1,16 +1,17 @@
+//! Summaries: a lease holder hands on what it knows of reads, and the next one applies it.
 ghost use Rattle.std.specs.Prelude.{◌≡◌, [], ◌&&◌, not, option_map, true, false, IfOk, OnOk, OnErr};
 ghost use Rattle.tsc_time.specs.Time.{is_before};
 ghost use Rattle.tsc_span.specs.Span.{is_below, is_empty_span, key_of_cut, between};
 ghost use Rattle.tsc_span.specs.Cuts.{cut_of};
-ghost use Rattle.tsc_cache.specs.Settings.{Settings, fits};
+ghost use Rattle.tsc_cache.specs.ConfigView.{ConfigView, fits};
 ghost use Rattle.tsc_cache.specs.State.{CacheState, step_all};
 ghost use Rattle.tsc_cache.specs.Batch.{all_fit, is_any_kept, AddsAll};
 ghost use Rattle.tsc_cache.specs.CacheView.{RepresentsState};
 ghost use Rattle.tsc_cache.specs.Keys.{keys_seen};
-ghost use Rattle.timestamp_cache.specs.HandOver.{marks_told, RefusesOnlyFor, Summarizes, TakesOver};
+ghost use Rattle.timestamp_cache.specs.HandOver.{marks_reported, RefusesOnlyFor, Summarizes, TakesOver};
 ghost use Rattle.tsc_shared.specs.Answers.{HasLookedOn};
 ghost use Rattle.timestamp_cache.specs.SeatSummaries.{SummarizesAt};
-ghost use Rattle.timestamp_cache.specs.Stretches.{is_after, stretch_end, IsStretch, told_more};
+ghost use Rattle.timestamp_cache.specs.Stretches.{is_after, stretch_end, IsStretch, reported_more};
 
 use std::alloc::Global;
 use std::marker::Model;
@@ -71,16 +72,16 @@ pub fn summary(
     span: &Span,
     most: usize,
 ) -> Result<ReadSummary, NoMemory>
-    ensures { IfOk result (λ told. Summarizes cache.now span.now most told) }
+    ensures { IfOk result (λ reported. Summarizes cache.now span.now most reported) }
 {
-    let told = ReadSummary {
+    let reported = ReadSummary {
         span: span.try_copy()?,
         floor: cache.low_water(),
         marks: Vec::new(alloc),
     };
     match span.cuts() {
-        Some(cuts) => told.over(alloc, cache, cuts, most),
-        None => Ok(told),
+        Some(cuts) => reported.over(alloc, cache, cuts, most),
+        None => Ok(reported),
     }
 }
 
@@ -111,13 +112,14 @@ pub fn summary_at(
     most: usize,
 ) -> Result<SeatSummary, NoMemory>
     requires cache { seat.old.cache ≡ cache.now }
-    ensures told { IfOk result (λ told. SummarizesAt seat.old seat.new span.now most told) }
+    ensures reported { IfOk result (λ reported. SummarizesAt seat.old seat.new span.now most
+        reported) }
     ensures looked { HasLookedOn seat.old seat.new }
 {
     let snapshot = cache.snapshot(seat)?;
-    let told = summary(alloc, &snapshot.cache, span, most)?;
+    let reported = summary(alloc, &snapshot.cache, span, most)?;
     Ok(SeatSummary {
-        summary: told,
+        summary: reported,
         front: snapshot.front,
     })
 }
@@ -135,17 +137,17 @@ impl ReadSummary {
         requires span { self.span ≡ between (cut_of cuts.0) (cut_of cuts.1) }
         requires floor { self.floor ≡ cache.now.floor }
         requires none { self.marks ≡ [] }
-        ensures { IfOk result (λ told. Summarizes cache.now self.span most told) }
+        ensures { IfOk result (λ reported. Summarizes cache.now self.span most reported) }
     {
-        let mut told = self;
+        let mut reported = self;
         let (mut at, to) = cuts;
         while at.is_below(to) {
             let end = stretch_end(cache, at, to);
             let value = cache.get_max_ref(&stretch(at, end));
-            told = told.with(alloc, (at, end), value, most)?;
+            reported = reported.with(alloc, (at, end), value, most)?;
             at = end;
         }
-        Ok(told)
+        Ok(reported)
     }
 
     /// Tells of one stretch more.
@@ -157,7 +159,7 @@ impl ReadSummary {
         most: usize,
     ) -> Result<ReadSummary, NoMemory>
         requires order { is_below (cut_of cuts.0) (cut_of cuts.1) ≡ true }
-        ensures { IfOk result (λ told. told ≡ told_more most self
+        ensures { IfOk result (λ reported. reported ≡ reported_more most self
             (between (cut_of cuts.entry.0) (cut_of cuts.entry.1)) value) }
     {
         if self.floor < value.time() {
@@ -173,7 +175,7 @@ impl ReadSummary {
 
     /// The marks that are added where the summary is applied.
     fn to_marks(&self) -> Result<Vec<Mark>, NoMemory>
-        ensures { IfOk result (λ marks. marks.items ≡ marks_told self.now) }
+        ensures { IfOk result (λ marks. marks.items ≡ marks_reported self.now) }
     {
         let mut marks = Vec::new(*self.marks.allocator());
         marks.push(mark_of(&self.span, Value::unowned(self.floor))?)?;
@@ -202,18 +204,18 @@ impl ReadSummary {
 /// assert_eq!(rt; new.get_max(&keys(alloc, "b", "")?), Value::of(at(20), id('A')));
 /// ```
 pub fn apply(cache: &mut Cache, summary: &ReadSummary, now: Timestamp) -> Result<Added, CacheFault>
-    ensures stands { OnOk result ((settings : Settings) (s : CacheState) →
-        RepresentsState cache.old settings s
-        → RepresentsState cache.new settings
-        (step_all settings s (marks_told summary.now) now).state) }
+    ensures stands { OnOk result ((config : ConfigView) (s : CacheState) →
+        RepresentsState cache.old config s
+        → RepresentsState cache.new config
+        (step_all config s (marks_reported summary.now) now).state) }
     ensures takes_over { OnOk result
-        ((settings : Settings) (s : CacheState) → RepresentsState cache.old settings s
-        → TakesOver s (step_all settings s (marks_told summary.now) now).state summary.now) }
-    ensures added { IfOk result (λ added. (settings : Settings) (s : CacheState) →
-        RepresentsState cache.old settings s
-        → added ≡ (step_all settings s (marks_told summary.now) now).added) }
-    ensures seen { IfOk result (λ added. AddsAll cache.old cache.new (marks_told summary.now) now
-        added) }
+        ((config : ConfigView) (s : CacheState) → RepresentsState cache.old config s
+        → TakesOver s (step_all config s (marks_reported summary.now) now).state summary.now) }
+    ensures added { IfOk result (λ added. (config : ConfigView) (s : CacheState) →
+        RepresentsState cache.old config s
+        → added ≡ (step_all config s (marks_reported summary.now) now).added) }
+    ensures seen { IfOk result (λ added. AddsAll cache.old cache.new (marks_reported summary.now)
+        now added) }
     ensures refused { RefusesOnlyFor cache.old summary.now result }
     ensures unchanged { OnErr result (cache.new ≡ cache.old) }
 {
@@ -336,7 +338,7 @@ fn mark_of(span: &Span, value: Value) -> Result<Mark, NoMemory>
 
 /// Whether each span that a summary adds fits a cache.
 fn fits_all(cache: &Cache, summary: &ReadSummary) -> bool
-    ensures { result ≡ all_fit cache.now.settings (marks_told summary.now) }
+    ensures { result ≡ all_fit cache.now.config (marks_reported summary.now) }
 {
     if !cache.fits(&summary.span) {
         return false;
@@ -351,7 +353,7 @@ fn fits_all(cache: &Cache, summary: &ReadSummary) -> bool
 
 /// Whether any of the marks that a summary adds is kept above a floor.
 fn is_any_kept(floor: Timestamp, summary: &ReadSummary) -> bool
-    ensures { result ≡ is_any_kept floor (marks_told summary.now) }
+    ensures { result ≡ is_any_kept floor (marks_reported summary.now) }
 {
     if is_kept(floor, &summary.span, summary.floor) {
         return true;

@@ -2,7 +2,7 @@
 //! and `tsc_span`, and more on what a store rests on.
 //!
 //! No program needs to call these functions: their contracts are the laws.
-ghost use Rattle.timestamp_cache.specs.Laws.{AnswersAreLookedUp, ReadsAreCarried, PushedByReadsAlone, ClearIsAtMost, ReadsAreHandedOn, AnswersRise, ClearStaysClear, SummariesTellNoLess, AddsAreEntries, ClearOfLess, IsOrderOfTimes, EarliestInTurn};
+ghost use Rattle.timestamp_cache.specs.Laws.{AnswersAreLookedUp, ReadsAreCarried, PushedByReadsAlone, ClearIsAtMost, ReadsAreHandedOn, AnswersRise, ClearStaysClear, SummariesReportNoLess, AddsAreEntries, ClearOfLess, IsOrderOfTimes, EarliestInTurn};
 ghost use Rattle.timestamp_cache.specs.SummaryLaws.{SummariesAreReadBack};
 
 pub use tsc_cache::laws::{
@@ -66,8 +66,8 @@ pub fn clear_stays_clear()
 
 /// A summary tells no less than each state answers that it tells of, on each span within its own. A
 /// key of a span lies within it.
-pub fn summaries_tell_no_less()
-    ensures { SummariesTellNoLess }
+pub fn summaries_report_no_less()
+    ensures { SummariesReportNoLess }
 {}
 
 /// A cache to which marks are added stands for the history before with one entry more.

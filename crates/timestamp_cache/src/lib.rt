@@ -116,7 +116,7 @@
 //! let key = keys(alloc, "a", "")?;
 //! let receipt = cache.add(&rt, &mut one, &key, Value::of(at(20), id('A')), at(20))?;
 //! assert_eq!(rt; receipt.place, 0);
-//! assert_eq!(rt; cache.learn(&mut two, receipt.front)?, 1);
+//! assert_eq!(rt; cache.catch_up(&mut two, receipt.front), 1);
 //! let answer = cache.get_max(&mut two, &key)?;
 //! assert_eq!(rt; (answer.front, answer.value.time()), (1, at(20)));
 //! ```
@@ -156,7 +156,7 @@ pub use tsc_cache::{
     AddBetweenFault, Added, Cache, CacheFault, Config, ConfigFault, Figures, LEAST_MIN_PAGES,
     LONGEST_RETENTION, MOST_MIN_PAGES, Mark, TimestampCache,
 };
-pub use tsc_page_nodes::{LEAST_SIZE, MOST_SIZE};
+pub use tsc_page_model::{LEAST_SIZE, MOST_SIZE};
 pub use tsc_shared::{
     AddFault, Answer, Closed, Front, Gate, Gone, LowWater, NoGate, OpenFault, Receipt, Seat,
     SeatFigures, SharedCache, Snapshot, StillOut, TryAddFault,

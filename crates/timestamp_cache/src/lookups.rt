@@ -3,7 +3,8 @@ ghost use Rattle.std.specs.Prelude.{◌≡◌, IfOk, OnErr};
 ghost use Rattle.timestamp_cache.specs.SeatKinds.{SeatKind, LooksUp, shared_seat};
 ghost use Rattle.timestamp_cache.specs.SeatLaws.{SeatLaws, shared_seat_laws, shared_seat_stays};
 
-use tsc_shared::{Gone, Seat, SharedCache};
+use std::convert::Infallible;
+use tsc_shared::{Seat, SharedCache};
 use tsc_span::Span;
 use tsc_time::Value;
 
@@ -49,7 +50,7 @@ pub trait Lookup {
 impl Lookup for SharedCache {
     type Seat = Seat;
 
-    type Fault = Gone;
+    type Fault = Infallible;
 
     ghost kind = { shared_seat };
 
@@ -61,9 +62,9 @@ impl Lookup for SharedCache {
         seat.number()
     }
 
-    /// A lookup waits for nobody, takes no memory, and is never [`Gone`].
-    fn look_up(&self, seat: &mut Seat, span: &Span) -> Result<Value, Gone> {
-        let answer = self.get_max(seat, span)?;
+    /// A lookup waits for nobody, takes no memory, and is never refused.
+    fn look_up(&self, seat: &mut Seat, span: &Span) -> Result<Value, Infallible> {
+        let answer = self.get_max_ref(seat, &span.borrowed());
         Ok(answer.value)
     }
 

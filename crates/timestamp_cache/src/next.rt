@@ -1,6 +1,7 @@
+//! The next time after a given one.
 ghost use Rattle.std.specs.Prelude.{◌≡◌, true};
 ghost use Rattle.tsc_time.specs.Time.{is_before};
-ghost use Rattle.timestamp_cache.specs.Earliest.{TellsEarliest};
+ghost use Rattle.timestamp_cache.specs.Earliest.{ReportsEarliest};
 
 use tsc_time::Timestamp;
 
@@ -15,7 +16,7 @@ use tsc_time::Timestamp;
 /// assert_eq!(rt; next_time(Timestamp::MAX), None);
 /// ```
 pub fn next_time(time: Timestamp) -> Option<Timestamp>
-    ensures { TellsEarliest (λ t. is_before time t ≡ true) time result }
+    ensures { ReportsEarliest (λ t. is_before time t ≡ true) time result }
 {
     match Timestamp::new(time.wall(), time.logical() + 1) {
         Some(next) => Some(next),

@@ -1,3 +1,4 @@
+//! Why a summary is not made or not applied.
 ghost use Rattle.std.specs.Prelude.{◌≡◌};
 ghost use Rattle.timestamp_cache.specs.declared.summary_fault.SummaryFault.TheVariants as faults;
 

@@ -10,7 +10,7 @@ ghost use Rattle.timestamp_cache.specs.SummaryReading.{Gives, GivesPart, byte_at
 ghost use Rattle.timestamp_cache.specs.SummaryReading.{number_at, key_at, cut_at, between_of};
 ghost use Rattle.timestamp_cache.specs.SummaryReading.{between_at, span_at, time_of, time_at};
 ghost use Rattle.timestamp_cache.specs.SummaryReading.{value_at, mark_at, marks_at, counted_at};
-ghost use Rattle.timestamp_cache.specs.SummaryReading.{told_at, told_by, content_at, unsealed};
+ghost use Rattle.timestamp_cache.specs.SummaryReading.{reported_at, reported_by, content_at, unsealed};
 ghost use Rattle.timestamp_cache.specs.SummaryReading.{summary_of};
 
 use crate::hand_over::{ReadSummary, own_key, owned};
@@ -44,9 +44,9 @@ impl ReadSummary {
     /// assert_eq!(rt; cut, Some(SummaryFault::Length));
     /// ```
     pub fn from_bytes(alloc: Global, bytes: &[u8]) -> Result<ReadSummary, SummaryFault>
-        ensures read { Gives (λ told. told) result (summary_of bytes.now) }
-        ensures written { IfOk result (λ told.
-            (bytes.now ≡ summary_bytes told) × IsMadeSummary told) }
+        ensures read { Gives (λ reported. reported) result (summary_of bytes.now) }
+        ensures written { IfOk result (λ reported.
+            (bytes.now ≡ summary_bytes reported) × IsMadeSummary reported) }
     {
         let content = unsealed(bytes)?;
         summary_in(alloc, content)
@@ -92,16 +92,16 @@ fn is_digest(digest: &[u8], bytes: &[u8]) -> bool
 }
 
 /// All of the bytes as the content of a summary.
-#[tactic(auto, unfolding(crate::specs::SummaryReading::told_by))]
+#[tactic(auto, unfolding(crate::specs::SummaryReading::reported_by))]
 fn summary_in(alloc: Global, bytes: &[u8]) -> Result<ReadSummary, SummaryFault>
-    ensures { Gives (λ told. told) result (told_by bytes.now) }
+    ensures { Gives (λ reported. reported) result (reported_by bytes.now) }
 {
     let mut reader = Reader { rest: bytes };
-    let told = reader.told(alloc)?;
+    let reported = reader.reported(alloc)?;
     if !reader.rest.is_empty() {
         return Err(SummaryFault::Form);
     }
-    Ok(told)
+    Ok(reported)
 }
 
 /// Bytes that are read from the front.
@@ -113,9 +113,10 @@ struct Reader<'a> {
 
 impl<'a> Reader<'a> {
     /// What is told.
-    #[tactic(auto, unfolding(crate::specs::SummaryReading::told_at))]
-    fn told(&mut self, alloc: Global) -> Result<ReadSummary, SummaryFault>
-        ensures { GivesPart (λ told. told) result self.new.rest.now (told_at self.old.rest.now) }
+    #[tactic(auto, unfolding(crate::specs::SummaryReading::reported_at))]
+    fn reported(&mut self, alloc: Global) -> Result<ReadSummary, SummaryFault>
+        ensures { GivesPart (λ reported. reported) result self.new.rest.now
+            (reported_at self.old.rest.now) }
     {
         let span = self.span(alloc)?;
         let floor = self.time()?;

@@ -3,7 +3,7 @@ ghost use Rattle.std.specs.Prelude.{◌≡◌, ◌≤◌, ◌++◌, ◌∷◌, l
 ghost use Rattle.std.specs.List.{AllByRecursion};
 ghost use Rattle.sha2.specs.Sha256.{sha256};
 ghost use Rattle.tsc_time.specs.Time.{is_in_range};
-ghost use Rattle.tsc_time.specs.OwnedTime.{IsMadeValue};
+ghost use Rattle.tsc_time.specs.ValueView.{IsMadeValue};
 ghost use Rattle.tsc_span.specs.Span.{longest_key};
 ghost use Rattle.tsc_span.specs.Cuts.{cut_of};
 ghost use Rattle.tsc_span.specs.MadeSpan.{IsMadeCut, IsMadeSpan};
@@ -47,14 +47,14 @@ impl ReadSummary {
 }
 
 /// What is told, without the frame.
-fn content_of(alloc: Global, told: &ReadSummary) -> Result<Vec<u8>, NoMemory>
-    ensures written { IfOk result (λ content. content.items ≡ content_bytes told.now) }
-    ensures made { OnOk result (IsMadeSummary told.now) }
+fn content_of(alloc: Global, reported: &ReadSummary) -> Result<Vec<u8>, NoMemory>
+    ensures written { IfOk result (λ content. content.items ≡ content_bytes reported.now) }
+    ensures made { OnOk result (IsMadeSummary reported.now) }
 {
     let mut out = Vec::new(alloc);
-    put_span(&mut out, &told.span)?;
-    put_time(&mut out, told.floor)?;
-    put_marks(&mut out, &told.marks)?;
+    put_span(&mut out, &reported.span)?;
+    put_time(&mut out, reported.floor)?;
+    put_marks(&mut out, &reported.marks)?;
     Ok(out)
 }
 

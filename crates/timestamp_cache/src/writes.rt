@@ -1,11 +1,12 @@
+//! Whether and from when on a write may be made, over a cache or a seat of a shared one.
 ghost use Rattle.std.specs.Prelude.{◌≡◌, ◌↔◌, IsTrue, IfOk, IfSome, OnErr};
-ghost use Rattle.tsc_cache.specs.Settings.{Settings};
+ghost use Rattle.tsc_cache.specs.ConfigView.{ConfigView};
 ghost use Rattle.tsc_cache.specs.History.{History, state_of};
 ghost use Rattle.tsc_cache.specs.CacheView.{RepresentsState, cache_answer};
 ghost use Rattle.timestamp_cache.specs.Clear.{IsClearOf, IsClearOfReads, IsClearOfAnswers};
 ghost use Rattle.timestamp_cache.specs.Clear.{IsClearOfAllReads, AsksAt, AsksEarliestAt};
 ghost use Rattle.timestamp_cache.specs.Clear.{AsksOfAllAt};
-ghost use Rattle.timestamp_cache.specs.Earliest.{TellsEarliest};
+ghost use Rattle.timestamp_cache.specs.Earliest.{ReportsEarliest};
 ghost use Rattle.timestamp_cache.specs.SeatKinds.{HasLookedOn};
 
 use crate::{Lookup, earliest_clear_of, is_clear_of};
@@ -30,8 +31,8 @@ use uuid::Uuid;
 /// ```
 pub fn may_write(cache: &Cache, span: &Span, at: Timestamp, by: Uuid) -> bool
     ensures value { IsTrue result ↔ IsClearOf (cache_answer cache.now span.now) by at }
-    ensures reads { IsTrue result → (settings : Settings) (h : History) →
-        RepresentsState cache.now settings (state_of settings h) → IsClearOfReads h span.now by at }
+    ensures reads { IsTrue result → (config : ConfigView) (h : History) →
+        RepresentsState cache.now config (state_of config h) → IsClearOfReads h span.now by at }
 {
     is_clear_of(cache.get_max(span), at, by)
 }
@@ -42,7 +43,7 @@ pub fn may_write(cache: &Cache, span: &Span, at: Timestamp, by: Uuid) -> bool
 ///
 /// The call is one [`look_up`](Lookup::look_up), and is refused where that is; the seat is then as
 /// it was. At a [`SharedCache`](crate::SharedCache) it waits for nobody, takes no memory, and is
-/// never [`Gone`](crate::Gone).
+/// never refused.
 ///
 /// ```
 /// let (cache, mut seats) = SharedCache::open(alloc, config()?, 1, u64::MAX)?;
@@ -82,9 +83,9 @@ pub fn may_write_at<C: Lookup>(
 /// assert_eq!(rt; earliest_write(&cache, &spans, at(15), id('B')), Timestamp::new(20, 1));
 /// ```
 pub fn earliest_write(cache: &Cache, spans: &[Span], at: Timestamp, by: Uuid) -> Option<Timestamp>
-    ensures earliest { TellsEarliest (λ t. IsClearOfAnswers cache.now spans.now by t) at result }
-    ensures reads { IfSome result (λ t. (settings : Settings) (h : History) →
-        RepresentsState cache.now settings (state_of settings h) →
+    ensures earliest { ReportsEarliest (λ t. IsClearOfAnswers cache.now spans.now by t) at result }
+    ensures reads { IfSome result (λ t. (config : ConfigView) (h : History) →
+        RepresentsState cache.now config (state_of config h) →
         IsClearOfAllReads h spans.now by t) }
 {
     let mut time = at;
@@ -107,7 +108,7 @@ pub fn earliest_write(cache: &Cache, spans: &[Span], at: Timestamp, by: Uuid) ->
 ///
 /// The call is a [`look_up`](Lookup::look_up) of each span, and is refused where one of them is.
 /// The seat has then looked at the spans before that one. At a [`SharedCache`](crate::SharedCache)
-/// it waits for nobody, takes no memory, and is never [`Gone`](crate::Gone).
+/// it waits for nobody, takes no memory, and is never refused.
 ///
 /// ```
 /// let (cache, mut seats) = SharedCache::open(alloc, config()?, 1, u64::MAX)?;
@@ -126,8 +127,8 @@ pub fn earliest_write_at<C: Lookup>(
 ) -> Result<Option<Timestamp>, C::Fault>
     requires at { C.IsAt cache.now seat.old }
     ensures asked { IfOk result
-        (λ told. AsksOfAllAt C.kind seat.old seat.new spans.now by at told) }
-    ensures reads { IfOk result (λ told. IfSome told
+        (λ reported. AsksOfAllAt C.kind seat.old seat.new spans.now by at reported) }
+    ensures reads { IfOk result (λ reported. IfSome reported
         (λ t. IsClearOfAllReads (C.kind.seen seat.old) spans.now by t)) }
     ensures refused { OnErr result (C.MayRefuse × HasLookedOn C.kind seat.old seat.new) }
 {
@@ -153,7 +154,7 @@ fn earliest_of_one<C: Lookup>(
 ) -> Result<Option<Timestamp>, C::Fault>
     requires at { C.IsAt cache.now seat.old }
     ensures asked { IfOk result
-        (λ told. AsksEarliestAt C.kind seat.old seat.new span.now by at told) }
+        (λ reported. AsksEarliestAt C.kind seat.old seat.new span.now by at reported) }
     ensures refused { OnErr result (C.MayRefuse × (seat.new ≡ seat.old)) }
 {
     let value = cache.look_up(seat, span)?;

@@ -9,6 +9,6 @@ text_of (Text text) = text.items
 text_of (Refused text) = text.items
 
 -- the number by which C knows what a text is: 0, what was asked for; 16, why the bytes were refused
-abbrev pub told_of : Outcome → ℕ
-told_of (Text text) = 0
-told_of (Refused text) = 16
+abbrev pub reported_of : Outcome → ℕ
+reported_of (Text text) = 0
+reported_of (Refused text) = 16

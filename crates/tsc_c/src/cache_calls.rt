@@ -1,9 +1,9 @@
 //! The calls for caches of one thread at a time.
 
 ghost use Rattle.std.specs.Prelude.{◌≡◌, OnErr, None};
-ghost use Rattle.tsc_ffi_store.specs.CacheCalls.{AnswersOpen, AnswersLookup, AnswersAlways, AnswersAdd, AnswersAddAll, StandsAt, TellsFigures};
+ghost use Rattle.tsc_ffi_store.specs.CacheCalls.{AnswersOpen, AnswersLookup, AnswersAlways, AnswersAdd, AnswersAddAll, StandsAt, ReportsFigures};
 ghost use Rattle.tsc_ffi_store.specs.Counts.{CountsLookup, CountsAdd};
-ghost use Rattle.tsc_ffi_store.specs.Codes.{Tells};
+ghost use Rattle.tsc_ffi_store.specs.Codes.{Reports};
 ghost use Rattle.tsc_ffi_store.specs.Decode.{time_of, value_of, added_of, span_asked, add_asked, batch_asked, config_asked, asked_config};
 ghost use Rattle.tsc_ffi_store.specs.Store.{slots_of, cache_at, AnswersClose, AnswersOfCache, DoesToCache};
 
@@ -26,7 +26,7 @@ pub extern "C" fn tsc_open(
     low_water: &TscTime,
     handle: &mut u64,
 ) -> u32
-    ensures answers { Tells
+    ensures answers { Reports
         (AnswersOpen (config_asked page_first page_max min_pages retention low_water.now) handle.new
         (slots_of store.old.owned) (slots_of store.new.owned)) (handle.new ≡ handle.old) result }
 {
@@ -54,7 +54,7 @@ fn open(
     let config = config(args)?;
     let mut held = store_in(alloc, store)?;
     let opened = held.open(alloc, config);
-    store.lay(held);
+    store.put_back(held);
     *handle = opened?;
     Ok(())
 }
@@ -71,7 +71,7 @@ pub extern "C" fn tsc_add(
     moment: &TscTime,
     out: &mut TscAdded,
 ) -> u32
-    ensures answers { Tells
+    ensures answers { Reports
         (DoesToCache (CountsAdd
         (AnswersAdd (add_asked (span_asked from.now to.now ends) value.now moment.now)
         (added_of out.new)) out.new.evicted) (slots_of store.old.owned) (slots_of store.new.owned)
@@ -105,7 +105,7 @@ pub extern "C" fn tsc_add_all(
     moment: &TscTime,
     out: &mut TscAdded,
 ) -> u32
-    ensures answers { Tells
+    ensures answers { Reports
         (DoesToCache (CountsAdd
         (AnswersAddAll (batch_asked keys.now marks.now moment.now) (added_of out.new))
         out.new.evicted) (slots_of store.old.owned) (slots_of store.new.owned) handle)
@@ -138,7 +138,7 @@ pub extern "C" fn tsc_get_max(
     ends: u32,
     out: &mut TscValue,
 ) -> u32
-    ensures answers { Tells
+    ensures answers { Reports
         (DoesToCache (CountsLookup
         (AnswersLookup (span_asked from.now to.now ends) (value_of out.new)))
         (slots_of store.old.owned) (slots_of store.new.owned) handle) (out.new ≡ out.old) result }
@@ -156,7 +156,7 @@ pub extern "C" fn tsc_get_max(
 /// Where the floor stands.
 #[unsafe(no_mangle)]
 pub extern "C" fn tsc_low_water(store: &mut StorePtr, handle: u64, out: &mut TscTime) -> u32
-    ensures answers { Tells
+    ensures answers { Reports
         (AnswersOfCache (AnswersAlways (λ held. StandsAt held.cache (time_of out.new)))
         (slots_of store.old.owned) handle) (out.new ≡ out.old) result }
     ensures unchanged { store.new.owned ≡ store.old.owned }
@@ -176,8 +176,8 @@ pub extern "C" fn tsc_low_water(store: &mut StorePtr, handle: u64, out: &mut Tsc
 /// What can be counted of a cache.
 #[unsafe(no_mangle)]
 pub extern "C" fn tsc_figures_of(store: &mut StorePtr, handle: u64, out: &mut TscFigures) -> u32
-    ensures answers { Tells
-        (AnswersOfCache (AnswersAlways (λ held. TellsFigures held out.new))
+    ensures answers { Reports
+        (AnswersOfCache (AnswersAlways (λ held. ReportsFigures held out.new))
         (slots_of store.old.owned) handle) (out.new ≡ out.old) result }
     ensures unchanged { store.new.owned ≡ store.old.owned }
 {
@@ -196,7 +196,7 @@ pub extern "C" fn tsc_figures_of(store: &mut StorePtr, handle: u64, out: &mut Ts
 /// Frees the cache of a handle, which then names none for good.
 #[unsafe(no_mangle)]
 pub extern "C" fn tsc_close(store: &mut StorePtr, handle: u64) -> u32
-    ensures answers { Tells
+    ensures answers { Reports
         (AnswersClose cache_at handle (slots_of store.old.owned) (slots_of store.new.owned))
         (slots_of store.new.owned ≡ slots_of store.old.owned) result }
 {
@@ -212,6 +212,6 @@ pub extern "C" fn tsc_free(alloc: Global, store: &mut StorePtr)
     ensures { store.new.owned ≡ None }
 {
     if let Some(mut held) = store.take(alloc) {
-        held.hand_in();
+        held.close_seats();
     }
 }

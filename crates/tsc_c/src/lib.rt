@@ -12,11 +12,7 @@ mod seat_calls;
 mod store_ptr;
 mod summary_calls;
 #[cfg(test)]
-mod summary_tests;
-#[cfg(test)]
 mod tests;
 mod texts;
-#[cfg(test)]
-mod texts_tests;
 mod version;
 mod write_calls;

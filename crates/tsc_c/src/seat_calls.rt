@@ -1,7 +1,7 @@
 //! The calls for caches that threads share, and for their seats.
 
 ghost use Rattle.std.specs.Prelude.{◌≡◌, OnErr};
-ghost use Rattle.tsc_ffi_store.specs.Codes.{Tells};
+ghost use Rattle.tsc_ffi_store.specs.Codes.{Reports};
 ghost use Rattle.tsc_ffi_store.specs.Counts.{CountsSeatLookup, CountsSeatAdd, CountsNothing};
 ghost use Rattle.tsc_ffi_store.specs.Decode.{time_of, value_of, added_of, span_asked, add_asked, batch_asked, config_asked, asked_config};
 ghost use Rattle.tsc_ffi_store.specs.SeatCalls.{AnswersOpenShared, AnswersSeatLookup, AnswersSeatLowWater, AnswersSeatAdd, AnswersSeatAddAll, AnswersMove, AnswersCloseSeat, AnswersCloseShared};
@@ -32,7 +32,7 @@ pub extern "C" fn tsc_open_shared(
     limit: u64,
     handle: &mut u64,
 ) -> u32
-    ensures answers { Tells
+    ensures answers { Reports
         (AnswersOpenShared (config_asked page_first page_max min_pages retention low_water.now)
         seats limit handle.new (slots_of store.old.owned) (slots_of store.new.owned))
         (handle.new ≡ handle.old) result }
@@ -66,7 +66,7 @@ fn open_shared(
     }
     let mut held = store_in(alloc, store)?;
     let opened = held.open_shared(alloc, config, seats, limit);
-    store.lay(held);
+    store.put_back(held);
     *handle = opened?;
     Ok(())
 }
@@ -87,7 +87,7 @@ pub extern "C" fn tsc_open_striped(
     seats: u32,
     handle: &mut u64,
 ) -> u32
-    ensures answers { Tells
+    ensures answers { Reports
         (AnswersOpenStriped (config_asked page_first page_max min_pages retention low_water.now)
         seats keys.now lens.now handle.new (slots_of store.old.owned) (slots_of store.new.owned))
         (handle.new ≡ handle.old) result }
@@ -117,11 +117,11 @@ fn open_striped(
         result }
     ensures kept { OnErr result (handle.new ≡ handle.old) }
 {
-    let settings = config(args)?;
+    let asked = config(args)?;
     check_bounds(bounds, seats)?;
     let mut taken = store_in(alloc, store)?;
-    let opened = taken.open_striped(alloc, settings, bounds, seats);
-    store.lay(taken);
+    let opened = taken.open_striped(alloc, asked, bounds, seats);
+    store.put_back(taken);
     *handle = opened?;
     Ok(())
 }
@@ -141,7 +141,7 @@ pub extern "C" fn tsc_seat_add(
     place: &mut u64,
     out: &mut TscAdded,
 ) -> u32
-    ensures answers { Tells
+    ensures answers { Reports
         (DoesToSeat
         (CountsSeatAdd (ByKind
         (AnswersSeatAdd (add_asked (span_asked from.now to.now ends) value.now moment.now) tries
@@ -181,7 +181,7 @@ pub extern "C" fn tsc_seat_add_all(
     place: &mut u64,
     out: &mut TscAdded,
 ) -> u32
-    ensures answers { Tells
+    ensures answers { Reports
         (DoesToSeat
         (CountsSeatAdd (ByKind (AnswersSeatAddAll (batch_asked keys.now marks.now moment.now) tries
         place.new (added_of out.new))
@@ -218,7 +218,7 @@ pub extern "C" fn tsc_seat_get_max(
     seen: &mut u64,
     out: &mut TscValue,
 ) -> u32
-    ensures answers { Tells
+    ensures answers { Reports
         (DoesToSeat
         (CountsSeatLookup (ByKind
         (AnswersSeatLookup (span_asked from.now to.now ends) seen.new (value_of out.new))
@@ -244,7 +244,7 @@ pub extern "C" fn tsc_seat_low_water(
     seen: &mut u64,
     out: &mut TscTime,
 ) -> u32
-    ensures answers { Tells
+    ensures answers { Reports
         (DoesToSeat (CountsNothing (ByKind (AnswersSeatLowWater seen.new (time_of out.new))
         (AnswersStripedLowWater seen.new (time_of out.new))))
         (slots_of store.old.owned) (slots_of store.new.owned) handle)
@@ -267,7 +267,7 @@ pub extern "C" fn tsc_seat_figures_of(
     seen: &mut u64,
     out: &mut TscFigures,
 ) -> u32
-    ensures answers { Tells
+    ensures answers { Reports
         (DoesToSeat (AnswersFigures seen.new out.new) (slots_of store.old.owned)
         (slots_of store.new.owned) handle) ((seen.new ≡ seen.old) × (out.new ≡ out.old)) result }
 {
@@ -287,7 +287,7 @@ pub extern "C" fn tsc_seat_figures_of(
 /// where both were opened, knows of it.
 #[unsafe(no_mangle)]
 pub extern "C" fn tsc_seat_close(store: &mut StorePtr, handle: u64) -> u32
-    ensures answers { Tells
+    ensures answers { Reports
         (AnswersCloseSeat handle (slots_of store.old.owned) (slots_of store.new.owned))
         (slots_of store.new.owned ≡ slots_of store.old.owned) result }
 {
@@ -302,7 +302,7 @@ pub extern "C" fn tsc_seat_close(store: &mut StorePtr, handle: u64) -> u32
 /// in.
 #[unsafe(no_mangle)]
 pub extern "C" fn tsc_close_shared(store: &mut StorePtr, handle: u64, length: &mut u64) -> u32
-    ensures answers { Tells
+    ensures answers { Reports
         (AnswersCloseShared length.new handle (slots_of store.old.owned)
         (slots_of store.new.owned)) (length.new ≡ length.old) result }
 {
@@ -321,7 +321,7 @@ pub extern "C" fn tsc_move(
     other: &mut StorePtr,
     other_handle: &mut u64,
 ) -> u32
-    ensures answers { Tells
+    ensures answers { Reports
         (AnswersMove handle other_handle.new (slots_of store.old.owned) (slots_of other.old.owned)
         (slots_of store.new.owned) (slots_of other.new.owned))
         ((slots_of store.new.owned ≡ slots_of store.old.owned) ×
@@ -353,6 +353,6 @@ fn move_from(
     }
     let mut to = store_in(alloc, other)?;
     let did = held.move_to(handle, &mut to, other_handle);
-    other.lay(to);
+    other.put_back(to);
     did
 }

@@ -1,3 +1,4 @@
+//! The pointer by which C has a store. C alone frees it, so no drop does.
 ghost use Rattle.std.specs.Borrow.{sem};
 ghost use Rattle.std.specs.Prelude.{◌≡◌, [], IfOk, IfErr, OnErr};
 ghost use Rattle.std.specs.Option.{MatchOption};
@@ -82,7 +83,7 @@ impl StorePtr {
     }
 
     /// Owns this store. What was owned has to be taken before: it is not freed.
-    pub(crate) fn lay(&mut self, store: Box<Store, Global>)
+    pub(crate) fn put_back(&mut self, store: Box<Store, Global>)
         ensures { self.new.owned ≡ Some store.value }
     {
         *self = StorePtr::of(store);

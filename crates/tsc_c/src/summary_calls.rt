@@ -2,7 +2,7 @@
 //! into the cache of the next holder.
 
 ghost use Rattle.std.specs.Prelude.{◌≡◌};
-ghost use Rattle.tsc_ffi_store.specs.Codes.{Tells};
+ghost use Rattle.tsc_ffi_store.specs.Codes.{Reports};
 ghost use Rattle.tsc_ffi_store.specs.Counts.{CountsAdd, CountsNothing};
 ghost use Rattle.tsc_ffi_store.specs.Decode.{span_asked, added_of};
 ghost use Rattle.tsc_ffi_store.specs.Kinds.{ByKind};
@@ -92,7 +92,7 @@ pub extern "C" fn tsc_apply(
     moment: &TscTime,
     out: &mut TscAdded,
 ) -> u32
-    ensures answers { Tells (DoesToCache (CountsAdd
+    ensures answers { Reports (DoesToCache (CountsAdd
         (AnswersApply (apply_asked summary.now moment.now) (added_of out.new)) out.new.evicted)
         (slots_of store.old.owned) (slots_of store.new.owned) handle) (out.new ≡ out.old) result }
 {

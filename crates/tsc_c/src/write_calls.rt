@@ -1,7 +1,7 @@
 //! The calls of writes: whether and from when on they may be made.
 
 ghost use Rattle.std.specs.Prelude.{◌≡◌};
-ghost use Rattle.tsc_ffi_store.specs.Codes.{Tells};
+ghost use Rattle.tsc_ffi_store.specs.Codes.{Reports};
 ghost use Rattle.tsc_ffi_store.specs.Decode.{time_of};
 ghost use Rattle.tsc_ffi_store.specs.Counts.{CountsLookup, CountsSeatLookup};
 ghost use Rattle.tsc_ffi_store.specs.Store.{slots_of, DoesToCache, DoesToSeat};
@@ -25,7 +25,7 @@ pub extern "C" fn tsc_earliest_write(
     write: &TscValue,
     out: &mut TscTime,
 ) -> u32
-    ensures answers { Tells (DoesToCache (CountsLookup
+    ensures answers { Reports (DoesToCache (CountsLookup
         (AnswersWrite (write_asked keys.now spans.now write.now) (time_of out.new)))
         (slots_of store.old.owned) (slots_of store.new.owned) handle) (out.new ≡ out.old) result }
 {
@@ -49,7 +49,7 @@ pub extern "C" fn tsc_may_write(
     write: &TscValue,
     out: &mut bool,
 ) -> u32
-    ensures answers { Tells (DoesToCache (CountsLookup
+    ensures answers { Reports (DoesToCache (CountsLookup
         (AnswersMayWrite (write_asked keys.now spans.now write.now) out.new))
         (slots_of store.old.owned) (slots_of store.new.owned) handle) (out.new ≡ out.old) result }
 {
@@ -74,7 +74,7 @@ pub extern "C" fn tsc_seat_earliest_write(
     seen: &mut u64,
     out: &mut TscTime,
 ) -> u32
-    ensures answers { Tells (DoesToSeat (CountsSeatLookup (ByKind
+    ensures answers { Reports (DoesToSeat (CountsSeatLookup (ByKind
         (AnswersSeatWrite (write_asked keys.now spans.now write.now) seen.new (time_of out.new))
         (AnswersStripedWrite (write_asked keys.now spans.now write.now) seen.new
         (time_of out.new))))
@@ -102,7 +102,7 @@ pub extern "C" fn tsc_seat_may_write(
     seen: &mut u64,
     out: &mut bool,
 ) -> u32
-    ensures answers { Tells (DoesToSeat (CountsSeatLookup (ByKind
+    ensures answers { Reports (DoesToSeat (CountsSeatLookup (ByKind
         (AnswersSeatMayWrite (write_asked keys.now spans.now write.now) seen.new out.new)
         (AnswersStripedMayWrite (write_asked keys.now spans.now write.now) seen.new out.new)))
         (slots_of store.old.owned) (slots_of store.new.owned) handle)

@@ -1,17 +1,17 @@
 -- Marks that are added together: what they answer, and what they leave.
 use Rattle.std.specs.Prelude.{◌≡◌, List, [], ◌∷◌, ◌++◌, length, true, false, codes, replicate, refl}
-use Rattle.tsc_time.specs.OwnedTime.{unowned}
+use Rattle.tsc_time.specs.ValueView.{unowned}
 use Rattle.tsc_span.specs.Span.{point}
-use Rattle.tsc_page_nodes.specs.Page.{Mark}
+use Rattle.tsc_page_model.specs.Page.{Mark}
 use Rattle.tsc_cache.specs.Rotation.{next_size}
-use Rattle.tsc_cache.specs.Settings.{Settings}
+use Rattle.tsc_cache.specs.ConfigView.{ConfigView}
 use Rattle.tsc_cache.specs.State.{Stepped, opening, step_all, look}
 use Rattle.tsc_cache.specs.Batch.{all_fit, is_any_kept}
-use Rattle.tsc_cache.proofs.ExampleSettings.{at, of_first, of_second, usual, tight, twenty, without_end, without_ends, mark, marks_at, small_page, added}
+use Rattle.tsc_cache.proofs.ExampleConfig.{at, of_first, of_second, usual, tight, twenty, without_end, without_ends, mark, marks_at, small_page, added}
 
 -- what marks make of a new cache
-abbrev pub made_of : Settings → List Mark → Stepped
-made_of settings ms = step_all settings (opening settings) ms twenty
+abbrev pub made_of : ConfigView → List Mark → Stepped
+made_of config ms = step_all config (opening config) ms twenty
 
 -- ---- on one page
 
@@ -40,10 +40,10 @@ where_the_range_ends_nothing_was_added = refl
 
 -- ---- a fifth key on a page of four
 
-pub one_rotation_is_told : (made_of usual (marks_at (codes "abcde") (of_first twenty))).added ≡
+pub one_rotation_is_reported : (made_of usual (marks_at (codes "abcde") (of_first twenty))).added ≡
     added true true 0
 unfolding next_size
-one_rotation_is_told = refl
+one_rotation_is_reported = refl
 
 pub they_stand_on_two_pages : length
     (made_of usual (marks_at (codes "abcde") (of_first twenty))).state.pages ≡ 2

@@ -5,10 +5,10 @@ use Rattle.std.proofs.lemmas.Bool.{cases_Bool, and_parts}
 use Rattle.std.proofs.lemmas.List.{length-append, length-take-le, take_more, drop_more, take_all}
 use Rattle.std.proofs.lemmas.List.Elements.{All-push}
 use Rattle.tsc_time.specs.Time.{Time}
-use Rattle.tsc_page_nodes.specs.Page.{Mark}
-use Rattle.tsc_page_nodes.specs.PageView.{PageView}
+use Rattle.tsc_page_model.specs.Page.{Mark}
+use Rattle.tsc_page_model.specs.PageView.{PageView}
 use Rattle.tsc_cache.specs.declared.added.Added.{Added}
-use Rattle.tsc_cache.specs.Settings.{Settings, fits}
+use Rattle.tsc_cache.specs.ConfigView.{ConfigView, fits}
 use Rattle.tsc_cache.specs.State.{CacheState, Stepped, is_kept, not_kept, added_with, step, step_all}
 use Rattle.tsc_cache.specs.CacheView.{CacheView, RepresentsState, Adds, MarksFront, front_has_room_for}
 use Rattle.tsc_cache.specs.Batch.{all_fit, is_any_kept, AddsAll}
@@ -19,17 +19,18 @@ use Rattle.tsc_cache.proofs.Steps.{answer_alone}
 
 -- ---- answers together
 
-abbrev told : Bool → Bool → ℕ → Added
-told kept rotated evicted = record { kept = kept; rotated = rotated; evicted = evicted }
+abbrev reported : Bool → Bool → ℕ → Added
+reported kept rotated evicted = record { kept = kept; rotated = rotated; evicted = evicted }
 
 -- what Adds answer together goes by their order alone
 pub answers_join : (a b c : Added) → added_with (added_with a b) c ≡ added_with a (added_with b c)
 answers_join a b c =
-    ap (λ k. told k ((a.rotated || b.rotated) || c.rotated) ((a.evicted + b.evicted) + c.evicted))
-    (or_join a.kept b.kept c.kept)
-    ∙ ap (λ r. told (a.kept || (b.kept || c.kept)) r ((a.evicted + b.evicted) + c.evicted))
+    ap (λ k. reported k ((a.rotated || b.rotated) || c.rotated)
+    ((a.evicted + b.evicted) + c.evicted)) (or_join a.kept b.kept c.kept)
+    ∙ ap (λ r. reported (a.kept || (b.kept || c.kept)) r ((a.evicted + b.evicted) + c.evicted))
     (or_join a.rotated b.rotated c.rotated)
-    ∙ ap (told (a.kept || (b.kept || c.kept)) (a.rotated || (b.rotated || c.rotated))) (omega arith)
+    ∙ ap (reported (a.kept || (b.kept || c.kept)) (a.rotated || (b.rotated || c.rotated)))
+    (omega arith)
   where
     or_join : (p q r : Bool) → ((p || q) || r) ≡ (p || (q || r))
     or_join true q r = refl
@@ -37,7 +38,7 @@ answers_join a b c =
 
 -- what those behind an Add that is not kept answer
 none_before : (a : Added) → added_with not_kept a ≡ a
-none_before a = ap (told a.kept a.rotated) (omega arith)
+none_before a = ap (reported a.kept a.rotated) (omega arith)
 
 -- ---- what can be seen
 
@@ -45,7 +46,7 @@ none_before a = ap (told a.kept a.rotated) (omega arith)
 not_kept_adds : (v : CacheView) (m : Mark) (now : Time) → is_kept v.floor m ≡ false →
     Adds v v m now not_kept
 not_kept_adds v m now lost = record {
-  settings = refl;
+  config = refl;
   not_kept = λ _. (refl, refl);
   in_place = λ kept. absurd (let both : false ≡ true = sym lost ∙ kept in cc);
   rotated = λ kept. absurd (let both : false ≡ true = sym lost ∙ kept in cc);
@@ -75,9 +76,9 @@ pub adds_all_more : (old middle new : CacheView) (ms : List Mark) (m : Mark) (no
     AddsAll old new (ms ++ m ∷ []) now (added_with a b)
 adds_all_more old middle new [] m now a b all one =
     let same = subst (λ (v : CacheView). Adds v new m now b) all.0 one in
-    let told_is : added_with a b ≡ added_with b not_kept =
+    let reported_is : added_with a b ≡ added_with b not_kept =
     ap (λ (x : Added). added_with x b) all.1 ∙ none_before b ∙ sym (answer_alone b) in
-    (new, b, not_kept, same, (refl, refl), told_is)
+    (new, b, not_kept, same, (refl, refl), reported_is)
 adds_all_more old middle new (n ∷ ms) m now a b all one = (
   all.0,
   all.1,
@@ -92,32 +93,33 @@ pub one_mark_is_an_add : OneMarkIsAnAdd
 one_mark_is_an_add old new m now added all =
     let same : Adds old new m now all.1 =
     subst (λ (v : CacheView). Adds old v m now all.1) (sym all.4.0) all.3 in
-    let told_is : all.1 ≡ added = sym (answer_alone all.1) ∙ ap (added_with all.1) (sym all.4.1) ∙
+    let reported_is : all.1 ≡ added = sym (answer_alone all.1) ∙ ap (added_with all.1) (sym all.4.1)
+    ∙
     sym all.5 in
-    subst (λ (a : Added). Adds old new m now a) told_is same
+    subst (λ (a : Added). Adds old new m now a) reported_is same
 
 -- the settings stay
-pub settings_stay : (old new : CacheView) (ms : List Mark) (now : Time) (added : Added) →
-    AddsAll old new ms now added → new.settings ≡ old.settings
-settings_stay old new [] now added all = ap (λ (v : CacheView). v.settings) all.0
-settings_stay old new (m ∷ ms) now added all = settings_stay all.0 new ms now all.2 all.4 ∙
-    all.3.settings
+pub config_stays : (old new : CacheView) (ms : List Mark) (now : Time) (added : Added) →
+    AddsAll old new ms now added → new.config ≡ old.config
+config_stays old new [] now added all = ap (λ (v : CacheView). v.config) all.0
+config_stays old new (m ∷ ms) now added all = config_stays all.0 new ms now all.2 all.4 ∙
+    all.3.config
 
 -- whatever state it stood for, it stands for the one after all of the marks
 pub adds_all_stands : (old new : CacheView) (ms : List Mark) (now : Time) (added : Added) →
-    AddsAll old new ms now added → (settings : Settings) (s : CacheState) →
-    RepresentsState old settings s
-    → RepresentsState new settings (step_all settings s ms now).state ×
-    (added ≡ (step_all settings s ms now).added)
-adds_all_stands old new [] now added all settings s stands =
-    (subst (λ (v : CacheView). RepresentsState v settings s) (sym all.0) stands, all.1)
-adds_all_stands old new (m ∷ ms) now added all settings s stands =
-    let first = adds_stands old all.0 m now all.1 all.3 settings s stands in
-    let others = adds_all_stands all.0 new ms now all.2 all.4 settings (step settings s m now).state
+    AddsAll old new ms now added → (config : ConfigView) (s : CacheState) →
+    RepresentsState old config s
+    → RepresentsState new config (step_all config s ms now).state ×
+    (added ≡ (step_all config s ms now).added)
+adds_all_stands old new [] now added all config s stands =
+    (subst (λ (v : CacheView). RepresentsState v config s) (sym all.0) stands, all.1)
+adds_all_stands old new (m ∷ ms) now added all config s stands =
+    let first = adds_stands old all.0 m now all.1 all.3 config s stands in
+    let others = adds_all_stands all.0 new ms now all.2 all.4 config (step config s m now).state
     first.0 in (
       others.0,
       all.5 ∙ ap (λ (a : Added). added_with a all.2) first.1 ∙
-          ap (added_with (step settings s m now).added) others.1,
+          ap (added_with (step config s m now).added) others.1,
     )
 
 -- ---- how many pages are dropped
@@ -132,14 +134,15 @@ add_counts : (old new : CacheView) (m : Mark) (now : Time) (added : Added) →
     Adds old new m now added → added.evicted + length new.pages ≤ length old.pages + 1
 add_counts old new m now added adds = elim (cases_Bool (is_kept old.floor m)) [
   | inr lost ↦
-      let told_none : added.evicted ≡ 0 = ap (λ (a : Added). a.evicted) (adds.not_kept lost).1 in
+      let reported_none : added.evicted ≡ 0 = ap (λ (a : Added). a.evicted) (adds.not_kept lost).1
+      in
       let same : length new.pages ≡ length old.pages =
       ap (λ (v : CacheView). length v.pages) (adds.not_kept lost).0 in
       omega arith
   | inl kept ↦ elim (cases_Bool (front_has_room_for old.pages m.span)) [
     | inl room ↦
         let in_place = adds.in_place kept room in
-        let told_none : added.evicted ≡ 0 = ap (λ (a : Added). a.evicted) in_place.3 in
+        let reported_none : added.evicted ≡ 0 = ap (λ (a : Added). a.evicted) in_place.3 in
         let same : length new.pages ≡ length old.pages =
         same_many old.pages new.pages m in_place.0 in
         omega arith
@@ -157,7 +160,7 @@ add_counts old new m now added adds = elim (cases_Bool (is_kept old.floor m)) [
 pub adds_all_count : (old new : CacheView) (ms : List Mark) (now : Time) (added : Added) →
     AddsAll old new ms now added → added.evicted + length new.pages ≤ length old.pages + length ms
 adds_all_count old new [] now added all =
-    let told_none : added.evicted ≡ 0 = ap (λ (a : Added). a.evicted) all.1 in
+    let reported_none : added.evicted ≡ 0 = ap (λ (a : Added). a.evicted) all.1 in
     let same : length new.pages ≡ length old.pages = ap (λ (v : CacheView). length v.pages) all.0 in
     omega arith
 adds_all_count old new (m ∷ ms) now added all =
@@ -169,22 +172,22 @@ adds_all_count old new (m ∷ ms) now added all =
 -- ---- which fit
 
 -- the first of marks that fit does, and so do the others
-pub first_fits : (settings : Settings) (m : Mark) (ms : List Mark) →
-    all_fit settings (m ∷ ms) ≡ true → (fits settings m.span ≡ true) × (all_fit settings ms ≡ true)
-first_fits settings m ms fit = and_parts (fits settings m.span) (all_fit settings ms) fit
+pub first_fits : (config : ConfigView) (m : Mark) (ms : List Mark) →
+    all_fit config (m ∷ ms) ≡ true → (fits config m.span ≡ true) × (all_fit config ms ≡ true)
+first_fits config m ms fit = and_parts (fits config m.span) (all_fit config ms) fit
 
 -- ---- lists
 
 -- two lists at one moment do what their joined list does
 pub lists_join : ListsJoin
-lists_join settings s [] ns now = ap
-    (λ (a : Added). record { state = (step_all settings s ns now).state; added = a })
-    (sym (none_before (step_all settings s ns now).added))
-lists_join settings s (m ∷ ms) ns now =
-    let first = step settings s m now in
-    let rest = lists_join settings first.state ms ns now in
-    let second = step_all settings first.state ms now in
-    let third = step_all settings second.state ns now in
+lists_join config s [] ns now = ap
+    (λ (a : Added). record { state = (step_all config s ns now).state; added = a })
+    (sym (none_before (step_all config s ns now).added))
+lists_join config s (m ∷ ms) ns now =
+    let first = step config s m now in
+    let rest = lists_join config first.state ms ns now in
+    let second = step_all config first.state ms now in
+    let third = step_all config second.state ns now in
     ap (λ (x : Stepped). record { state = x.state; added = added_with first.added x.added }) rest
     ∙ ap (λ (a : Added). record { state = third.state; added = a })
     (sym (answers_join first.added second.added third.added))
@@ -195,22 +198,22 @@ lists_join settings s (m ∷ ms) ns now =
 pub record IsUnderWay (old new : CacheView) (ms : List Mark) (now : Time) (added : Added) (i : ℕ) :
     Type 0 where
   pub adds : AddsAll old new (take i ms) now added
-  pub fit : all_fit old.settings (drop i ms) ≡ true
+  pub fit : all_fit old.config (drop i ms) ≡ true
 
 pub begun : (old : CacheView) (ms : List Mark) (now : Time) (added : Added) →
-    all_fit old.settings ms ≡ true → added ≡ not_kept → IsUnderWay old old ms now added 0
+    all_fit old.config ms ≡ true → added ≡ not_kept → IsUnderWay old old ms now added 0
 begun old ms now added fit none = record { adds = (refl, none); fit = fit }
 
 -- the next one fits
 pub next_fits : (old new : CacheView) (ms : List Mark) (now : Time) (added : Added) (i : ℕ)
     (m : Mark) → IsUnderWay old new ms now added i → i < length ms → get_or ms i m ≡ m →
-    fits new.settings m.span ≡ true
+    fits new.config m.span ≡ true
 next_fits old new ms now added i m way within at =
-    let left : all_fit old.settings (m ∷ drop (i + 1) ms) ≡ true =
-    subst (λ (ns : List Mark). all_fit old.settings ns ≡ true)
+    let left : all_fit old.config (m ∷ drop (i + 1) ms) ≡ true =
+    subst (λ (ns : List Mark). all_fit old.config ns ≡ true)
     (drop_more ms i m within ∙ ap (λ (n : Mark). n ∷ drop (i + 1) ms) at) way.fit in
-    ap (λ (u : Settings). fits u m.span) (settings_stay old new (take i ms) now added way.adds) ∙
-    (first_fits old.settings m (drop (i + 1) ms) left).0
+    ap (λ (u : ConfigView). fits u m.span) (config_stays old new (take i ms) now added way.adds) ∙
+    (first_fits old.config m (drop (i + 1) ms) left).0
 
 -- and may be dropped with what was dropped so far
 pub few_dropped : (old middle new : CacheView) (ms : List Mark) (now : Time) (a b : Added) (i : ℕ)
@@ -230,8 +233,8 @@ one_more old middle new ms now a b i m way within at one = record {
   adds = subst (λ (ns : List Mark). AddsAll old new ns now (added_with a b))
       (sym (take_more ms i m within ∙ ap (λ (n : Mark). take i ms ++ n ∷ []) at))
       (adds_all_more old middle new (take i ms) m now a b way.adds one);
-  fit = (first_fits old.settings m (drop (i + 1) ms)
-      (subst (λ (ns : List Mark). all_fit old.settings ns ≡ true)
+  fit = (first_fits old.config m (drop (i + 1) ms)
+      (subst (λ (ns : List Mark). all_fit old.config ns ≡ true)
       (drop_more ms i m within ∙ ap (λ (n : Mark). n ∷ drop (i + 1) ms) at) way.fit)).1;
 }
 
@@ -277,29 +280,29 @@ all_added old new ms now added i way past =
 -- ---- which entries can be made
 
 -- Of marks that fit, so many can be made, and those that are left fit.
-pub record CanBeMade (settings : Settings) (ms : List Mark) (i : ℕ) : Type 0 where
-  pub made : All (λ m. IsMadeMark settings m) (take i ms)
-  pub fit : all_fit settings (drop i ms) ≡ true
+pub record CanBeMade (config : ConfigView) (ms : List Mark) (i : ℕ) : Type 0 where
+  pub made : All (λ m. IsMadeMark config m) (take i ms)
+  pub fit : all_fit config (drop i ms) ≡ true
 
 -- one more
-pub one_more_made : (settings : Settings) (ms : List Mark) (now : Time) (i : ℕ) (m : Mark) →
-    CanBeMade settings ms i → i < length ms → get_or ms i m ≡ m →
-    (fits settings m.span ≡ true → CanBeAdded settings m now) → CanBeMade settings ms (i + 1)
-one_more_made settings ms now i m so_far within at can =
-    let left = first_fits settings m (drop (i + 1) ms)
-    (subst (λ (ns : List Mark). all_fit settings ns ≡ true)
+pub one_more_made : (config : ConfigView) (ms : List Mark) (now : Time) (i : ℕ) (m : Mark) →
+    CanBeMade config ms i → i < length ms → get_or ms i m ≡ m →
+    (fits config m.span ≡ true → CanBeAdded config m now) → CanBeMade config ms (i + 1)
+one_more_made config ms now i m so_far within at can =
+    let left = first_fits config m (drop (i + 1) ms)
+    (subst (λ (ns : List Mark). all_fit config ns ≡ true)
     (drop_more ms i m within ∙ ap (λ (n : Mark). n ∷ drop (i + 1) ms) at) so_far.fit) in
     let entry = can left.0 0 0 in
     record {
-      made = subst (All (λ n. IsMadeMark settings n))
+      made = subst (All (λ n. IsMadeMark config n))
           (sym (take_more ms i m within ∙ ap (λ (n : Mark). take i ms ++ n ∷ []) at))
-          (All-push (λ n. IsMadeMark settings n) (take i ms) m so_far.made
+          (All-push (λ n. IsMadeMark config n) (take i ms) m so_far.made
           (entry.marks 0 m (omega arith)));
       fit = left.1;
     }
 
 -- until none is left
-pub all_made : (settings : Settings) (ms : List Mark) (i : ℕ) → CanBeMade settings ms i →
-    length ms ≤ i → All (λ m. IsMadeMark settings m) ms
-all_made settings ms i so_far past =
-    subst (All (λ m. IsMadeMark settings m)) (take_all i ms past) so_far.made
+pub all_made : (config : ConfigView) (ms : List Mark) (i : ℕ) → CanBeMade config ms i →
+    length ms ≤ i → All (λ m. IsMadeMark config m) ms
+all_made config ms i so_far past =
+    subst (All (λ m. IsMadeMark config m)) (take_all i ms past) so_far.made

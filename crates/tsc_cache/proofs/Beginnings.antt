@@ -2,7 +2,7 @@
 use Rattle.std.proofs.Common.{◌∙◌, sym, ap, subst, ℕ, [], ◌∷◌, ◌++◌, append_assoc, append-nil}
 use Rattle.std.specs.List.{Contains}
 use Rattle.std.proofs.lemmas.List.Elements.{Contains-append_left}
-use Rattle.tsc_cache.specs.Settings.{Settings}
+use Rattle.tsc_cache.specs.ConfigView.{ConfigView}
 use Rattle.tsc_cache.specs.History.{Entry, History, BeginsWith, IsLegal}
 use Rattle.tsc_cache.specs.Laws.{Beginnings}
 
@@ -24,9 +24,9 @@ begins_entries h g e b has = subst (λ (x : History). Contains x e) (sym b.1)
     (Contains-append_left g b.0 e has)
 
 -- a beginning of a legal history is legal
-pub legal_beginning : (settings : Settings) (seats : ℕ) (h g : History) → IsLegal settings seats h →
-    BeginsWith h g → IsLegal settings seats g
-legal_beginning settings seats h g legal b before e c =
+pub legal_beginning : (config : ConfigView) (seats : ℕ) (h g : History) → IsLegal config seats h →
+    BeginsWith h g → IsLegal config seats g
+legal_beginning config seats h g legal b before e c =
     legal before e (begins_on h g (before ++ e ∷ []) b c)
 
 -- all of it as one law
@@ -35,5 +35,5 @@ beginnings = record {
   itself = begins_itself;
   onward = begins_on;
   entries = begins_entries;
-  legal = λ settings seats h start b legal. legal_beginning settings seats h start legal b;
+  legal = λ config seats h start b legal. legal_beginning config seats h start legal b;
 }

@@ -4,7 +4,7 @@ use Rattle.tsc_time.specs.Time.{Time}
 use Rattle.tsc_cache.specs.Rotation.{next_size}
 use Rattle.tsc_cache.specs.declared.figures.Figures.{Figures}
 use Rattle.tsc_cache.specs.Counts.{up_to_end, figures_of}
-use Rattle.tsc_cache.proofs.ExampleSettings.{at, of_first, usual, twenty, without_end, add, add_points, state_after}
+use Rattle.tsc_cache.proofs.ExampleConfig.{at, of_first, usual, twenty, without_end, add, add_points, state_after}
 
 abbrev pub figures : ℕ → ℕ → ℕ → ℕ → Time → Figures
 figures pages rotations nodes bytes floor =

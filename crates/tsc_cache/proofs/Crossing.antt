@@ -12,13 +12,13 @@ use Rattle.tsc_page_nodes.specs.contracts.nodes.Nodes.{the_row as nodes}
 use Rattle.tsc_page_tree.specs.contracts.aggregate.Aggregate.{the_row as aggregate}
 use Rattle.tsc_page_tree.specs.contracts.leaf.Leaf.{the_row as leaf}
 use Rattle.tsc_page_tree.specs.contracts.branch.Branch.{the_row as branch}
-use Rattle.tsc_page.specs.contracts.root.Root.{the_row as root}
-use Rattle.tsc_page.specs.contracts.tree.Tree.{the_row as tree}
+use Rattle.tsc_page_tree.specs.contracts.root.Root.{the_row as root}
+use Rattle.tsc_page_tree.specs.contracts.tree.Tree.{the_row as tree}
 use Rattle.tsc_page.specs.contracts.page.Page.{the_row as page}
 use Rattle.tsc_span.specs.contracts.span.Shape.{the_row as shape}
 use Rattle.tsc_span.specs.contracts.span.Span.{the_row as span}
-use Rattle.tsc_page.specs.contracts.plain.PlainMark.{the_row as plain_mark}
-use Rattle.tsc_page.specs.contracts.plain.PlainPage.{the_row as plain_page}
+use Rattle.tsc_page_model.specs.contracts.plain.PlainMark.{the_row as plain_mark}
+use Rattle.tsc_page_model.specs.contracts.plain.PlainPage.{the_row as plain_page}
 use Rattle.tsc_cache.specs.contracts.added.Added.{the_row as added}
 use Rattle.tsc_cache.specs.contracts.config.Config.{the_row as config}
 use Rattle.tsc_cache.specs.contracts.plain_pages.PlainPages.{the_row as plain_pages}

@@ -5,9 +5,9 @@ use Rattle.std.specs.Option.{option_to_list}
 use Rattle.std.proofs.lemmas.List.{length-append, length-map, length_push, same_from_push}
 use Rattle.std.specs.Ordering.{ord_max}
 use Rattle.tsc_time.specs.Time.{Time, time_cmp, later}
-use Rattle.tsc_page_nodes.specs.PageView.{PageView}
-use Rattle.tsc_page_nodes.proofs.Standing.{later-max, later-swap}
-use Rattle.tsc_cache.specs.Settings.{Settings}
+use Rattle.tsc_page_model.specs.PageView.{PageView}
+use Rattle.tsc_page_model.proofs.Standing.{later-max, later-swap}
+use Rattle.tsc_cache.specs.ConfigView.{ConfigView}
 use Rattle.tsc_cache.specs.Rotation.{drops_oldest, highest, WereDropped, OldestStays}
 use Rattle.tsc_cache.specs.Stacks.{IsDroppedTop, Drops}
 
@@ -18,18 +18,18 @@ tops_long : (pages : List PageView) → length (tops pages) ≡ length pages
 tops_long pages = length-map pages (λ (p : PageView). p.top)
 
 -- an eviction under way has dropped some pages, from the oldest on
-pub record Dropping (settings : Settings) (floor now : Time) (old new : List PageView)
+pub record Dropping (config : ConfigView) (floor now : Time) (old new : List PageView)
     (raised : Time) (evicted : ℕ) : Type 0 where
   pub dropped : List PageView
   pub parts : old ≡ new ++ dropped
-  pub gone : WereDropped settings now (length new) (map (λ p. p.top) dropped)
+  pub gone : WereDropped config now (length new) (map (λ p. p.top) dropped)
   pub floor_is : raised ≡ highest floor (map (λ p. p.top) dropped)
   pub count : evicted ≡ length dropped
 
 -- nothing was dropped yet
-pub dropping-none : (settings : Settings) (floor now : Time) (pages : List PageView) →
-    Dropping settings floor now pages pages floor 0
-dropping-none settings floor now pages = record {
+pub dropping-none : (config : ConfigView) (floor now : Time) (pages : List PageView) →
+    Dropping config floor now pages pages floor 0
+dropping-none config floor now pages = record {
   dropped = [];
   parts = sym (append-nil pages);
   gone = tt;
@@ -38,12 +38,12 @@ dropping-none settings floor now pages = record {
 }
 
 -- one page more
-pub dropping-more : (settings : Settings) (floor now : Time) (old pages new : List PageView)
+pub dropping-more : (config : ConfigView) (floor now : Time) (old pages new : List PageView)
     (oldest : PageView) (raised t after : Time) (evicted : ℕ)
-    → Dropping settings floor now old pages raised evicted → after ≡ ord_max time_cmp raised t
-    → pages ≡ new ++ oldest ∷ [] → IsDroppedTop settings now pages (Some t)
-    → Dropping settings floor now old new after (evicted + 1)
-dropping-more settings floor now old pages new oldest raised t after evicted so_far is popped
+    → Dropping config floor now old pages raised evicted → after ≡ ord_max time_cmp raised t
+    → pages ≡ new ++ oldest ∷ [] → IsDroppedTop config now pages (Some t)
+    → Dropping config floor now old new after (evicted + 1)
+dropping-more config floor now old pages new oldest raised t after evicted so_far is popped
     found =
     let same = same_from_push newer new p oldest (sym found.2 ∙ popped) in
     let top_is : t ≡ oldest.top = sym found.3 ∙ ap (λ (q : PageView). q.top) same.1 in
@@ -55,9 +55,9 @@ dropping-more settings floor now old pages new oldest raised t after evicted so_
       parts = so_far.parts ∙ ap (λ ps. ps ++ so_far.dropped) popped ∙
           append_assoc new (oldest ∷ []) so_far.dropped;
       gone = (
-        subst (λ u. drops_oldest settings (length new) u now ≡ true) top_is
-            (subst (λ ps. drops_oldest settings (length ps) t now ≡ true) same.0 found.4),
-        subst (λ n. WereDropped settings now n (tops so_far.dropped)) long so_far.gone,
+        subst (λ u. drops_oldest config (length new) u now ≡ true) top_is
+            (subst (λ ps. drops_oldest config (length ps) t now ≡ true) same.0 found.4),
+        subst (λ n. WereDropped config now n (tops so_far.dropped)) long so_far.gone,
       );
       floor_is = is ∙ later-max raised t ∙ later-swap raised t ∙
           ap (λ x. later x raised) top_is ∙ ap (later oldest.top) so_far.floor_is;
@@ -71,16 +71,16 @@ dropping-more settings floor now old pages new oldest raised t after evicted so_
     p = found.1
 
 -- no page more is dropped
-pub dropping-end : (settings : Settings) (floor now : Time) (old new : List PageView)
+pub dropping-end : (config : ConfigView) (floor now : Time) (old new : List PageView)
     (raised : Time) (evicted : ℕ)
-    → Dropping settings floor now old new raised evicted →
-    OldestStays settings now (map (λ p. p.top) new)
-    → Drops settings floor now old new raised evicted
-dropping-end settings floor now old new raised evicted done stays = record {
+    → Dropping config floor now old new raised evicted →
+    OldestStays config now (map (λ p. p.top) new)
+    → Drops config floor now old new raised evicted
+dropping-end config floor now old new raised evicted done stays = record {
   dropped = done.dropped;
   parts = done.parts;
   evicts = record {
-    gone = subst (λ n. WereDropped settings now n (tops done.dropped)) (sym (tops_long new))
+    gone = subst (λ n. WereDropped config now n (tops done.dropped)) (sym (tops_long new))
         done.gone;
     stops = stays;
   };
@@ -95,8 +95,8 @@ popped_plain ps qs (Some p) some e = (p, e)
 popped_plain ps qs None some e = cc
 
 -- those dropped are no more than there were
-pub dropped_count : (settings : Settings) (floor now : Time) (old new : List PageView)
-    (raised : Time) (evicted : ℕ) → Dropping settings floor now old new raised evicted →
+pub dropped_count : (config : ConfigView) (floor now : Time) (old new : List PageView)
+    (raised : Time) (evicted : ℕ) → Dropping config floor now old new raised evicted →
     evicted + length new ≡ length old
-dropped_count settings floor now old new raised evicted d = let long = ap length d.parts ∙
+dropped_count config floor now old new raised evicted d = let long = ap length d.parts ∙
     length-append new d.dropped in let had = d.count in omega arith

@@ -6,9 +6,9 @@ use Rattle.std.proofs.lemmas.Grind.{reverse_onto}
 use Rattle.std.proofs.lemmas.Bool.{cases_Bool, and_parts}
 use Rattle.std.proofs.lemmas.List.Elements.{All-nil, All-cons}
 use Rattle.tsc_time.specs.Time.{Time, later}
-use Rattle.tsc_page_nodes.specs.Page.{PageMarks, top}
-use Rattle.tsc_page_nodes.proofs.Standing.{later-swap}
-use Rattle.tsc_cache.specs.Settings.{Settings}
+use Rattle.tsc_page_model.specs.Page.{PageMarks, top}
+use Rattle.tsc_page_model.proofs.Standing.{later-swap}
+use Rattle.tsc_cache.specs.ConfigView.{ConfigView}
 use Rattle.tsc_cache.specs.Rotation.{Eviction, is_past_retention, drops_oldest, evict, highest, WereDropped, OldestStays, Evicts}
 use Rattle.tsc_cache.specs.Laws.{PartsPages}
 
@@ -33,40 +33,40 @@ lifted-highest floor (p ∷ ps) =
     ∙ later-swap (highest floor (map top ps)) (top p)
 
 -- The one thing that others need of the policy: a page that goes is past its retention.
-pub goes_past : (settings : Settings) (newer : ℕ) (t now : Time) →
-    drops_oldest settings newer t now ≡ true →
-    is_past_retention settings.retention now t ≡ true
-goes_past settings newer t now goes = (and_parts _ _ goes).1
+pub goes_past : (config : ConfigView) (newer : ℕ) (t now : Time) →
+    drops_oldest config newer t now ≡ true →
+    is_past_retention config.retention now t ≡ true
+goes_past config newer t now goes = (and_parts _ _ goes).1
 
-module _ (settings : Settings) (now : Time) where
+module _ (config : ConfigView) (now : Time) where
   -- those that were dropped are past their retention
-  pub dropped_past : (newer : ℕ) (ts : List Time) → WereDropped settings now newer ts →
-      All (λ t. is_past_retention settings.retention now t ≡ true) ts
-  dropped_past newer [] gone = All-nil (λ t. is_past_retention settings.retention now t ≡ true)
+  pub dropped_past : (newer : ℕ) (ts : List Time) → WereDropped config now newer ts →
+      All (λ t. is_past_retention config.retention now t ≡ true) ts
+  dropped_past newer [] gone = All-nil (λ t. is_past_retention config.retention now t ≡ true)
   dropped_past newer (t ∷ ts) gone =
-      All-cons (λ u. is_past_retention settings.retention now u ≡ true) t ts
-      (goes_past settings newer t now gone.0) (dropped_past (suc newer) ts gone.1)
+      All-cons (λ u. is_past_retention config.retention now u ≡ true) t ts
+      (goes_past config newer t now gone.0) (dropped_past (suc newer) ts gone.1)
 
   -- pages from oldest to newest that go one after another, before so many that stay
   abbrev Going : ℕ → List PageMarks → Type 0
   Going left [] = Unit {0}
   Going left (p ∷ ps) =
-      (drops_oldest settings (length ps + left) (top p) now ≡ true) × Going left ps
+      (drops_oldest config (length ps + left) (top p) now ≡ true) × Going left ps
 
   -- the oldest of pages from oldest to newest stays
   abbrev Stays : List PageMarks → Type 0
   Stays [] = Unit {0}
-  Stays (p ∷ ps) = drops_oldest settings (length ps) (top p) now ≡ false
+  Stays (p ∷ ps) = drops_oldest config (length ps) (top p) now ≡ false
 
   -- an eviction drops those that go
   evict-goes : (going staying : List PageMarks) (floor : Time) → Going (length staying) going →
-      Stays staying → evict settings now floor (going ++ staying) ≡
+      Stays staying → evict config now floor (going ++ staying) ≡
       record { floor = lifted floor going; pages = staying; evicted = length going }
   evict-goes [] [] floor go stays = refl
   evict-goes [] (p ∷ ps) floor go stays = rw stays refl
   evict-goes (p ∷ ps) staying floor go stays =
-      let goes : drops_oldest settings (length (ps ++ staying)) (top p) now ≡ true =
-      subst (λ n. drops_oldest settings n (top p) now ≡ true) (sym (length-append ps staying))
+      let goes : drops_oldest config (length (ps ++ staying)) (top p) now ≡ true =
+      subst (λ n. drops_oldest config n (top p) now ≡ true) (sym (length-append ps staying))
       go.0 in
       rw goes (ap (λ (e : Eviction). record {
         floor = e.floor;
@@ -76,36 +76,36 @@ module _ (settings : Settings) (now : Time) where
 
   -- one more that goes, as the last
   going-push : (ps : List PageMarks) (p : PageMarks) (left : ℕ) → Going (suc left) ps →
-      drops_oldest settings left (top p) now ≡ true → Going left (ps ++ p ∷ [])
+      drops_oldest config left (top p) now ≡ true → Going left (ps ++ p ∷ [])
   going-push [] p left go goes = (
-    subst (λ n. drops_oldest settings n (top p) now ≡ true) (omega arith) goes,
+    subst (λ n. drops_oldest config n (top p) now ≡ true) (omega arith) goes,
     tt,
   )
   going-push (q ∷ ps) p left go goes = (
-    subst (λ n. drops_oldest settings n (top q) now ≡ true)
+    subst (λ n. drops_oldest config n (top q) now ≡ true)
         (let long = length_push ps p in omega arith) go.0,
     going-push ps p left go.1 goes,
   )
 
   -- those that were dropped go, from oldest to newest
   going_from : (dropped : List PageMarks) (left : ℕ) →
-      WereDropped settings now left (map top dropped) → Going left (reverse dropped)
+      WereDropped config now left (map top dropped) → Going left (reverse dropped)
   going_from [] left gone = tt
   going_from (p ∷ ps) left gone = rw (reverse_onto ps p [])
       (going-push (reverse ps) p left (going_from ps (suc left) gone.1) gone.0)
 
   -- one more that was dropped, as the oldest
-  dropped-push : (ts : List Time) (t : Time) (left : ℕ) → WereDropped settings now left ts →
-      drops_oldest settings (length ts + left) t now ≡ true →
-      WereDropped settings now left (ts ++ t ∷ [])
+  dropped-push : (ts : List Time) (t : Time) (left : ℕ) → WereDropped config now left ts →
+      drops_oldest config (length ts + left) t now ≡ true →
+      WereDropped config now left (ts ++ t ∷ [])
   dropped-push [] t left gone goes = (
-    subst (λ n. drops_oldest settings n t now ≡ true) (omega arith) goes,
+    subst (λ n. drops_oldest config n t now ≡ true) (omega arith) goes,
     tt,
   )
   dropped-push (u ∷ ts) t left gone goes = (
     gone.0,
     dropped-push ts t (suc left) gone.1
-        (subst (λ n. drops_oldest settings n t now ≡ true) (omega arith) goes),
+        (subst (λ n. drops_oldest config n t now ≡ true) (omega arith) goes),
   )
 
   -- the tops of what is turned, up to the last
@@ -118,14 +118,14 @@ module _ (settings : Settings) (now : Time) where
 
   -- those that go were dropped, from newest to oldest
   dropped_from : (going : List PageMarks) (left : ℕ) → Going left going →
-      WereDropped settings now left (map top (reverse going))
+      WereDropped config now left (map top (reverse going))
   dropped_from [] left go = tt
   dropped_from (p ∷ ps) left go = rw (tops_turned p ps)
       (dropped-push (map top (reverse ps)) (top p) left (dropped_from ps left go.1)
-      (subst (λ n. drops_oldest settings (n + left) (top p) now ≡ true) (sym (tops_long ps)) go.0))
+      (subst (λ n. drops_oldest config (n + left) (top p) now ≡ true) (sym (tops_long ps)) go.0))
 
   -- the oldest one stays, from oldest to newest
-  stays_from : (stay : List PageMarks) → OldestStays settings now (map top stay) →
+  stays_from : (stay : List PageMarks) → OldestStays config now (map top stay) →
       Stays (reverse stay)
   stays_from stay stops = by (reverse stay) refl
     where
@@ -134,25 +134,25 @@ module _ (settings : Settings) (now : Time) where
       by (p ∷ ps) e =
           let tops : map top stay ≡ map top (reverse ps) ++ top p ∷ [] =
           ap (map top) (sym (reverse-reverse stay) ∙ ap reverse e) ∙ tops_turned p ps in
-          subst (λ n. drops_oldest settings n (top p) now ≡ false) (tops_long ps)
+          subst (λ n. drops_oldest config n (top p) now ≡ false) (tops_long ps)
           (stops (map top (reverse ps)) (top p) tops)
 
   -- and from newest to oldest
   stops_from : (staying : List PageMarks) → Stays staying →
-      OldestStays settings now (map top (reverse staying))
+      OldestStays config now (map top (reverse staying))
   stops_from [] stays [] oldest e = cc
   stops_from [] stays (t ∷ ts) oldest e = cc
   stops_from (p ∷ ps) stays newer oldest e =
       let same = same_from_push (map top (reverse ps)) newer (top p) oldest
       (sym (tops_turned p ps) ∙ e) in
-      rw (← same.1) (subst (λ n. drops_oldest settings n (top p) now ≡ false)
+      rw (← same.1) (subst (λ n. drops_oldest config n (top p) now ≡ false)
       (sym (tops_long ps) ∙ ap length same.0) stays)
 
   -- An eviction of pages that are parted so drops the second part, and lifts the floor to the
   -- latest of its tops.
   pub evict-is : (floor : Time) (stay dropped : List PageMarks) →
-      Evicts settings now (map top stay) (map top dropped)
-      → evict settings now floor (reverse (stay ++ dropped)) ≡
+      Evicts config now (map top stay) (map top dropped)
+      → evict config now floor (reverse (stay ++ dropped)) ≡
       record {
         floor = highest floor (map top dropped);
         pages = reverse stay;
@@ -161,10 +161,10 @@ module _ (settings : Settings) (now : Time) where
   evict-is floor stay dropped h =
       let made : Time → ℕ → Eviction =
       λ lift count. record { floor = lift; pages = reverse stay; evicted = count } in
-      let gone : WereDropped settings now (length (reverse stay)) (map top dropped) =
-      subst (λ n. WereDropped settings now n (map top dropped))
+      let gone : WereDropped config now (length (reverse stay)) (map top dropped) =
+      subst (λ n. WereDropped config now n (map top dropped))
       (length-map stay top ∙ sym (length-reverse stay)) h.gone in
-      ap (evict settings now floor) (reverse-append stay dropped)
+      ap (evict config now floor) (reverse-append stay dropped)
       ∙ evict-goes (reverse dropped) (reverse stay) floor
       (going_from dropped (length (reverse stay)) gone) (stays_from stay h.stops)
       ∙ ap (λ lift. made lift (length (reverse dropped))) (lifted-highest floor dropped)
@@ -180,13 +180,13 @@ module _ (settings : Settings) (now : Time) where
 
   parted : (pages : List PageMarks) → Parted pages
   parted [] = record { going = []; staying = []; parts = refl; goes = tt; stays = tt }
-  parted (p ∷ ps) = elim (cases_Bool (drops_oldest settings (length ps) (top p) now)) [
+  parted (p ∷ ps) = elim (cases_Bool (drops_oldest config (length ps) (top p) now)) [
     | inl h ↦ let rest = parted ps in record {
       going = p ∷ rest.going;
       staying = rest.staying;
       parts = ap (λ qs. p ∷ qs) rest.parts;
       goes = (
-        subst (λ n. drops_oldest settings n (top p) now ≡ true)
+        subst (λ n. drops_oldest config n (top p) now ≡ true)
             (ap length rest.parts ∙ length-append rest.going rest.staying) h,
         rest.goes,
       );
@@ -196,25 +196,25 @@ module _ (settings : Settings) (now : Time) where
   ]
 
   -- An eviction parts the pages in those that stay and those that it drops.
-  pub evicts_the : (floor : Time) (pages : List PageMarks) → PartsPages settings now floor pages
+  pub evicts_the : (floor : Time) (pages : List PageMarks) → PartsPages config now floor pages
   evicts_the floor pages =
       let p = parted (reverse pages) in
       let stay : List PageMarks = reverse p.staying in
       let dropped : List PageMarks = reverse p.going in
       let parts : pages ≡ stay ++ dropped = sym (reverse-reverse pages) ∙ ap reverse p.parts ∙
       reverse-append p.going p.staying in
-      let evicts : Evicts settings now (map top stay) (map top dropped) = record {
+      let evicts : Evicts config now (map top stay) (map top dropped) = record {
         gone = dropped_from p.going (length (map top stay))
             (subst (λ n. Going n p.going) (sym (tops_long p.staying)) p.goes);
         stops = stops_from p.staying p.stays;
       } in
-      let is : evict settings now floor (reverse pages) ≡
+      let is : evict config now floor (reverse pages) ≡
       record {
         floor = highest floor (map top dropped);
         pages = reverse stay;
         evicted = length dropped;
       }
-      = ap (λ ps. evict settings now floor (reverse ps)) parts ∙
+      = ap (λ ps. evict config now floor (reverse ps)) parts ∙
       evict-is floor stay dropped evicts in
       record {
         stay = stay;

@@ -5,19 +5,19 @@ use Rattle.std.specs.List.{Contains}
 use Rattle.std.proofs.lemmas.Bool.{cases_Bool}
 use Rattle.std.proofs.lemmas.List.Elements.{Contains-append_cases}
 use Rattle.tsc_time.specs.Time.{Time, is_before, later, time_minus}
-use Rattle.tsc_time.proofs.TimeOrder.{later-tells, is_before-itself, is_before-opposite, no_earlier-transitive}
+use Rattle.tsc_time.proofs.TimeOrder.{later-reports, is_before-itself, is_before-opposite, no_earlier-transitive}
 use Rattle.tsc_time.proofs.Members.{IsIn, IsIn-from_Contains, Contains-from_IsIn}
 use Rattle.tsc_time.proofs.JointLemmas.{latest-each}
-use Rattle.tsc_page_nodes.specs.Page.{Mark, PageMarks, top}
+use Rattle.tsc_page_model.specs.Page.{Mark, PageMarks, top}
 use Rattle.tsc_cache.specs.Rotation.{highest, is_past_retention}
 use Rattle.tsc_cache.proofs.MarkLists.{all_marks}
 
 -- the later of two is before neither
 pub later-first : (a b : Time) → is_before (later a b) a ≡ false
-later-first a b = grind (arith, later-tells, is_before-itself, is_before-opposite)
+later-first a b = grind (arith, later-reports, is_before-itself, is_before-opposite)
 
 pub later-second : (a b : Time) → is_before (later a b) b ≡ false
-later-second a b = grind (arith, later-tells, is_before-itself)
+later-second a b = grind (arith, later-reports, is_before-itself)
 
 -- the highest of a floor and some tops is not below the floor
 pub highest-floor : (floor : Time) (tops : List Time) → is_before (highest floor tops) floor ≡ false
@@ -33,7 +33,7 @@ highest-reached floor tops = elim (reached tops)
   where
     reached : (ts : List Time) → (highest floor ts ≡ floor) ⊎ IsIn ts (highest floor ts)
     reached [] = inl refl
-    reached (t ∷ ts) = elim (later-tells t (highest floor ts)) [
+    reached (t ∷ ts) = elim (later-reports t (highest floor ts)) [
       | inl h ↦ rw h.1 (elim (reached ts) [ inl e ↦ inl e | inr i ↦ inr (inr i) ])
       | inr h ↦ rw h.1 (inr (inl refl))
     ]

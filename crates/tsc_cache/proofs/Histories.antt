@@ -5,13 +5,13 @@ use Rattle.std.specs.List.{Contains}
 use Rattle.std.proofs.lemmas.Grind.{flat_map-append}
 use Rattle.std.proofs.lemmas.List.Elements.{Contains-append_left, Contains-append_right, Contains-push}
 use Rattle.tsc_time.specs.Time.{Time, is_before, time_minus}
-use Rattle.tsc_time.specs.OwnedTime.{Owner, OwnedTime}
+use Rattle.tsc_time.specs.ValueView.{Owner, ValueView}
 use Rattle.tsc_time.specs.Joint.{joint_above, IsAtMost}
 use Rattle.tsc_time.proofs.TimeOrder.{is_before-itself, is_before-transitive, no_earlier-transitive}
 use Rattle.tsc_time.proofs.Members.{IsIn, IsIn-from_Contains}
-use Rattle.tsc_span.specs.Span.{Interval}
-use Rattle.tsc_page_nodes.specs.Page.{Mark}
-use Rattle.tsc_cache.specs.Settings.{Settings}
+use Rattle.tsc_span.specs.Span.{SpanView}
+use Rattle.tsc_page_model.specs.Page.{Mark}
+use Rattle.tsc_cache.specs.ConfigView.{ConfigView}
 use Rattle.tsc_cache.specs.State.{CacheState, opening, step_all, look}
 use Rattle.tsc_cache.specs.History.{Entry, History, state_from, state_of, marks_of, marks_on, BeginsWith}
 use Rattle.tsc_cache.specs.Laws.{KeptUp, Rising, FloorBehind, Real, IsClearOf, NoWriteBelowARead}
@@ -32,16 +32,16 @@ by_last_entry P first more h = onward [] h first
         (onward (start ++ e ∷ []) rest (more start e p))
 
 -- the state after two histories is what the second makes of that after the first
-pub state_from-append : (settings : Settings) (s : CacheState) (h g : History) →
-    state_from settings s (h ++ g) ≡ state_from settings (state_from settings s h) g
-state_from-append settings s [] g = refl
-state_from-append settings s (e ∷ h) g =
-    state_from-append settings (step_all settings s e.marks e.now).state h g
+pub state_from-append : (config : ConfigView) (s : CacheState) (h g : History) →
+    state_from config s (h ++ g) ≡ state_from config (state_from config s h) g
+state_from-append config s [] g = refl
+state_from-append config s (e ∷ h) g =
+    state_from-append config (step_all config s e.marks e.now).state h g
 
 -- after one entry more it is one step further
-pub state_of-push : (settings : Settings) (h : History) (e : Entry) →
-    state_of settings (h ++ e ∷ []) ≡ (step_all settings (state_of settings h) e.marks e.now).state
-state_of-push settings h e = state_from-append settings (opening settings) h (e ∷ [])
+pub state_of-push : (config : ConfigView) (h : History) (e : Entry) →
+    state_of config (h ++ e ∷ []) ≡ (step_all config (state_of config h) e.marks e.now).state
+state_of-push config h e = state_from-append config (opening config) h (e ∷ [])
 
 -- the marks of two histories, one after the other
 marks_of-append : (h g : History) → marks_of (h ++ g) ≡ marks_of h ++ marks_of g
@@ -51,18 +51,18 @@ marks_of-push : (h : History) (e : Entry) → marks_of (h ++ e ∷ []) ≡ marks
 marks_of-push h e = marks_of-append h (e ∷ []) ∙ ap (λ ms. marks_of h ++ ms) (append-nil e.marks)
 
 -- the state after a history keeps the marks of its entries
-pub state_keeps : (settings : Settings) (h : History) →
-    KeepsMarks (marks_of h) (state_of settings h)
-state_keeps settings h = by_last_entry (λ g. KeepsMarks (marks_of g) (state_of settings g))
-    (keeps_none settings)
-    (λ g e k. rw (state_of-push settings g e, marks_of-push g e)
-    (keeps_all_more (marks_of g) settings (state_of settings g) e.marks e.now k))
+pub state_keeps : (config : ConfigView) (h : History) →
+    KeepsMarks (marks_of h) (state_of config h)
+state_keeps config h = by_last_entry (λ g. KeepsMarks (marks_of g) (state_of config g))
+    (keeps_none config)
+    (λ g e k. rw (state_of-push config g e, marks_of-push g e)
+    (keeps_all_more (marks_of g) config (state_of config g) e.marks e.now k))
     h
 
 -- a lookup answers what the floor and all entries on the span come to
 pub real_answers : Real
-real_answers settings h s = keeps_answers (marks_of h) (state_of settings h) s
-    (state_keeps settings h)
+real_answers config h s = keeps_answers (marks_of h) (state_of config h) s
+    (state_keeps config h)
 
 -- a mark of an entry is one of those of the history
 mark_in : (h : History) (e : Entry) (m : Mark) → Contains h e → Contains e.marks m →
@@ -79,28 +79,28 @@ mark_in h e m c own = there h (IsIn-from_Contains h e c)
 
 -- a mark is at most what a lookup of a span that it overlaps answers
 pub kept_up : KeptUp
-kept_up settings h e m s c own over =
-    subst (IsAtMost m.value) (sym (real_answers settings h s))
-    (above_each (state_of settings h).floor (marks_on s h) m.value
+kept_up config h e m s c own over =
+    subst (IsAtMost m.value) (sym (real_answers config h s))
+    (above_each (state_of config h).floor (marks_on s h) m.value
     (values_on-has s (marks_of h) m (mark_in h e m c own) over))
 
 -- entries lower the floor of no state
-pub floor_rises : (settings : Settings) (s : CacheState) (h : History) →
-    is_before (state_from settings s h).floor s.floor ≡ false
-floor_rises settings s [] = is_before-itself s.floor
-floor_rises settings s (e ∷ h) =
-    let t : CacheState = (step_all settings s e.marks e.now).state in
-    no_earlier-transitive s.floor t.floor (state_from settings t h).floor
-    (step_all-floor settings s e.marks e.now) (floor_rises settings t h)
+pub floor_rises : (config : ConfigView) (s : CacheState) (h : History) →
+    is_before (state_from config s h).floor s.floor ≡ false
+floor_rises config s [] = is_before-itself s.floor
+floor_rises config s (e ∷ h) =
+    let t : CacheState = (step_all config s e.marks e.now).state in
+    no_earlier-transitive s.floor t.floor (state_from config t h).floor
+    (step_all-floor config s e.marks e.now) (floor_rises config t h)
 
-rising_floors : (settings : Settings) (start h : History) → BeginsWith h start →
-    is_before (state_of settings h).floor (state_of settings start).floor ≡ false
-rising_floors settings start h b =
-    rw (b.1, state_from-append settings (opening settings) start b.0)
-    (floor_rises settings (state_of settings start) b.0)
+rising_floors : (config : ConfigView) (start h : History) → BeginsWith h start →
+    is_before (state_of config h).floor (state_of config start).floor ≡ false
+rising_floors config start h b =
+    rw (b.1, state_from-append config (opening config) start b.0)
+    (floor_rises config (state_of config start) b.0)
 
 -- what the entries of a beginning added, those of the whole did
-more_entries : (start h : History) (s : Interval) (v : OwnedTime) → BeginsWith h start →
+more_entries : (start h : History) (s : SpanView) (v : ValueView) → BeginsWith h start →
     Contains (marks_on s start) v → Contains (marks_on s h) v
 more_entries start h s v b c =
     let m = values_on-from s (marks_of start) v c in
@@ -109,17 +109,17 @@ more_entries start h s v b c =
     (Contains-append_left (marks_of start) (marks_of b.0) m.0 m.1) in
     rw (← m.3) (values_on-has s (marks_of h) m.0 there m.2)
 
-rising_answers : (settings : Settings) (start h : History) (s : Interval) → BeginsWith h start →
-    IsAtMost (look (state_of settings start) s) (look (state_of settings h) s)
-rising_answers settings start h s b =
-    let low : Time = (state_of settings start).floor in
-    let high : Time = (state_of settings h).floor in
+rising_answers : (config : ConfigView) (start h : History) (s : SpanView) → BeginsWith h start →
+    IsAtMost (look (state_of config start) s) (look (state_of config h) s)
+rising_answers config start h s b =
+    let low : Time = (state_of config start).floor in
+    let high : Time = (state_of config h).floor in
     let rises : IsAtMost (joint_above low (marks_on s start)) (joint_above high (marks_on s h))
-    = more_above low high (marks_on s start) (marks_on s h) (rising_floors settings start h b)
+    = more_above low high (marks_on s start) (marks_on s h) (rising_floors config start h b)
     (λ v c. more_entries start h s v b c) in
-    subst (λ (v : OwnedTime). IsAtMost v (look (state_of settings h) s))
-    (sym (real_answers settings start s))
-    (subst (IsAtMost (joint_above low (marks_on s start))) (sym (real_answers settings h s)) rises)
+    subst (λ (v : ValueView). IsAtMost v (look (state_of config h) s))
+    (sym (real_answers config start s))
+    (subst (IsAtMost (joint_above low (marks_on s start))) (sym (real_answers config h s)) rises)
 
 -- neither an answer nor the floor sinks
 pub rising : Rising
@@ -130,37 +130,37 @@ rising = record {
 
 -- the floor after a history stands where it did at first, or lies before the limit of one of its
 -- entries
-abbrev IsBehind : Settings → History → Type 0
-IsBehind settings h = ((state_of settings h).floor ≡ settings.low_water)
+abbrev IsBehind : ConfigView → History → Type 0
+IsBehind config h = ((state_of config h).floor ≡ config.low_water)
     ⊎ ((e : Entry) × (limit : Time) × Contains h e ×
-    (time_minus e.now settings.retention ≡ Some limit) ×
-    (is_before (state_of settings h).floor limit ≡ true))
+    (time_minus e.now config.retention ≡ Some limit) ×
+    (is_before (state_of config h).floor limit ≡ true))
 
 -- where an entry lifts it, then to before its own limit
-behind_one_more : (settings : Settings) (h : History) (e : Entry) → IsBehind settings h →
-    IsBehind settings (h ++ e ∷ [])
-behind_one_more settings h e behind =
-    rw (state_of-push settings h e)
-    (elim (step_all-lifts settings (state_of settings h) e.marks e.now) [
+behind_one_more : (config : ConfigView) (h : History) (e : Entry) → IsBehind config h →
+    IsBehind config (h ++ e ∷ [])
+behind_one_more config h e behind =
+    rw (state_of-push config h e)
+    (elim (step_all-lifts config (state_of config h) e.marks e.now) [
       | inl same ↦ rw same (elim behind [
         | inl b ↦ inl b
         | inr b ↦ inr (b.0, b.1, Contains-append_left h (e ∷ []) b.0 b.2, b.3, b.4)
       ])
-      | inr past ↦ let limit = past_limit settings.retention e.now
-          (step_all settings (state_of settings h) e.marks e.now).state.floor past in
+      | inr past ↦ let limit = past_limit config.retention e.now
+          (step_all config (state_of config h) e.marks e.now).state.floor past in
           inr (e, limit.0, Contains-push h e, limit.1, limit.2)
     ])
 
 -- so it is no later than the retention allows
 pub floor_behind : FloorBehind
-floor_behind settings h = by_last_entry (IsBehind settings) (inl refl) (behind_one_more settings) h
+floor_behind config h = by_last_entry (IsBehind config) (inl refl) (behind_one_more config) h
 
 -- a write that is clear of an answer is clear of each read that is at most that
-pub clear_below : (read answer : OwnedTime) (writer : Owner) (time : Time) → IsAtMost read answer →
+pub clear_below : (read answer : ValueView) (writer : Owner) (time : Time) → IsAtMost read answer →
     IsClearOf answer writer time → IsClearOf read writer time
 clear_below read answer writer time below clear = grind (arith, is_before-transitive)
 
 pub no_write_below_a_read : NoWriteBelowARead
-no_write_below_a_read settings h s writer time clear e m c own over =
-    clear_below m.value (look (state_of settings h) s) writer time
-    (kept_up settings h e m s c own over) clear
+no_write_below_a_read config h s writer time clear e m c own over =
+    clear_below m.value (look (state_of config h) s) writer time
+    (kept_up config h e m s c own over) clear

@@ -5,20 +5,20 @@ use Rattle.std.proofs.lemmas.Grind.{flat_map-append}
 use Rattle.std.proofs.lemmas.Bool.{cases_Bool, both_ways, and_parts, and_from}
 use Rattle.std.proofs.lemmas.List.Elements.{Contains-append_left, Contains-append_right, Contains-append_cases, Contains-push, Contains-push_cases}
 use Rattle.tsc_time.specs.Time.{Time, is_before}
-use Rattle.tsc_time.specs.OwnedTime.{OwnedTime, unowned}
+use Rattle.tsc_time.specs.ValueView.{ValueView, unowned}
 use Rattle.tsc_time.specs.Joint.{joint_above, IsAtMost}
 use Rattle.tsc_time.proofs.TimeOrder.{no_earlier-transitive}
 use Rattle.tsc_time.proofs.RatchetOrder.{IsAtMost-antisymmetric, IsAtMost-transitive}
-use Rattle.tsc_span.specs.Span.{Interval, nothing, between, overlaps, is_empty_span}
-use Rattle.tsc_page_nodes.specs.Page.{Mark, PageMarks, top, values_on}
+use Rattle.tsc_span.specs.Span.{SpanView, nothing, between, overlaps, is_empty_span}
+use Rattle.tsc_page_model.specs.Page.{Mark, PageMarks, top, values_on}
 use Rattle.tsc_cache.specs.Rotation.{highest, rotate}
-use Rattle.tsc_cache.specs.Settings.{Settings}
+use Rattle.tsc_cache.specs.ConfigView.{ConfigView}
 use Rattle.tsc_cache.specs.State.{CacheState, opening, is_kept, marked, step, step_all, look}
 use Rattle.tsc_cache.proofs.Evictions.{evicts_the}
 use Rattle.tsc_cache.proofs.FloorJoints.{above_floor, above_each, least_above, at_most_unowned}
 use Rattle.tsc_cache.proofs.MarkLists.{all_marks, look-is, values_on-has, values_on-from}
 use Rattle.tsc_cache.proofs.Floors.{highest-floor, highest-each}
-use Rattle.tsc_cache.proofs.Steps.{step-tells, rotate-is}
+use Rattle.tsc_cache.proofs.Steps.{step-reports, rotate-is}
 
 -- Its pages have some of the marks that were added, and each that would be kept above its floor.
 pub record KeepsMarks (ms : List Mark) (s : CacheState) : Type 0 where
@@ -26,8 +26,8 @@ pub record KeepsMarks (ms : List Mark) (s : CacheState) : Type 0 where
   pub each : (m : Mark) → Contains ms m → is_kept s.floor m ≡ true → Contains (all_marks s.pages) m
 
 -- nothing was added yet
-pub keeps_none : (settings : Settings) → KeepsMarks [] (opening settings)
-keeps_none settings = record { some = λ m c. c; each = λ m c k. c }
+pub keeps_none : (config : ConfigView) → KeepsMarks [] (opening config)
+keeps_none config = record { some = λ m c. c; each = λ m c k. c }
 
 -- one more mark that is not kept
 not_kept_more : (ms : List Mark) (s : CacheState) (m : Mark) → is_kept s.floor m ≡ false →
@@ -112,36 +112,36 @@ dropped_go ms s t stay dropped parts left lifted h = record {
         (is_before (highest s.floor (map top dropped)) x.value.time) (rw lifted at k)).1
 
 -- so a rotation keeps what it has to
-rotated_keeps : (ms : List Mark) (settings : Settings) (s : CacheState) (span : Interval)
-    (now : Time) → KeepsMarks ms s → KeepsMarks ms (rotate settings s span now).state
-rotated_keeps ms settings s span now h =
-    let v = evicts_the settings now s.floor s.pages in
-    let is = rotate-is settings s span now v in
-    dropped_go ms s (rotate settings s span now).state v.stay v.dropped v.parts
+rotated_keeps : (ms : List Mark) (config : ConfigView) (s : CacheState) (span : SpanView)
+    (now : Time) → KeepsMarks ms s → KeepsMarks ms (rotate config s span now).state
+rotated_keeps ms config s span now h =
+    let v = evicts_the config now s.floor s.pages in
+    let is = rotate-is config s span now v in
+    dropped_go ms s (rotate config s span now).state v.stay v.dropped v.parts
     (ap (λ (t : CacheState). all_marks t.pages) is) (ap (λ (t : CacheState). t.floor) is) h
 
 -- one Add more, whatever becomes of it
-pub keeps_one_more : (ms : List Mark) (settings : Settings) (s : CacheState) (m : Mark) (now : Time)
-    → KeepsMarks ms s → KeepsMarks (ms ++ m ∷ []) (step settings s m now).state
-keeps_one_more ms settings s m now h = elim (step-tells settings s m now) [
+pub keeps_one_more : (ms : List Mark) (config : ConfigView) (s : CacheState) (m : Mark) (now : Time)
+    → KeepsMarks ms s → KeepsMarks (ms ++ m ∷ []) (step config s m now).state
+keeps_one_more ms config s m now h = elim (step-reports config s m now) [
   | inl t ↦ rw t.1 (not_kept_more ms s m t.0 h)
   | inr (inl t) ↦ rw t.3 (marked_more ms s m t.0 t.1 t.2 h)
-  | inr (inr t) ↦ rw t (marked_more ms (rotate settings s m.span now).state m _ _ refl
-      (rotated_keeps ms settings s m.span now h))
+  | inr (inr t) ↦ rw t (marked_more ms (rotate config s m.span now).state m _ _ refl
+      (rotated_keeps ms config s m.span now h))
 ]
 
 -- an Add of several marks more
-pub keeps_all_more : (ms : List Mark) (settings : Settings) (s : CacheState) (ns : List Mark)
-    (now : Time) → KeepsMarks ms s → KeepsMarks (ms ++ ns) (step_all settings s ns now).state
-keeps_all_more ms settings s [] now h = rw (append-nil ms) h
-keeps_all_more ms settings s (n ∷ ns) now h =
-    subst (λ (all : List Mark). KeepsMarks all (step_all settings s (n ∷ ns) now).state)
+pub keeps_all_more : (ms : List Mark) (config : ConfigView) (s : CacheState) (ns : List Mark)
+    (now : Time) → KeepsMarks ms s → KeepsMarks (ms ++ ns) (step_all config s ns now).state
+keeps_all_more ms config s [] now h = rw (append-nil ms) h
+keeps_all_more ms config s (n ∷ ns) now h =
+    subst (λ (all : List Mark). KeepsMarks all (step_all config s (n ∷ ns) now).state)
     (append_assoc ms (n ∷ []) ns)
-    (keeps_all_more (ms ++ n ∷ []) settings (step settings s n now).state ns now
-    (keeps_one_more ms settings s n now h))
+    (keeps_all_more (ms ++ n ∷ []) config (step config s n now).state ns now
+    (keeps_one_more ms config s n now h))
 
 -- a mark on a span that is not above the floor is at most that
-at_floor_or_kept : (floor : Time) (m : Mark) (span : Interval) → overlaps m.span span ≡ true →
+at_floor_or_kept : (floor : Time) (m : Mark) (span : SpanView) → overlaps m.span span ≡ true →
     (is_kept floor m ≡ true) ⊎ IsAtMost m.value (unowned floor)
 at_floor_or_kept floor m span over = elim (cases_Bool (is_before floor m.value.time)) [
   | inl h ↦ inl (and_from (not (is_empty_span m.span)) (is_before floor m.value.time)
@@ -149,17 +149,17 @@ at_floor_or_kept floor m span over = elim (cases_Bool (is_before floor m.value.t
   | inr h ↦ inr (at_most_unowned floor m.value h)
 ]
   where
-    some_span : (s t : Interval) → overlaps s t ≡ true → not (is_empty_span s) ≡ true
+    some_span : (s t : SpanView) → overlaps s t ≡ true → not (is_empty_span s) ≡ true
     some_span nothing t over = let none : false ≡ true = over in cc
     some_span (between f e) t over = refl
 
 -- Where some marks are among others as far as they would be kept above a floor, their values come
 -- to no more than those of the others above it.
-among_others : (floor : Time) (ms others : List Mark) (span : Interval) →
+among_others : (floor : Time) (ms others : List Mark) (span : SpanView) →
     ((m : Mark) → Contains ms m → is_kept floor m ≡ true → Contains others m)
     → IsAtMost (joint_above floor (values_on span ms)) (joint_above floor (values_on span others))
 among_others floor ms others span among =
-    let most : OwnedTime = joint_above floor (values_on span others) in
+    let most : ValueView = joint_above floor (values_on span others) in
     let low : IsAtMost (unowned floor) most = above_floor floor (values_on span others) in
     least_above floor (values_on span ms) most low (λ v c.
     let m = values_on-from span ms v c in
@@ -170,7 +170,7 @@ among_others floor ms others span among =
     ]))
 
 -- Such a state answers as all of the marks do above its floor.
-pub keeps_answers : (ms : List Mark) (s : CacheState) (span : Interval) → KeepsMarks ms s →
+pub keeps_answers : (ms : List Mark) (s : CacheState) (span : SpanView) → KeepsMarks ms s →
     look s span ≡ joint_above s.floor (values_on span ms)
 keeps_answers ms s span h =
     look-is s span

@@ -15,12 +15,12 @@ pub mod MarkedFront
 pub mod Batches
 pub mod Droppings
 pub mod Crossing
-pub mod ExampleSettings
+pub mod ExampleConfig
 pub mod RatchetExamples
 pub mod SpanExamples
 pub mod RotationExamples
 pub mod SizeExamples
 pub mod BatchExamples
-pub mod KeysTold
-pub mod CountsTold
+pub mod KeysReported
+pub mod CountsReported
 pub mod CountExamples

@@ -3,20 +3,20 @@ use Rattle.std.proofs.Common.{◌≡◌, ◌⊎◌, inl, inr, ◌∙◌, refl, s
 use Rattle.std.proofs.lemmas.List.{map-append, length_push, same_from_push}
 use Rattle.std.proofs.lemmas.List.Elements.{Contains-append_cases, Contains-append_left}
 use Rattle.tsc_time.specs.Time.{Time, zero_time, is_before}
-use Rattle.tsc_time.specs.OwnedTime.{OwnedTime, unowned}
+use Rattle.tsc_time.specs.ValueView.{ValueView, unowned}
 use Rattle.tsc_time.specs.Joint.{joint, IsAtMost}
-use Rattle.tsc_time.proofs.TimeOrder.{is_before-tells}
+use Rattle.tsc_time.proofs.TimeOrder.{is_before-reports}
 use Rattle.tsc_time.proofs.Members.{IsIn, IsIn-from_Contains, Contains-from_IsIn}
 use Rattle.tsc_time.proofs.JointLemmas.{joint-above, joint-least, joint-append}
 use Rattle.tsc_time.proofs.RatchetOrder.{IsAtMost-itself, IsAtMost-antisymmetric}
-use Rattle.tsc_span.specs.Span.{Interval}
-use Rattle.tsc_page_nodes.specs.Page.{values_on}
-use Rattle.tsc_page_nodes.specs.PageView.{PageView, answer}
+use Rattle.tsc_span.specs.Span.{SpanView}
+use Rattle.tsc_page_model.specs.Page.{values_on}
+use Rattle.tsc_page_model.specs.PageView.{PageView, answer}
 use Rattle.tsc_cache.specs.CacheView.{latest_answer, LooksIntoViews}
 use Rattle.tsc_cache.specs.Stacks.{HaveTopsUpTo, AreStacked, pages_answer}
 
 -- what was looked into so far, with what is left
-pub record Looking (pages rest : List PageView) (span : Interval) (best : OwnedTime) (looked : ℕ) :
+pub record Looking (pages rest : List PageView) (span : SpanView) (best : ValueView) (looked : ℕ) :
     Type 0 where
   pub into : List PageView
   pub parts : pages ≡ into ++ rest
@@ -27,21 +27,21 @@ pub record Looking (pages rest : List PageView) (span : Interval) (best : OwnedT
 
 -- no time is before time zero
 pub none_before_zero : (t : Time) → is_before t zero_time ≡ false
-none_before_zero t = grind (arith, is_before-tells)
+none_before_zero t = grind (arith, is_before-reports)
 
 -- the answer of a page is its own joint value above time zero
-pub answer-alone : (p : PageView) (span : Interval) → pages_answer (p ∷ []) span ≡ answer p span
+pub answer-alone : (p : PageView) (span : SpanView) → pages_answer (p ∷ []) span ≡ answer p span
 answer-alone p span =
-    let vs : List OwnedTime = values_on span p.spans in
-    let a : OwnedTime = joint (unowned zero_time) vs in
+    let vs : List ValueView = values_on span p.spans in
+    let a : ValueView = joint (unowned zero_time) vs in
     IsAtMost-antisymmetric (joint (unowned zero_time) (a ∷ [])) a
     (joint-least (unowned zero_time) (a ∷ []) a
     (λ x i. elim (IsIn-from_Contains (unowned zero_time ∷ a ∷ []) x i) [
-      | inl e ↦ subst (λ (y : OwnedTime). IsAtMost y a) e
+      | inl e ↦ subst (λ (y : ValueView). IsAtMost y a) e
           (joint-above (unowned zero_time) vs (unowned zero_time)
           (Contains-from_IsIn (unowned zero_time ∷ vs) (unowned zero_time) (inl refl)))
       | inr j ↦ elim j [
-        | inl e ↦ subst (λ (y : OwnedTime). IsAtMost y a) e (IsAtMost-itself a)
+        | inl e ↦ subst (λ (y : ValueView). IsAtMost y a) e (IsAtMost-itself a)
         | inr
             k ↦ absurd k
       ]
@@ -63,7 +63,7 @@ front_alone front (n ∷ ns) page others e = absurd (impossible (ap length e))
         some (m ∷ ms) g = omega arith
 
 -- the front page is always looked into
-pub looking-start : (front : PageView) (older : List PageView) (span : Interval) →
+pub looking-start : (front : PageView) (older : List PageView) (span : SpanView) →
     Looking (front ∷ older) older span (answer front span) 1
 looking-start front older span = record {
   into = front ∷ [];
@@ -97,33 +97,33 @@ parted_before into p newer page (o ∷ os) e = by (last_of o os) e
         inl (found.0, both.0)
 
 -- one page more at the end
-pub answers-push : (pages : List PageView) (p : PageView) (span : Interval) →
+pub answers-push : (pages : List PageView) (p : PageView) (span : SpanView) →
     pages_answer (pages ++ p ∷ []) span ≡ joint (pages_answer pages span) (answer p span ∷ [])
 answers-push pages p span =
     ap (joint (unowned zero_time)) (map-append (λ (q : PageView). answer q span) pages (p ∷ []))
     ∙ joint-append (unowned zero_time) (map (λ (q : PageView). answer q span) pages) (answer p span)
 
 -- one page more is looked into
-pub looking-more : (pages : List PageView) (p : PageView) (rest : List PageView) (span : Interval)
-    (best : OwnedTime) (looked : ℕ)
+pub looking-more : (pages : List PageView) (p : PageView) (rest : List PageView) (span : SpanView)
+    (best : ValueView) (looked : ℕ)
     → Looking pages (p ∷ rest) span best looked → is_before p.top best.time ≡ false
     → Looking pages rest span (joint best (answer p span ∷ [])) (looked + 1)
 looking-more pages p rest span best looked so_far on = record {
   into = so_far.into ++ p ∷ [];
   parts = so_far.parts ∙ sym (append_assoc so_far.into (p ∷ []) rest);
-  met = ap (λ (b : OwnedTime). joint b (answer p span ∷ [])) so_far.met ∙
+  met = ap (λ (b : ValueView). joint b (answer p span ∷ [])) so_far.met ∙
       sym (answers-push so_far.into p span);
   count = let long = length_push so_far.into p in let had = so_far.count in omega arith;
   goes_on = λ newer page others e. elim (parted_before so_far.into p newer page others e) [
     | inl f ↦ so_far.goes_on newer page f.0 f.1
     | inr f ↦ subst (λ (q : PageView). is_before q.top (latest_answer span newer) ≡ false) (sym f.1)
         (subst (λ (ns : List PageView). is_before p.top (latest_answer span ns) ≡ false) (sym f.0)
-        (subst (λ (b : OwnedTime). is_before p.top b.time ≡ false) so_far.met on))
+        (subst (λ (b : ValueView). is_before p.top b.time ≡ false) so_far.met on))
   ];
 }
 
 -- no page is left
-pub looking-end : (pages : List PageView) (span : Interval) (best : OwnedTime) (looked : ℕ) →
+pub looking-end : (pages : List PageView) (span : SpanView) (best : ValueView) (looked : ℕ) →
     Looking pages [] span best looked → (best ≡ pages_answer pages span) ×
     LooksIntoViews span pages looked
 looking-end pages span best looked done =
@@ -145,27 +145,27 @@ stacked_behind [] rest stacked = stacked
 stacked_behind (p ∷ ps) rest stacked = stacked_behind ps rest stacked.2
 
 -- no answer of stacked pages reaches a time above the first one's top
-below_time : (t : Time) (ps : List PageView) (span : Interval) (v : OwnedTime) → HaveTopsUpTo t ps →
+below_time : (t : Time) (ps : List PageView) (span : SpanView) (v : ValueView) → HaveTopsUpTo t ps →
     AreStacked ps → IsIn (map (λ (q : PageView). answer q span) ps) v → is_before t v.time ≡ false
 below_time t [] span v tops stacked i = absurd i
 below_time t (p ∷ ps) span v tops stacked (inl e) =
-    subst (λ (w : OwnedTime). is_before t w.time ≡ false) e
-    (let here = stacked.0 span in let low = tops.0 in grind (arith, is_before-tells))
+    subst (λ (w : ValueView). is_before t w.time ≡ false) e
+    (let here = stacked.0 span in let low = tops.0 in grind (arith, is_before-reports))
 below_time t (p ∷ ps) span v tops stacked (inr i) = below_time t ps span v tops.1 stacked.2 i
 
 -- the other pages are not looked into, for their tops are below what was met
-pub looking-stop : (pages : List PageView) (p : PageView) (rest : List PageView) (span : Interval)
-    (best : OwnedTime) (looked : ℕ)
+pub looking-stop : (pages : List PageView) (p : PageView) (rest : List PageView) (span : SpanView)
+    (best : ValueView) (looked : ℕ)
     → AreStacked pages → Looking pages (p ∷ rest) span best looked →
     is_before p.top best.time ≡ true
     → (best ≡ pages_answer pages span) × LooksIntoViews span pages looked
 looking-stop pages p rest span best looked stacked so_far off =
     let behind = stacked_behind so_far.into (p ∷ rest) (subst AreStacked so_far.parts stacked) in
-    let answers : List PageView → List OwnedTime = λ ps. map (λ (q : PageView). answer q span) ps in
-    let all : OwnedTime = pages_answer (so_far.into ++ p ∷ rest) span in
-    let met : OwnedTime = pages_answer so_far.into span in
+    let answers : List PageView → List ValueView = λ ps. map (λ (q : PageView). answer q span) ps in
+    let all : ValueView = pages_answer (so_far.into ++ p ∷ rest) span in
+    let met : ValueView = pages_answer so_far.into span in
     let later : is_before p.top met.time ≡ true =
-    subst (λ (b : OwnedTime). is_before p.top b.time ≡ true) so_far.met off in
+    subst (λ (b : ValueView). is_before p.top b.time ≡ true) so_far.met off in
     let parted : answers (so_far.into ++ p ∷ rest) ≡ answers so_far.into ++ answers (p ∷ rest) =
     map-append (λ (q : PageView). answer q span) so_far.into (p ∷ rest) in
     let same : all ≡ met = ap (joint (unowned zero_time)) parted ∙
@@ -186,19 +186,19 @@ looking-stop pages p rest span best looked stacked so_far off =
     first_same : (q r : PageView) (qs rs : List PageView) → q ∷ qs ≡ r ∷ rs → q ≡ r
     first_same q r qs rs e = cc
 
-    older_than : (s : Interval) (q : PageView) (qs : List PageView) → AreStacked (q ∷ qs) →
-        (v : OwnedTime) (t : Time) → IsIn (map (λ (r : PageView). answer r s) (q ∷ qs)) v →
+    older_than : (s : SpanView) (q : PageView) (qs : List PageView) → AreStacked (q ∷ qs) →
+        (v : ValueView) (t : Time) → IsIn (map (λ (r : PageView). answer r s) (q ∷ qs)) v →
         is_before q.top t ≡ true → is_before v.time t ≡ true
     older_than s q qs stack v t i low = let up =
         below_time q.top (q ∷ qs) s v (is_up_to q, stack.1) stack i in grind
-        (arith, is_before-tells)
+        (arith, is_before-reports)
       where
         is_up_to : (r : PageView) → is_before r.top r.top ≡ false
-        is_up_to r = grind (arith, is_before-tells)
+        is_up_to r = grind (arith, is_before-reports)
 
     -- values earlier than a joint value add nothing to it
-    joint_past : (v : OwnedTime) (vs ws : List OwnedTime) →
-        ((w : OwnedTime) → IsIn ws w → is_before w.time (joint v vs).time ≡ true) →
+    joint_past : (v : ValueView) (vs ws : List ValueView) →
+        ((w : ValueView) → IsIn ws w → is_before w.time (joint v vs).time ≡ true) →
         joint v (vs ++ ws) ≡ joint v vs
     joint_past v vs ws each =
         IsAtMost-antisymmetric (joint v (vs ++ ws)) (joint v vs)

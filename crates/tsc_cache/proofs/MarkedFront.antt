@@ -3,11 +3,11 @@ use Rattle.std.proofs.Common.{◌≡◌, ◌∙◌, ◌≤◌, ℕ, sym, subst, 
 use Rattle.std.proofs.lemmas.Bool.{le-leb, leb-true}
 use mathlib.Core.Bool.{true≢false}
 use Rattle.std.specs.Prelude.{Result, Ok, Err, Option, Some, None, IfOk}
-use Rattle.tsc_time.specs.OwnedTime.{OwnedTime}
-use Rattle.tsc_span.specs.Span.{Interval, span_cost}
-use Rattle.tsc_page_nodes.specs.Page.{Mark}
-use Rattle.tsc_page_nodes.specs.PageView.{PageView, has_room_for}
-use Rattle.tsc_page_nodes.specs.PageAdds.{AddsMark, IsMarkTold, IsMarkedTold}
+use Rattle.tsc_time.specs.ValueView.{ValueView}
+use Rattle.tsc_span.specs.Span.{SpanView, span_cost}
+use Rattle.tsc_page_model.specs.Page.{Mark}
+use Rattle.tsc_page_model.specs.PageView.{PageView, has_room_for}
+use Rattle.tsc_page_model.specs.PageAdds.{AddsMark, IsMarkReported, IsMarkedReported}
 use Rattle.tsc_cache.specs.CacheView.{IsMarked}
 
 -- the page that an Add makes
@@ -17,36 +17,36 @@ marked_of old new m adds =
 
 -- what a page tells of a span over keys that lie elsewhere
 pub marked_in_place : {E : Type 0} (r : Result Bool E) (old new : PageView) (m : Mark) →
-    IsMarkTold old new m.span m.value r → IfOk r (λ done. done ≡ true → IsMarked old new m)
-marked_in_place (Ok true) old new m told = λ is. marked_of old new m told
-marked_in_place (Ok false) old new m told = λ is. absurd (true≢false (sym is))
-marked_in_place (Err e) old new m told = tt
+    IsMarkReported old new m.span m.value r → IfOk r (λ done. done ≡ true → IsMarked old new m)
+marked_in_place (Ok true) old new m reported = λ is. marked_of old new m reported
+marked_in_place (Ok false) old new m reported = λ is. absurd (true≢false (sym is))
+marked_in_place (Err e) old new m reported = tt
 
 -- and of a page that it makes beside itself, or has no room for
 module _ (E : Type 0) (made : Option PageView) where
-  pub adds_beside : (old new : PageView) (s : Interval) (v : OwnedTime) → made ≡ Some new →
-      IsMarkedTold {E = E} old s v (Ok made) → AddsMark old new s v
-  adds_beside old new s v is told =
-      subst (λ (o : Option PageView). IsMarkedTold {E = E} old s v (Ok o)) is told
+  pub adds_beside : (old new : PageView) (s : SpanView) (v : ValueView) → made ≡ Some new →
+      IsMarkedReported {E = E} old s v (Ok made) → AddsMark old new s v
+  adds_beside old new s v is reported =
+      subst (λ (o : Option PageView). IsMarkedReported {E = E} old s v (Ok o)) is reported
 
   pub marked_beside : (old new : PageView) (m : Mark) → made ≡ Some new →
-      IsMarkedTold {E = E} old m.span m.value (Ok made) → IsMarked old new m
-  marked_beside old new m is told =
-      marked_of old new m (adds_beside old new m.span m.value is told)
+      IsMarkedReported {E = E} old m.span m.value (Ok made) → IsMarked old new m
+  marked_beside old new m is reported =
+      marked_of old new m (adds_beside old new m.span m.value is reported)
 
-  pub full_beside : (old : PageView) (s : Interval) (v : OwnedTime) → made ≡ None →
-      IsMarkedTold {E = E} old s v (Ok made) → has_room_for old s ≡ false
-  full_beside old s v is told =
-      subst (λ (o : Option PageView). IsMarkedTold {E = E} old s v (Ok o)) is told
+  pub full_beside : (old : PageView) (s : SpanView) (v : ValueView) → made ≡ None →
+      IsMarkedReported {E = E} old s v (Ok made) → has_room_for old s ≡ false
+  full_beside old s v is reported =
+      subst (λ (o : Option PageView). IsMarkedReported {E = E} old s v (Ok o)) is reported
 
 -- a page that has room for a span takes it
-pub put_on : (E : Type 0) (done : Bool) (old new : PageView) (s : Interval) (v : OwnedTime) →
-    has_room_for old s ≡ true → IsMarkTold {E = E} old new s v (Ok done) → AddsMark old new s v
-put_on E true old new s v room told = told
-put_on E false old new s v room told = absurd (true≢false (sym room ∙ told.0))
+pub put_on : (E : Type 0) (done : Bool) (old new : PageView) (s : SpanView) (v : ValueView) →
+    has_room_for old s ≡ true → IsMarkReported {E = E} old new s v (Ok done) → AddsMark old new s v
+put_on E true old new s v room reported = reported
+put_on E false old new s v room reported = absurd (true≢false (sym room ∙ reported.0))
 
 -- a new page has room for a span that costs no more than the most that a page may have
-pub fits_new : (page : PageView) (s : Interval) (size cost most : ℕ) → cost ≡ span_cost s →
+pub fits_new : (page : PageView) (s : SpanView) (size cost most : ℕ) → cost ≡ span_cost s →
     (cost ≤ most → cost ≤ size) → nat_le (span_cost s) most ≡ true →
     has_room_for page s ≡ nat_le (span_cost s) size → has_room_for page s ≡ true
 fits_new page s size cost most is enough fits room =

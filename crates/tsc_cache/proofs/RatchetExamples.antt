@@ -2,10 +2,10 @@
 -- none.
 use Rattle.std.specs.Prelude.{◌≡◌, List, [], ◌∷◌, length, true, false, codes, refl}
 use Rattle.tsc_time.specs.Time.{zero_time}
-use Rattle.tsc_time.specs.OwnedTime.{unowned}
+use Rattle.tsc_time.specs.ValueView.{unowned}
 use Rattle.tsc_span.specs.Span.{point}
 use Rattle.tsc_cache.specs.State.{look}
-use Rattle.tsc_cache.proofs.ExampleSettings.{at, of_first, of_second, usual, twenty, without_end, mark, page, Addition, add, state_after, answers, added}
+use Rattle.tsc_cache.proofs.ExampleConfig.{at, of_first, of_second, usual, twenty, without_end, mark, page, Addition, add, state_after, answers, added}
 
 -- ---- a new cache
 

@@ -1,11 +1,11 @@
 -- How pages rotate: when a page is full, which pages are dropped, and where the floor then stands.
 use Rattle.std.specs.Prelude.{◌≡◌, ℕ, ◌-◌, ◌^◌, List, [], ◌∷◌, ◌++◌, length, true, false, codes, refl}
 use Rattle.tsc_time.specs.Time.{zero_time}
-use Rattle.tsc_time.specs.OwnedTime.{unowned}
+use Rattle.tsc_time.specs.ValueView.{unowned}
 use Rattle.tsc_span.specs.Span.{point}
 use Rattle.tsc_cache.specs.Rotation.{next_size, rotate}
 use Rattle.tsc_cache.specs.State.{CacheState, look}
-use Rattle.tsc_cache.proofs.ExampleSettings.{at, of_first, usual, tight, twenty, without_end, marks_at, page, small_page, Addition, add_points, state_after, answers, added}
+use Rattle.tsc_cache.proofs.ExampleConfig.{at, of_first, usual, tight, twenty, without_end, marks_at, page, small_page, Addition, add_points, state_after, answers, added}
 
 -- ---- a fifth key on a page of four
 

@@ -3,11 +3,11 @@
 use Rattle.std.specs.Prelude.{◌≡◌, ℕ, [], ◌∷◌, true, false, codes, refl, replicate}
 use Rattle.tsc_span.specs.Span.{KeyBytes, point, span_cost, between, before, after}
 use Rattle.tsc_cache.specs.Rotation.{next_size}
-use Rattle.tsc_cache.specs.Settings.{Settings, fits}
-use Rattle.tsc_cache.proofs.ExampleSettings.{at, of_first, twenty, Addition, add, add_points, state_after, answers, added}
+use Rattle.tsc_cache.specs.ConfigView.{ConfigView, fits}
+use Rattle.tsc_cache.proofs.ExampleConfig.{at, of_first, twenty, Addition, add, add_points, state_after, answers, added}
 
 -- pages of 66 bytes at first, and of 264 at the most
-abbrev pub growing : Settings
+abbrev pub growing : ConfigView
 growing = record {
   page_first = 66;
   page_max = 264;

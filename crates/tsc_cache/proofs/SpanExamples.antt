@@ -1,10 +1,10 @@
 -- Which spans a mark covers: excluded ends, equal ends, and spans without an end.
 use Rattle.std.specs.Prelude.{◌≡◌, List, [], ◌∷◌, length, Bool, true, false, Some, None, codes, refl}
 use Rattle.tsc_time.specs.Time.{zero_time}
-use Rattle.tsc_time.specs.OwnedTime.{unowned}
+use Rattle.tsc_time.specs.ValueView.{unowned}
 use Rattle.tsc_span.specs.Span.{KeyBytes, nothing, between, before, after, last, point, onward, range, range_for_lookup, start_to_end}
 use Rattle.tsc_cache.specs.State.{look}
-use Rattle.tsc_cache.proofs.ExampleSettings.{at, of_first, usual, twenty, without_end, without_ends, with_ends, mark, page, Addition, add, state_after, answers, added}
+use Rattle.tsc_cache.proofs.ExampleConfig.{at, of_first, usual, twenty, without_end, without_ends, with_ends, mark, page, Addition, add, state_after, answers, added}
 
 -- ---- both ends excluded
 

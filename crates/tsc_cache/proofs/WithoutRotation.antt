@@ -2,7 +2,7 @@
 use Rattle.std.proofs.Common.{◌≡◌, subst}
 use Rattle.std.specs.Prelude.{Option, Some}
 use Rattle.tsc_time.specs.Time.{Time}
-use Rattle.tsc_page_nodes.specs.Page.{Mark}
+use Rattle.tsc_page_model.specs.Page.{Mark}
 use Rattle.tsc_cache.specs.declared.added.Added.{Added}
 use Rattle.tsc_cache.specs.CacheView.{CacheView, Adds, AddsWithoutRotation}
 
@@ -10,6 +10,6 @@ use Rattle.tsc_cache.specs.CacheView.{CacheView, Adds, AddsWithoutRotation}
 pub made_in_place : (old new : CacheView) (m : Mark) (made : Option Added) (added : Added) →
     made ≡ Some added → AddsWithoutRotation old new m made → (now : Time) → Adds old new m now added
 made_in_place old new m made added is seen =
-    let told : AddsWithoutRotation old new m (Some added) =
+    let reported : AddsWithoutRotation old new m (Some added) =
     subst (AddsWithoutRotation old new m) is seen in
-    told.1
+    reported.1

@@ -2,16 +2,16 @@
 -- is kept, and what they make of all that can be seen of a cache.
 use Rattle.std.specs.Prelude.{◌≡◌, ◌<◌, ℕ, List, [], ◌∷◌, length, take, Bool, true, false, ◌||◌, ◌&&◌}
 use Rattle.tsc_time.specs.Time.{Time}
-use Rattle.tsc_page_nodes.specs.Page.{Mark}
+use Rattle.tsc_page_model.specs.Page.{Mark}
 use Rattle.tsc_cache.specs.declared.added.Added.{Added}
-use Rattle.tsc_cache.specs.Settings.{Settings, fits}
+use Rattle.tsc_cache.specs.ConfigView.{ConfigView, fits}
 use Rattle.tsc_cache.specs.State.{is_kept, not_kept, added_with}
 use Rattle.tsc_cache.specs.CacheView.{CacheView, Adds}
 
 -- whether the span of each of some marks fits the largest page
-abbrev pub all_fit : Settings → List Mark → Bool
-all_fit settings [] = true
-all_fit settings (m ∷ ms) = fits settings m.span && all_fit settings ms
+abbrev pub all_fit : ConfigView → List Mark → Bool
+all_fit config [] = true
+all_fit config (m ∷ ms) = fits config m.span && all_fit config ms
 
 -- whether some mark is kept above a floor
 abbrev pub is_any_kept : Time → List Mark → Bool

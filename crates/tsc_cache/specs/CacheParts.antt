@@ -1,7 +1,7 @@
 -- What can be seen of the parts of a cache.
 use Rattle.std.specs.Prelude.{List, ◌∷◌}
 use Rattle.std.specs.Arc.{arc_value}
-use Rattle.tsc_page_nodes.specs.PageView.{PageView}
+use Rattle.tsc_page_model.specs.PageView.{PageView}
 use Rattle.tsc_cache.specs.declared.page_stack.Pages.{Pages}
 use Rattle.tsc_cache.specs.declared.plain_pages.PlainPages.{PlainPages}
 

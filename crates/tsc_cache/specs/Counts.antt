@@ -2,8 +2,8 @@
 use Rattle.std.specs.Prelude.{ℕ, ◌^◌, ◌-◌, min, List, length}
 use Rattle.std.specs.List.{sum_by}
 use Rattle.tsc_time.specs.Time.{Time}
-use Rattle.tsc_page_nodes.specs.Page.{PageMarks, marked_keys, count_distinct, cost_distinct}
-use Rattle.tsc_page_nodes.specs.PageView.{PageView, bytes_of}
+use Rattle.tsc_page_model.specs.Page.{PageMarks, marked_keys, count_distinct, cost_distinct}
+use Rattle.tsc_page_model.specs.PageView.{PageView, bytes_of}
 use Rattle.tsc_cache.specs.declared.figures.Figures.{Figures}
 use Rattle.tsc_cache.specs.State.{CacheState}
 use Rattle.tsc_cache.specs.CacheView.{CacheView}

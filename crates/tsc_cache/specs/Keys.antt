@@ -3,8 +3,8 @@ use Rattle.std.specs.Prelude.{List, Option, Some, None, if◌then◌else◌}
 use Rattle.std.specs.List.{flat_map}
 use Rattle.std.specs.Ordering.{is_lt}
 use Rattle.tsc_span.specs.Span.{KeyBytes, key_cmp}
-use Rattle.tsc_page_nodes.specs.Page.{PageMarks, marked_keys}
-use Rattle.tsc_page_nodes.specs.PageView.{PageView}
+use Rattle.tsc_page_model.specs.Page.{PageMarks, marked_keys}
+use Rattle.tsc_page_model.specs.PageView.{PageView}
 
 -- the end keys of some pages, each as often as it comes
 abbrev pub keys_on : List PageMarks → List KeyBytes

@@ -1,5 +1,5 @@
 pub mod Limits
-pub mod Settings
+pub mod ConfigView
 pub mod Caches
 pub mod Rotation
 pub mod State

@@ -3,11 +3,11 @@ use Rattle.std.specs.Prelude.{◌≡◌, ℕ, List, ◌∷◌, ◌++◌, length,
 use Rattle.std.specs.List.{flat_map}
 use Rattle.tsc_time.specs.Time.{Time, zero_time, is_before}
 use Rattle.tsc_time.specs.Joint.{latest}
-use Rattle.tsc_span.specs.Span.{Interval}
-use Rattle.tsc_page_nodes.specs.Page.{PageMarks, top, values_on}
+use Rattle.tsc_span.specs.Span.{SpanView}
+use Rattle.tsc_page_model.specs.Page.{PageMarks, top, values_on}
 
 -- the latest time of the marks on some pages that overlap a span, or time zero where there are none
-abbrev pub latest_on : Interval → List PageMarks → Time
+abbrev pub latest_on : SpanView → List PageMarks → Time
 latest_on span pages = latest zero_time (flat_map (λ p. values_on span p.marks) pages)
 
 -- How many pages are looked into, from the newest on: those before the first page whose top is
@@ -24,5 +24,5 @@ pub record LooksInto {P : Type 0} (top_of : P → Time) (latest_in : List P → 
       is_before (top_of page) (latest_in into) ≡ true
 
 -- how many pages of a state a lookup looks into
-abbrev pub LooksIntoPages : Interval → List PageMarks → ℕ → Type 0
+abbrev pub LooksIntoPages : SpanView → List PageMarks → ℕ → Type 0
 LooksIntoPages span pages count = LooksInto top (latest_on span) pages count

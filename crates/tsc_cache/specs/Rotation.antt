@@ -7,10 +7,10 @@
 -- no other.
 use Rattle.std.specs.Prelude.{◌≡◌, ℕ, zero, suc, ◌+◌, ◌-◌, ◌*◌, ◌^◌, min, ◌&&◌, ◌==◌, List, [], ◌∷◌, ◌++◌, map, length, reverse, nat_le, Bool, true, false, Option, Some, None, if◌then◌else◌}
 use Rattle.tsc_time.specs.Time.{Time, zero_time, time_minus, is_before, later}
-use Rattle.tsc_span.specs.Span.{Interval, span_cost}
-use Rattle.tsc_page_nodes.specs.Page.{Mark, PageMarks, empty_page, with_mark, top}
-use Rattle.tsc_page_nodes.specs.PageView.{PageView, Represents}
-use Rattle.tsc_cache.specs.Settings.{Settings}
+use Rattle.tsc_span.specs.Span.{SpanView, span_cost}
+use Rattle.tsc_page_model.specs.Page.{Mark, PageMarks, empty_page, with_mark, top}
+use Rattle.tsc_page_model.specs.PageView.{PageView, Represents}
+use Rattle.tsc_cache.specs.ConfigView.{ConfigView}
 use Rattle.tsc_cache.specs.Caches.{CacheState, CacheView}
 
 -- ---- the size of a new page
@@ -45,9 +45,9 @@ front_size (front ∷ older) = front.size
 
 -- the page that comes to the front for a span: an empty one of the next size behind the front page
 -- before it, which takes its top as its base
-abbrev pub new_front : Settings → List PageMarks → Interval → PageMarks
-new_front settings pages span = empty_page
-    (next_size settings.page_max (front_size pages) (span_cost span)) (front_top pages)
+abbrev pub new_front : ConfigView → List PageMarks → SpanView → PageMarks
+new_front config pages span = empty_page
+    (next_size config.page_max (front_size pages) (span_cost span)) (front_top pages)
 
 -- ---- which pages go
 
@@ -63,9 +63,9 @@ is_past_retention retention now top = is_before_limit (time_minus now retention)
 
 -- The policy. Whether the oldest page goes, behind so many newer ones: with it there are at least
 -- `min_pages`, and its top is past the retention.
-abbrev pub drops_oldest : Settings → ℕ → Time → Time → Bool
-drops_oldest settings newer top now =
-    nat_le settings.min_pages (suc newer) && is_past_retention settings.retention now top
+abbrev pub drops_oldest : ConfigView → ℕ → Time → Time → Bool
+drops_oldest config newer top now =
+    nat_le config.min_pages (suc newer) && is_past_retention config.retention now top
 
 -- what an eviction leaves: the floor, the pages from oldest to newest, and how many were dropped
 pub record Eviction : Type 0 where
@@ -75,11 +75,11 @@ pub record Eviction : Type 0 where
 
 -- From the oldest page on: one that goes lifts the floor to its top unless that stands higher,
 -- until one is met that stays.
-abbrev pub evict : Settings → Time → Time → List PageMarks → Eviction
-evict settings now floor [] = record { floor = floor; pages = []; evicted = 0 }
-evict settings now floor (oldest ∷ newer) =
-    if drops_oldest settings (length newer) (top oldest) now
-    then (let rest = evict settings now (later floor (top oldest)) newer
+abbrev pub evict : ConfigView → Time → Time → List PageMarks → Eviction
+evict config now floor [] = record { floor = floor; pages = []; evicted = 0 }
+evict config now floor (oldest ∷ newer) =
+    if drops_oldest config (length newer) (top oldest) now
+    then (let rest = evict config now (later floor (top oldest)) newer
     in record { floor = rest.floor; pages = rest.pages; evicted = suc rest.evicted })
     else record { floor = floor; pages = oldest ∷ newer; evicted = 0 }
 
@@ -96,13 +96,13 @@ pub record Rotation : Type 0 where
 
 -- For a span that has no room first pages are evicted. Then a new one comes to the front, with the
 -- size and the base that the front page before it gives, even where that one is gone.
-abbrev pub rotate : Settings → CacheState → Interval → Time → Rotation
-rotate settings s span now =
-    let kept = evict settings now s.floor (reverse s.pages) in
+abbrev pub rotate : ConfigView → CacheState → SpanView → Time → Rotation
+rotate config s span now =
+    let kept = evict config now s.floor (reverse s.pages) in
     record {
       state = record {
         floor = kept.floor;
-        pages = new_front settings s.pages span ∷
+        pages = new_front config s.pages span ∷
             reverse kept.pages;
         rotations = saturating_inc s.rotations;
       };
@@ -118,20 +118,20 @@ highest floor (top ∷ tops) = later top (highest floor tops)
 
 -- Pages that were dropped behind so many newer ones, by their tops from newest to oldest: each went
 -- as the oldest of its time.
-abbrev pub WereDropped : Settings → Time → ℕ → List Time → Type 0
-WereDropped settings now newer [] = Unit {0}
-WereDropped settings now newer (top ∷ older) =
-    (drops_oldest settings newer top now ≡ true) × WereDropped settings now (suc newer) older
+abbrev pub WereDropped : ConfigView → Time → ℕ → List Time → Type 0
+WereDropped config now newer [] = Unit {0}
+WereDropped config now newer (top ∷ older) =
+    (drops_oldest config newer top now ≡ true) × WereDropped config now (suc newer) older
 
 -- the oldest of some pages stays, by their tops
-abbrev pub OldestStays : Settings → Time → List Time → Type 0
-OldestStays settings now tops = (newer : List Time) (oldest : Time) → tops ≡ newer ++ oldest ∷ [] →
-    drops_oldest settings (length newer) oldest now ≡ false
+abbrev pub OldestStays : ConfigView → Time → List Time → Type 0
+OldestStays config now tops = (newer : List Time) (oldest : Time) → tops ≡ newer ++ oldest ∷ [] →
+    drops_oldest config (length newer) oldest now ≡ false
 
 -- The pages that stay and those that are dropped, from newest to oldest, by their tops.
-pub record Evicts (settings : Settings) (now : Time) (stay dropped : List Time) : Type 0 where
-  pub gone : WereDropped settings now (length stay) dropped
-  pub stops : OldestStays settings now stay
+pub record Evicts (config : ConfigView) (now : Time) (stay dropped : List Time) : Type 0 where
+  pub gone : WereDropped config now (length stay) dropped
+  pub stops : OldestStays config now stay
 
 -- the top of the front page, or time zero without pages
 abbrev pub front_view_top : List PageView → Time
@@ -145,9 +145,9 @@ front_view_size (front ∷ older) = front.size
 
 -- the page that comes to the front for a mark: one of the next size behind the front page before
 -- it, which takes its top as its base, with that mark on it
-abbrev pub front_marked : Settings → List PageView → Mark → PageMarks
-front_marked settings pages m = with_mark
-    (empty_page (next_size settings.page_max (front_view_size pages) (span_cost m.span))
+abbrev pub front_marked : ConfigView → List PageView → Mark → PageMarks
+front_marked config pages m = with_mark
+    (empty_page (next_size config.page_max (front_view_size pages) (span_cost m.span))
     (front_view_top pages)) m
 
 -- A rotation that brings a page with one mark to the front: the pages that there were are parted
@@ -157,9 +157,9 @@ pub record RotatesWith (old new : CacheView) (m : Mark) (now : Time) (evicted : 
   pub stay : List PageView
   pub dropped : List PageView
   pub parts : old.pages ≡ stay ++ dropped
-  pub evicts : Evicts old.settings now (map (λ p. p.top) stay) (map (λ p. p.top) dropped)
+  pub evicts : Evicts old.config now (map (λ p. p.top) stay) (map (λ p. p.top) dropped)
   pub count : evicted ≡ length dropped
   pub pages : new.pages ≡ front ∷ stay
-  pub marked : Represents front (front_marked old.settings old.pages m)
+  pub marked : Represents front (front_marked old.config old.pages m)
   pub floor : new.floor ≡ highest old.floor (map (λ p. p.top) dropped)
   pub rotations : new.rotations ≡ saturating_inc old.rotations

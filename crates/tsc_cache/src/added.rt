@@ -1,3 +1,5 @@
+//! What an Add did: whether it was kept, whether pages rotated, and how many were dropped.
+
 /// What an Add did.
 #[derive(Clone, Copy, Debug, PartialEq, Eq)]
 pub struct Added {

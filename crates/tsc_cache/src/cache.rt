@@ -1,10 +1,12 @@
+//! The cache of one thread. An Add asks first whether its span fits, then whether it is kept, and
+//! takes memory only after both.
 ghost use Rattle.std.specs.Prelude.{◌≡◌, ◌↔◌, option_map, true, false, IsOk, IfOk, IsErrOf, OnErr};
 ghost use Rattle.tsc_time.specs.Time.{Time};
 ghost use Rattle.tsc_span.specs.Span.{is_empty_span, point};
 ghost use Rattle.tsc_span.specs.LookupSpan.{span_for_lookup};
 ghost use Rattle.tsc_span.specs.Cuts.{cut_of};
-ghost use Rattle.tsc_page_nodes.specs.KeysAbove.{IsLeastAbove};
-ghost use Rattle.tsc_cache.specs.Settings.{Settings, fits};
+ghost use Rattle.tsc_page_model.specs.KeysAbove.{IsLeastAbove};
+ghost use Rattle.tsc_cache.specs.ConfigView.{ConfigView, fits};
 ghost use Rattle.tsc_cache.specs.State.{CacheState, step, look, is_kept, kept_after_rotation};
 ghost use Rattle.tsc_cache.specs.Lookup.{LooksIntoPages};
 ghost use Rattle.tsc_cache.specs.Keys.{keys_on, keys_seen};
@@ -44,7 +46,7 @@ impl Model for Cache {
     ghost use Rattle.tsc_cache.specs.Stacks.{AreStacked};
 
     ghost view = { λ c. record {
-      settings = c.config;
+      config = c.config;
       floor = c.floor;
       pages = pages_of c.pages;
       rotations = c.rotations;
@@ -129,21 +131,21 @@ impl TimestampCache for Cache {
 impl Cache {
     /// How the cache was set up.
     pub fn config(&self) -> Config
-        ensures { result ≡ self.now.settings }
+        ensures { result ≡ self.now.config }
     {
         self.config
     }
 
     /// Whether a span fits the largest page: whether an Add of it isn't [`CacheFault::TooLarge`].
     pub fn fits(&self, span: &Span) -> bool
-        ensures { result ≡ fits self.now.settings span.now }
+        ensures { result ≡ fits self.now.config span.now }
     {
         self.config.fits(span)
     }
 
     /// Whether the span of each of some marks fits the largest page. It costs a step for each.
     pub fn fits_all(&self, marks: &[Mark]) -> bool
-        ensures { result ≡ all_fit self.now.settings marks.now }
+        ensures { result ≡ all_fit self.now.config marks.now }
     {
         self.config.fits_all(marks)
     }
@@ -228,7 +230,7 @@ impl Cache {
         now: Timestamp,
     ) -> Result<Added, NoMemory>
         requires kept { is_kept self.old.floor (record { span = span.now; value = value }) ≡ true }
-        requires fits { fits self.old.settings span.now ≡ true }
+        requires fits { fits self.old.config span.now ≡ true }
         ensures seen { IfOk result
             (λ added. Adds self.old self.new (record { span = span.now; value = value }) now
             added) }
@@ -261,7 +263,7 @@ impl Cache {
         if !self.keeps(span, value) {
             return Ok(Some(Added::nothing()));
         }
-        if self.pages.mark_front(span, value)? {
+        if self.pages.mark_span(&span.for_add(), value)? {
             return Ok(Some(Added::without_rotation()));
         }
         Ok(None)
@@ -282,7 +284,7 @@ impl Cache {
         ensures seen { IfOk result
             (λ next. Adds self.now next.0 (record { span = span.now; value = value }) now next.1) }
         ensures too_large { IsErrOf result CacheFault.TooLarge ↔
-            (fits self.now.settings span.now ≡ false) }
+            (fits self.now.config span.now ≡ false) }
     {
         if !self.config.fits(span) {
             return Err(CacheFault::TooLarge);
@@ -297,7 +299,7 @@ impl Cache {
         value: Value,
         now: Timestamp,
     ) -> Result<(Cache, Added), NoMemory>
-        requires fits { fits self.now.settings span.now ≡ true }
+        requires fits { fits self.now.config span.now ≡ true }
         ensures { IfOk result
             (λ next. Adds self.now next.0 (record { span = span.now; value = value }) now next.1) }
     {
@@ -314,7 +316,7 @@ impl Cache {
     /// A mark that is not kept changes nothing, and takes no memory. Each other one costs an
     /// [`add`](TimestampCache::add).
     pub fn add_fitting(&mut self, marks: &[Mark], now: Timestamp) -> Result<Added, NoMemory>
-        requires fits { all_fit self.old.settings marks.now ≡ true }
+        requires fits { all_fit self.old.config marks.now ≡ true }
         ensures seen { IfOk result (λ added. AddsAll self.old self.new marks.now now added) }
         ensures left { OnErr result (AddsSome self.old self.new marks.now now) }
         ensures memory { is_any_kept self.old.floor marks.now ≡ false → IsOk result }
@@ -331,7 +333,7 @@ impl Cache {
     /// As [`add_all`](TimestampCache::add_all), of marks that fit a page: only memory may be
     /// refused, and then the cache is as before.
     pub fn add_all_fitting(&mut self, marks: &[Mark], now: Timestamp) -> Result<Added, NoMemory>
-        requires fits { all_fit self.old.settings marks.now ≡ true }
+        requires fits { all_fit self.old.config marks.now ≡ true }
         ensures seen { IfOk result (λ added. AddsAll self.old self.new marks.now now added) }
         ensures unchanged { OnErr result (self.new ≡ self.old) }
         ensures memory { is_any_kept self.old.floor marks.now ≡ false → IsOk result }
@@ -355,7 +357,7 @@ impl Cache {
     pub fn next_all(&self, marks: &[Mark], now: Timestamp) -> Result<(Cache, Added), CacheFault>
         ensures seen { IfOk result (λ next. AddsAll self.now next.0 marks.now now next.1) }
         ensures too_large { IsErrOf result CacheFault.TooLarge ↔
-            (all_fit self.now.settings marks.now ≡ false) }
+            (all_fit self.now.config marks.now ≡ false) }
     {
         if !self.config.fits_all(marks) {
             return Err(CacheFault::TooLarge);
@@ -365,7 +367,7 @@ impl Cache {
 
     /// As [`next_all`](Cache::next_all), of marks that fit a page: only memory may be refused.
     pub fn next_fitting(&self, marks: &[Mark], now: Timestamp) -> Result<(Cache, Added), NoMemory>
-        requires fits { all_fit self.now.settings marks.now ≡ true }
+        requires fits { all_fit self.now.config marks.now ≡ true }
         ensures { IfOk result (λ next. AddsAll self.now next.0 marks.now now next.1) }
     {
         let mut next = self.share()?;
@@ -379,8 +381,8 @@ impl Cache {
         ensures value { result ≡ cache_answer self.now
             (span_for_lookup start.now (option_map (λ k. k.now) end.entry) ends.exclude_from
             ends.exclude_to) }
-        ensures stands { (settings : Settings) (s : CacheState) → RepresentsState
-            self.now settings s
+        ensures stands { (config : ConfigView) (s : CacheState) → RepresentsState
+            self.now config s
             → result ≡ look s (span_for_lookup start.now (option_map (λ k. k.now) end.entry)
             ends.exclude_from ends.exclude_to) }
     {
@@ -390,8 +392,8 @@ impl Cache {
     /// As [`get_max`](Cache::get_max), of a span over keys that lie elsewhere.
     pub fn get_max_ref(&self, span: &SpanRef<'_>) -> Value
         ensures value { result ≡ cache_answer self.now span.now }
-        ensures stands { (settings : Settings) (s : CacheState) →
-            RepresentsState self.now settings s → result ≡ look s span.now }
+        ensures stands { (config : ConfigView) (s : CacheState) →
+            RepresentsState self.now config s → result ≡ look s span.now }
     {
         self.lookup(span).0
     }
@@ -401,11 +403,11 @@ impl Cache {
     /// them.
     pub fn get_max_counted(&self, span: &Span) -> (Value, u64)
         ensures value { result.0 ≡ cache_answer self.now span.now }
-        ensures stands { (settings : Settings) (s : CacheState) →
-            RepresentsState self.now settings s → result.0 ≡ look s span.now }
+        ensures stands { (config : ConfigView) (s : CacheState) →
+            RepresentsState self.now config s → result.0 ≡ look s span.now }
         ensures looked { LooksIntoViews span.now self.now.pages result.1 }
-        ensures looked_into { (settings : Settings) (s : CacheState) →
-            RepresentsState self.now settings s → LooksIntoPages span.now s.pages result.1 }
+        ensures looked_into { (config : ConfigView) (s : CacheState) →
+            RepresentsState self.now config s → LooksIntoPages span.now s.pages result.1 }
     {
         self.lookup(&span.borrowed())
     }
@@ -421,8 +423,8 @@ impl Cache {
     pub fn key_above(&self, cut: Cut<'_>) -> Option<&Key>
         ensures value { IsLeastAbove (cut_of cut.entry) (keys_seen self.now.pages)
             (option_map (λ k. k.now) result) }
-        ensures stands { (settings : Settings) (s : CacheState) → RepresentsState
-            self.now settings s
+        ensures stands { (config : ConfigView) (s : CacheState) → RepresentsState
+            self.now config s
             → IsLeastAbove (cut_of cut.entry) (keys_on s.pages) (option_map (λ k. k.now) result) }
     {
         self.pages.key_above(cut)
@@ -432,8 +434,8 @@ impl Cache {
     /// cost, and where the floor stands. It costs a step for each page, and takes no memory.
     pub fn figures(&self) -> Figures
         ensures value { result ≡ figures_seen self.now }
-        ensures stands { (settings : Settings) (s : CacheState) →
-            RepresentsState self.now settings s → result ≡ figures_of s }
+        ensures stands { (config : ConfigView) (s : CacheState) →
+            RepresentsState self.now config s → result ≡ figures_of s }
     {
         self.pages.figures(self.floor, self.rotations)
     }
@@ -453,9 +455,9 @@ impl Cache {
     /// search for each end key where the front page is nearly full.
     pub fn would_rotate(&self, span: &Span, value: Value) -> bool
         ensures value { result ≡ would_rotate self.now (record { span = span.now; value = value }) }
-        ensures stands { (settings : Settings) (s : CacheState) (now : Time) →
-            RepresentsState self.now settings s
-            → result ≡ (step settings s (record { span = span.now; value = value })
+        ensures stands { (config : ConfigView) (s : CacheState) (now : Time) →
+            RepresentsState self.now config s
+            → result ≡ (step config s (record { span = span.now; value = value })
             now).added.rotated }
     {
         self.keeps(span, value) && !self.pages.has_room(span)
@@ -464,11 +466,11 @@ impl Cache {
     /// What the floor and the pages answer to a span together, and how many pages were looked into.
     fn lookup(&self, span: &SpanRef<'_>) -> (Value, u64)
         ensures value { result.0 ≡ cache_answer self.now span.now }
-        ensures stands { (settings : Settings) (s : CacheState) →
-            RepresentsState self.now settings s → result.0 ≡ look s span.now }
+        ensures stands { (config : ConfigView) (s : CacheState) →
+            RepresentsState self.now config s → result.0 ≡ look s span.now }
         ensures looked { LooksIntoViews span.now self.now.pages result.1 }
-        ensures looked_into { (settings : Settings) (s : CacheState) →
-            RepresentsState self.now settings s → LooksIntoPages span.now s.pages result.1 }
+        ensures looked_into { (config : ConfigView) (s : CacheState) →
+            RepresentsState self.now config s → LooksIntoPages span.now s.pages result.1 }
     {
         let (best, looked) = self.pages.lookup(span);
         (ratchet(best, Value::unowned(self.floor)).0, looked)

@@ -1,6 +1,7 @@
+//! Configurations: the limits within which they are made, and whether a span fits the pages.
 ghost use Rattle.std.specs.Prelude.{◌≡◌, ◌≤◌, ◌<◌, ◌*◌, ◌^◌, length, min};
-ghost use Rattle.tsc_page_nodes.specs.Limits.{least_size, most_size};
-ghost use Rattle.tsc_cache.specs.Settings.{Settings, settings_of, fits, IsWithinLimits};
+ghost use Rattle.tsc_page_model.specs.Limits.{least_size, most_size};
+ghost use Rattle.tsc_cache.specs.ConfigView.{ConfigView, made_config, fits, IsWithinLimits};
 ghost use Rattle.tsc_cache.specs.Batch.{all_fit};
 
 use crate::Mark;
@@ -48,9 +49,9 @@ pub struct Config {
 }
 
 impl Model for Config {
-    ghost use Rattle.tsc_cache.specs.Settings.{Settings, IsWithinLimits};
+    ghost use Rattle.tsc_cache.specs.ConfigView.{ConfigView, IsWithinLimits};
 
-    ghost Value = { Settings };
+    ghost Value = { ConfigView };
 
     ghost view = { λ c. record {
       page_first = c.page_first;
@@ -91,7 +92,7 @@ impl Config {
         retention: u64,
         low_water: Timestamp,
     ) -> Result<Config, ConfigFault>
-        ensures { result ≡ settings_of page_first page_max min_pages retention low_water }
+        ensures { result ≡ made_config page_first page_max min_pages retention low_water }
     {
         if page_first < LEAST_SIZE || page_max < page_first || MOST_SIZE < page_max {
             return Err(ConfigFault::PageSize);

@@ -1,3 +1,4 @@
+//! Why an Add is refused. Each refusal leaves the cache as it was.
 use thiserror::Error;
 use tsc_span::SpanFault;
 use tsc_time::NoMemory;

@@ -1,3 +1,4 @@
+//! What can be counted of a cache.
 use tsc_page::{IntervalPage, Page};
 use tsc_time::Timestamp;
 
@@ -19,8 +20,8 @@ pub struct Figures {
 
 impl Figures {
     ghost use Rattle.std.specs.Prelude.{◌≡◌, ◌+◌};
-    ghost use Rattle.tsc_page_nodes.specs.Page.{count_distinct};
-    ghost use Rattle.tsc_page_nodes.specs.PageView.{bytes_of};
+    ghost use Rattle.tsc_page_model.specs.Page.{count_distinct};
+    ghost use Rattle.tsc_page_model.specs.PageView.{bytes_of};
     ghost use Rattle.tsc_cache.specs.Counts.{up_to_end};
 
     /// The figures of a number of pages, before what the pages hold is counted.

@@ -1,3 +1,4 @@
+//! Entries of histories: what was accepted, and by whom. Contracts alone speak of them.
 use crate::Mark;
 use std::collections::LinkedList;
 use tsc_time::Timestamp;

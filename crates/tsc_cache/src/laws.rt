@@ -6,7 +6,7 @@
 //! there.
 ghost use Rattle.tsc_cache.specs.Laws.{KeptUp, Rising, Beginnings, FloorBehind, Real, NoWriteBelowARead, EvictsExpired, AddsAreSteps, OneMarkIsAStep, OneMarkIsAnAdd, ListsJoin, SizesDouble};
 ghost use Rattle.tsc_cache.specs.Limits.{least_min_pages, most_min_pages, longest_retention};
-ghost use Rattle.tsc_cache.specs.Settings.{fits};
+ghost use Rattle.tsc_cache.specs.ConfigView.{fits};
 ghost use Rattle.tsc_cache.specs.Batch.{all_fit};
 ghost use Rattle.tsc_cache.specs.History.{CanBeAdded, CanAllBeAdded};
 ghost use Rattle.std.specs.Prelude.{◌≡◌, true};

@@ -1,3 +1,4 @@
+//! Marks, and which of them an Add keeps.
 ghost use Rattle.std.specs.Prelude.{◌≡◌};
 ghost use Rattle.tsc_cache.specs.State.{is_kept};
 ghost use Rattle.tsc_cache.specs.Batch.{is_any_kept};
@@ -16,7 +17,7 @@ pub struct Mark {
 }
 
 impl Model for Mark {
-    ghost use Rattle.tsc_page_nodes.specs.Page.{Mark};
+    ghost use Rattle.tsc_page_model.specs.Page.{Mark};
 
     ghost Value = { Mark };
 

@@ -1,9 +1,10 @@
+//! What the pages of both caches have in common, and the pages of the fast one.
 ghost use Rattle.std.specs.Prelude.{◌≡◌, ◌<◌, ◌∷◌, ◌^◌, List, length, OnOk, OnErr};
-ghost use Rattle.tsc_page_nodes.specs.PageView.{PageView};
+ghost use Rattle.tsc_page_model.specs.PageView.{PageView};
 
 use std::alloc::Global;
 use std::sync::Arc;
-use tsc_cache_pages::OlderPages;
+use tsc_chunks::ChunkedList;
 use tsc_page::{IntervalPage, Page};
 use tsc_time::NoMemory;
 
@@ -36,7 +37,7 @@ pub(crate) trait PageStack<P: IntervalPage> {
 #[derive(Debug, Drop)]
 pub(crate) struct Pages {
     pub(crate) front: Arc<Page>,
-    pub(crate) older: OlderPages,
+    pub(crate) older: ChunkedList<Page>,
     /// The pages are fewer than a machine has addresses for.
     ghost few: { length older < 2 ^ 63 },
 }

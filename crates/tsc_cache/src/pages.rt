@@ -1,9 +1,11 @@
+//! The pages of a cache, from the newest to the oldest: the Add that goes to the front page, and
+//! the lookup that stops early.
 ghost use Rattle.std.specs.Prelude.{◌≡◌, ◌∷◌, [], true, false, option_map, IfOk, OnErr};
 ghost use Rattle.tsc_time.specs.Time.{is_before};
 ghost use Rattle.tsc_span.specs.Span.{is_empty_span};
 ghost use Rattle.tsc_span.specs.Cuts.{cut_of};
-ghost use Rattle.tsc_page_nodes.specs.KeysAbove.{IsLeastAbove};
-ghost use Rattle.tsc_page_nodes.specs.PageView.{has_room_for};
+ghost use Rattle.tsc_page_model.specs.KeysAbove.{IsLeastAbove};
+ghost use Rattle.tsc_page_model.specs.PageView.{has_room_for};
 ghost use Rattle.tsc_cache.specs.CacheView.{MarksFront, LooksIntoViews};
 ghost use Rattle.tsc_cache.specs.Stacks.{AreStacked, pages_answer};
 ghost use Rattle.tsc_cache.specs.CacheParts.{front_of, older_of, pages_of};
@@ -13,9 +15,11 @@ ghost use Rattle.tsc_cache.specs.Counts.{figures_with};
 use crate::page_stack::{PageStack, Pages};
 use crate::{Config, Figures};
 use std::alloc::Global;
+use std::mem::size_of;
 use std::sync::Arc;
-use tsc_cache_pages::{OlderPages, page_memory};
+use tsc_chunks::ChunkedList;
 use tsc_page::{IntervalPage, Page};
+use tsc_page_nodes::memory::shared_memory;
 use tsc_span::{AddSpan, Cut, Key, Span, SpanRef};
 use tsc_time::{NoMemory, Timestamp, Value, ratchet};
 
@@ -51,7 +55,7 @@ impl Pages {
     {
         Ok(Pages {
             front: Arc::new(alloc, front)?,
-            older: OlderPages::new(alloc)?,
+            older: ChunkedList::new(alloc)?,
         })
     }
 
@@ -70,20 +74,6 @@ impl Pages {
         ensures { result ≡ has_room_for (front_of self.now) span.now }
     {
         self.front.room(span)
-    }
-
-    /// As [`mark_span`](Pages::mark_span), of a span that has its keys.
-    pub(crate) fn mark_front(&mut self, span: &Span, value: Value) -> Result<bool, NoMemory>
-        requires not_empty { is_empty_span span.now ≡ false }
-        ensures room { IfOk result (λ done. done ≡ has_room_for (front_of self.old) span.now) }
-        ensures marked { IfOk result
-            (λ done. done ≡ true →
-            MarksFront (pages_of self.old) (pages_of self.new)
-            (record { span = span.now; value = value })) }
-        ensures full { IfOk result (λ done. done ≡ false → pages_of self.new ≡ pages_of self.old) }
-        ensures unchanged { OnErr result (pages_of self.new ≡ pages_of self.old) }
-    {
-        self.mark_span(&span.for_add(), value)
     }
 
     /// Adds a span with its value to the front page, or to a copy of it where others hold it too,
@@ -158,8 +148,14 @@ impl Pages {
 
     /// How many bytes the blocks of memory have that hold all pages.
     pub(crate) fn memory(&self) -> u64 {
-        page_memory(&self.front).saturating_add(self.older.memory())
+        page_memory(&self.front).saturating_add(self.older.memory(&page_memory))
     }
+}
+
+/// How many bytes the block of memory has that holds a page, and all blocks below it. It costs a
+/// step for each leaf. No clause can say what memory is taken.
+fn page_memory(page: &Page) -> u64 {
+    shared_memory(size_of::<Page>()).saturating_add(page.memory())
 }
 
 /// Whether all that stands on a page is earlier than a value that was met.

@@ -1,6 +1,7 @@
+//! The plain cache: slow, and easy to believe. Tests compare the fast one with it.
 ghost use Rattle.std.specs.Prelude.{◌≡◌, ◌<◌, ◌+◌, ◌^◌, length, true, false, IfOk, OnErr};
 ghost use Rattle.tsc_span.specs.Span.{is_empty_span};
-ghost use Rattle.tsc_cache.specs.Settings.{fits};
+ghost use Rattle.tsc_cache.specs.ConfigView.{fits};
 ghost use Rattle.tsc_cache.specs.State.{is_kept, kept_after_rotation};
 ghost use Rattle.tsc_cache.specs.Batch.{all_fit, is_any_kept, AddsAll};
 
@@ -35,7 +36,7 @@ impl Model for PlainCache {
     ghost use Rattle.tsc_cache.specs.CacheParts.{plain_pages_of};
 
     ghost view = { λ c. record {
-      settings = c.config;
+      config = c.config;
       floor = c.floor;
       pages = plain_pages_of c.pages;
       rotations = c.rotations;
@@ -125,7 +126,7 @@ impl PlainCache {
 
     /// Adds marks that fit. Where memory is refused, those before stay.
     fn add_each_until_refused(&mut self, marks: &[Mark], now: Timestamp) -> Result<Added, NoMemory>
-        requires fits { all_fit self.old.settings marks.now ≡ true }
+        requires fits { all_fit self.old.config marks.now ≡ true }
         requires few { length self.old.pages + length marks.now < 2 ^ 64 }
         ensures { IfOk result (λ added. AddsAll self.old self.new marks.now now added) }
     {

@@ -1,6 +1,7 @@
+//! The pages of a plain cache: two lists, of which an Add changes the front page alone.
 ghost use Rattle.std.specs.Prelude.{◌≡◌, ◌∷◌, [], true, false, IfOk, OnOk, OnErr};
 ghost use Rattle.tsc_span.specs.Span.{is_empty_span};
-ghost use Rattle.tsc_page_nodes.specs.PageView.{has_room_for};
+ghost use Rattle.tsc_page_model.specs.PageView.{has_room_for};
 ghost use Rattle.tsc_cache.specs.CacheView.{MarksFront};
 ghost use Rattle.tsc_cache.specs.Stacks.{pages_answer};
 ghost use Rattle.tsc_cache.specs.CacheParts.{plain_front_of, plain_older_of, plain_pages_of};

@@ -5,8 +5,8 @@
 //! pages by it, and nothing else asks it.
 ghost use Rattle.std.specs.Prelude.{◌≡◌, ◌≤◌, ◌*◌, min, true, false, IfOk, OnErr};
 ghost use Rattle.tsc_span.specs.Span.{is_empty_span};
-ghost use Rattle.tsc_page_nodes.specs.Limits.{least_size, most_size};
-ghost use Rattle.tsc_cache.specs.Settings.{fits};
+ghost use Rattle.tsc_page_model.specs.Limits.{least_size, most_size};
+ghost use Rattle.tsc_cache.specs.ConfigView.{fits};
 ghost use Rattle.tsc_cache.specs.State.{kept_after_rotation};
 ghost use Rattle.tsc_cache.specs.Rotation.{next_size, is_past_retention, drops_oldest};
 ghost use Rattle.tsc_cache.specs.Rotation.{saturating_inc, RotatesWith};
@@ -144,11 +144,11 @@ impl Cache {
         now: Timestamp,
     ) -> Result<Added, NoMemory>
         requires not_empty { is_empty_span span.now ≡ false }
-        requires fits { fits self.old.settings span.now ≡ true }
+        requires fits { fits self.old.config span.now ≡ true }
         ensures rotated { IfOk result
             (λ added. RotatesWith self.old self.new (record { span = span.now; value = value }) now
             added.evicted × (added ≡ kept_after_rotation added.evicted)) }
-        ensures settings { self.new.settings ≡ self.old.settings }
+        ensures config { self.new.config ≡ self.old.config }
         ensures unchanged { OnErr result (self.new ≡ self.old) }
     {
         let former = self.pages.front();
@@ -173,11 +173,11 @@ impl PlainCache {
         now: Timestamp,
     ) -> Result<Added, NoMemory>
         requires not_empty { is_empty_span span.now ≡ false }
-        requires fits { fits self.old.settings span.now ≡ true }
+        requires fits { fits self.old.config span.now ≡ true }
         ensures rotated { IfOk result
             (λ added. RotatesWith self.old self.new (record { span = span.now; value = value }) now
             added.evicted × (added ≡ kept_after_rotation added.evicted)) }
-        ensures settings { self.new.settings ≡ self.old.settings }
+        ensures config { self.new.config ≡ self.old.config }
         ensures unchanged { OnErr result (self.new ≡ self.old) }
     {
         let former = self.pages.front();

@@ -1,5 +1,7 @@
+//! What a cache on one thread promises, however it keeps what was added. Both caches meet one
+//! trait, so a law of one is a law of the other.
 ghost use Rattle.std.specs.Prelude.{◌≡◌, Bool, length, true, false, IsOk, IfOk, OnErr};
-ghost use Rattle.tsc_cache.specs.Settings.{Settings, IsWithinLimits, fits};
+ghost use Rattle.tsc_cache.specs.ConfigView.{ConfigView, IsWithinLimits, fits};
 ghost use Rattle.tsc_cache.specs.State.{CacheState, opening, look, is_kept};
 ghost use Rattle.tsc_cache.specs.CacheView.{CacheView, RepresentsState, Adds, cache_answer};
 ghost use Rattle.tsc_cache.specs.AnswersAdd.{AnswersAdd, AnswersAddAll};
@@ -45,7 +47,7 @@ pub trait TimestampCache: Drop {
         value: Value,
         now: Timestamp,
     ) -> Result<Added, NoMemory>
-        requires fits { fits (view self.old).settings span.now ≡ true }
+        requires fits { fits (view self.old).config span.now ≡ true }
         ensures seen { IfOk result
             (λ added. Adds (view self.old) (view self.new)
             (record { span = span.now; value = value }) now added) }
@@ -63,26 +65,26 @@ pub trait TimestampCache: Drop {
     /// times, with its owner where all of that time are of one owner.
     fn get_max(&self, span: &Span) -> Value
         ensures value { result ≡ cache_answer (view self.now) span.now }
-        ensures stands { (settings : Settings) (s : CacheState) →
-            RepresentsState (view self.now) settings s → result ≡ look s span.now };
+        ensures stands { (config : ConfigView) (s : CacheState) →
+            RepresentsState (view self.now) config s → result ≡ look s span.now };
 
     /// Where the floor stands. Whoever has a cache also learns here that its settings are within
     /// their limits.
     fn low_water(&self) -> Timestamp
         ensures value { result ≡ (view self.now).floor }
-        ensures limits { IsWithinLimits (view self.now).settings }
-        ensures stands { (settings : Settings) (s : CacheState) →
-            RepresentsState (view self.now) settings s → result ≡ s.floor };
+        ensures limits { IsWithinLimits (view self.now).config }
+        ensures stands { (config : ConfigView) (s : CacheState) →
+            RepresentsState (view self.now) config s → result ≡ s.floor };
 
     /// How many pages there are.
     fn pages(&self) -> usize
         ensures value { result ≡ length (view self.now).pages }
-        ensures stands { (settings : Settings) (s : CacheState) →
-            RepresentsState (view self.now) settings s → result ≡ length s.pages };
+        ensures stands { (config : ConfigView) (s : CacheState) →
+            RepresentsState (view self.now) config s → result ≡ length s.pages };
 
     /// How often the pages rotated. The count stays at 2^64 - 1 once it is there.
     fn rotations(&self) -> u64
         ensures value { result ≡ (view self.now).rotations }
-        ensures stands { (settings : Settings) (s : CacheState) →
-            RepresentsState (view self.now) settings s → result ≡ s.rotations };
+        ensures stands { (config : ConfigView) (s : CacheState) →
+            RepresentsState (view self.now) config s → result ≡ s.rotations };
 }

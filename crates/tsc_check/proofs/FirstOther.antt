@@ -104,18 +104,18 @@ first_is (c ∷ cs) (l ∷ ls) before = elim (tested (is_line_of c l)) [
   | inr e ↦ rw e (0, omega arith, omega arith, ap not e, λ j low. absurd (omega (arith, low)))
 ]
 
-told : (cs : List PlacedCall) (ls : List Line) (o : Option ℕ) → IsFirstOther cs ls 0 o →
+reported : (cs : List PlacedCall) (ls : List Line) (o : Option ℕ) → IsFirstOther cs ls 0 o →
     o ≡ least (is_wrong_call cs ls) (max (length cs) (length ls))
-told cs ls None f = sym (least_none_below (is_wrong_call cs ls) (max (length cs) (length ls))
+reported cs ls None f = sym (least_none_below (is_wrong_call cs ls) (max (length cs) (length ls))
     (λ i low. f.1 i))
-told cs ls (Some i) f =
+reported cs ls (Some i) f =
     let n = max (length cs) (length ls) in
     ap Some (omega (arith, f.1)) ∙ sym (least_at (is_wrong_call cs ls) n f.0 (f.2, f.3, f.4))
 
 -- it is the least line that fails the first test
 pub first_is_least : (cs : List PlacedCall) (ls : List Line) →
     first_other 0 cs ls ≡ least (is_wrong_call cs ls) (max (length cs) (length ls))
-first_is_least cs ls = told cs ls (first_other 0 cs ls) (first_is cs ls 0)
+first_is_least cs ls = reported cs ls (first_other 0 cs ls) (first_is cs ls 0)
 
 -- where there is none, there are as many lines as calls
 pub as_many : (cs : List PlacedCall) (ls : List Line) → first_other 0 cs ls ≡ None →

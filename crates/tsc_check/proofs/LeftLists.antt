@@ -20,8 +20,8 @@ pub next_list : (lists : List (List Call)) (thread from : ℕ) (calls : List Cal
     whole ≡ first_other from (calls_of_lists thread (drop thread lists)) (drop from lines)
     → whole ≡ first_other from (calls_of_list thread 0 calls ++
     calls_of_lists (thread + 1) (drop (thread + 1) lists)) (drop from lines)
-next_list lists thread from calls lines whole at told =
-    told ∙ ap (λ ls. first_other from (calls_of_lists thread ls) (drop from lines))
+next_list lists thread from calls lines whole at reported =
+    reported ∙ ap (λ ls. first_other from (calls_of_lists thread ls) (drop from lines))
     (left_from lists thread calls at)
     ∙ ap (λ n. first_other from (calls_of_list thread 0 calls ++
     calls_of_lists n (drop (thread + 1) lists)) (drop from lines)) (sym (add-one thread))
@@ -31,20 +31,20 @@ pub no_list_left : (lists : List (List Call)) (thread from : ℕ) (lines : List 
     (whole : Option ℕ) → length lists ≤ thread →
     whole ≡ first_other from (calls_of_lists thread (drop thread lists)) (drop from lines) →
     whole ≡ first_other from [] (drop from lines)
-no_list_left lists thread from lines whole end told =
-    told ∙ ap (λ ls. first_other from (calls_of_lists thread ls) (drop from lines))
+no_list_left lists thread from lines whole end reported =
+    reported ∙ ap (λ ls. first_other from (calls_of_lists thread ls) (drop from lines))
     (drop_of_length-le lists end)
 
 pub some_line_left : (lines : List Line) (from : ℕ) (whole : Option ℕ) → from < length lines →
     whole ≡ first_other from [] (drop from lines) → Some from ≡ whole
-some_line_left [] from whole more told = absurd (omega (arith, more))
-some_line_left (l ∷ lines) from whole more told =
-    sym (told ∙ ap (first_other from []) (drop-cons (l ∷ lines) from l more))
+some_line_left [] from whole more reported = absurd (omega (arith, more))
+some_line_left (l ∷ lines) from whole more reported =
+    sym (reported ∙ ap (first_other from []) (drop-cons (l ∷ lines) from l more))
 
 pub no_line_left : (lines : List Line) (from : ℕ) (whole : Option ℕ) → length lines ≤ from →
     whole ≡ first_other from [] (drop from lines) → whole ≡ None
-no_line_left lines from whole end told =
-    told ∙ ap (first_other from []) (drop_of_length-le lines end)
+no_line_left lines from whole end reported =
+    reported ∙ ap (first_other from []) (drop_of_length-le lines end)
 
 calls_in_list : (thread index : ℕ) (calls : List Call) →
     length (calls_of_list thread index calls) ≡ length calls

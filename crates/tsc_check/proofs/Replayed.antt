@@ -1,7 +1,7 @@
 -- The log of a replay is that of a run.
 use Rattle.std.proofs.Common.{cond, ◌≡◌, ◌∙◌, inl, inr, sym, ap, refl, ℕ, suc, ◌+◌, ◌≤◌, List, [], ◌∷◌, length, arith}
 use Rattle.std.proofs.lemmas.List.Sums.{sum_by-cons}
-use Rattle.tsc_cache.specs.Settings.{Settings}
+use Rattle.tsc_cache.specs.ConfigView.{ConfigView}
 use Rattle.tsc_cache.specs.History.{History, BeginsWith}
 use Rattle.tsc_cache.proofs.Beginnings.{begins_itself, begins_on}
 use Rattle.tsc_trace_format.specs.Calls.{addition_of, adds}
@@ -37,59 +37,59 @@ lists_begin thread g (calls ∷ lists) =
     begins_on (after_lists thread g (calls ∷ lists)) (after_calls thread g calls) g
     (lists_begin (suc thread) (after_calls thread g calls) lists) (calls_begin thread g calls)
 
-reach_within : (settings : Settings) (thread : ℕ) (g : History) (call : Call) →
-    reach (said_after settings g call) ≤ length (after_call thread g call)
-reach_within settings thread g call =
-    let s = said_after settings g call in
+reach_within : (config : ConfigView) (thread : ℕ) (g : History) (call : Call) →
+    reach (said_after config g call) ≤ length (after_call thread g call)
+reach_within config thread g call =
+    let s = said_after config g call in
     let longer : length (after_call thread g call) ≡ length g + cond (is_add s) 1 0 =
     addition_length thread g (addition_of call) ∙
-    ap {B = ℕ} (λ b. length g + cond b 1 0) (sym (adds_said settings g call)) in
+    ap {B = ℕ} (λ b. length g + cond b 1 0) (sym (adds_said config g call)) in
     elim (tested (is_add s)) [
       | inl e ↦ omega (
         arith,
         reach_of_add s e,
-        front_said settings g call,
+        front_said config g call,
         longer,
         ap {B = ℕ} (λ b. cond b 1 0) e,
       )
       | inr e ↦ omega (
         arith,
         reach_of_lookup s e,
-        front_said settings g call,
+        front_said config g call,
         longer,
         ap {B = ℕ} (λ b. cond b 1 0) e,
       )
     ]
 
-list_is_true : (settings : Settings) (h : History) (thread index reached : ℕ) (g : History)
+list_is_true : (config : ConfigView) (h : History) (thread index reached : ℕ) (g : History)
     (calls : List Call) → BeginsWith h (after_calls thread g calls) → reached ≤ length g →
-    AreTrueLines settings h thread index reached calls (lines_of_list settings thread index g calls)
-list_is_true settings h thread index reached g [] b r = tt
-list_is_true settings h thread index reached g (call ∷ calls) b r = (
+    AreTrueLines config h thread index reached calls (lines_of_list config thread index g calls)
+list_is_true config h thread index reached g [] b r = tt
+list_is_true config h thread index reached g (call ∷ calls) b r = (
   record {
     before = g;
-    told = refl;
+    reported = refl;
     part = begins_on h (after_calls thread (after_call thread g call) calls)
         (after_call thread g call) b (calls_begin thread (after_call thread g call) calls);
     later = r;
   },
-  list_is_true settings h thread (suc index) (reach (said_after settings g call))
-      (after_call thread g call) calls b (reach_within settings thread g call),
+  list_is_true config h thread (suc index) (reach (said_after config g call))
+      (after_call thread g call) calls b (reach_within config thread g call),
 )
 
-lists_are_true : (settings : Settings) (h : History) (thread : ℕ) (g : History)
+lists_are_true : (config : ConfigView) (h : History) (thread : ℕ) (g : History)
     (lists : List (List Call)) → BeginsWith h (after_lists thread g lists) →
-    AreTrueLists settings h thread lists (lines_of_lists settings thread g lists)
-lists_are_true settings h thread g [] b = refl
-lists_are_true settings h thread g (calls ∷ lists) b = (
-  lines_of_list settings thread 0 g calls,
-  lines_of_lists settings (suc thread) (after_calls thread g calls) lists,
+    AreTrueLists config h thread lists (lines_of_lists config thread g lists)
+lists_are_true config h thread g [] b = refl
+lists_are_true config h thread g (calls ∷ lists) b = (
+  lines_of_list config thread 0 g calls,
+  lines_of_lists config (suc thread) (after_calls thread g calls) lists,
   refl,
-  list_is_true settings h thread 0 0 g calls
+  list_is_true config h thread 0 0 g calls
       (begins_on h (after_lists (suc thread) (after_calls thread g calls) lists)
       (after_calls thread g calls) b (lists_begin (suc thread) (after_calls thread g calls) lists))
       (omega arith),
-  lists_are_true settings h (suc thread) (after_calls thread g calls) lists b,
+  lists_are_true config h (suc thread) (after_calls thread g calls) lists b,
 )
 
 calls_length : (thread : ℕ) (g : History) (calls : List Call) →

@@ -3,10 +3,10 @@ use Rattle.std.proofs.Common.{cond, ◌≡◌, ◌⊎◌, inl, inr, ◌∙◌, s
 use Rattle.std.specs.Prelude.{slice_get}
 use Rattle.std.proofs.lemmas.Bool.Decides.{nat_tests}
 use Rattle.std.proofs.lemmas.Option.{slice_get_within}
-use Rattle.tsc_time.specs.OwnedTime.{OwnedTime}
+use Rattle.tsc_time.specs.ValueView.{ValueView}
 use Rattle.tsc_time.proofs.TimeOrder.{is_same_time-Decides}
 use Rattle.tsc_time.proofs.SharedOwner.{is_same_owner-Decides}
-use Rattle.tsc_cache.specs.Settings.{Settings}
+use Rattle.tsc_cache.specs.ConfigView.{ConfigView}
 use Rattle.tsc_cache.specs.declared.added.Added.{Added}
 use Rattle.tsc_cache.specs.History.{History, BeginsWith}
 use Rattle.tsc_cache.proofs.Beginnings.{begins_on}
@@ -15,7 +15,7 @@ use Rattle.tsc_trace_format.specs.declared.trace.Call.{Call}
 use Rattle.tsc_trace_format.specs.Traces.{Trace}
 use Rattle.tsc_trace.specs.Log.{said_after, after_call}
 use Rattle.tsc_trace.proofs.Additions.{addition_begins, addition_length, no_addition}
-use Rattle.tsc_trace.proofs.AnswersOfCalls.{tells_where_adds}
+use Rattle.tsc_trace.proofs.AnswersOfCalls.{reports_where_adds}
 use Rattle.tsc_trace.specs.declared.log.Line.{Line}
 use Rattle.tsc_trace.specs.declared.log.CallAnswer.{CallAnswer}
 use Rattle.tsc_trace.specs.declared.log.CallAnswer.TheVariants as said
@@ -174,7 +174,7 @@ one_longer : (thread : ℕ) (g : History) (call : Call) (s : CallAnswer) → is_
     is_add s ≡ true → length (after_call thread g call) ≡ suc (length g)
 one_longer thread g call s kind add =
     let one : ◌≡◌ {A = ℕ} (cond (adds call) 1 0) 1 =
-    ap {B = ℕ} (λ b. cond b 1 0) (sym (tells_where_adds call s kind) ∙ add) in
+    ap {B = ℕ} (λ b. cond b 1 0) (sym (reports_where_adds call s kind) ∙ add) in
     omega (arith, addition_length thread g (addition_of call), one)
 
 -- what the next Add makes of those before it
@@ -255,7 +255,7 @@ same_added a b e =
     let evicted = is_number a.evicted b.evicted outer.1 in
     λ i. record { kept = kept i; rotated = rotated i; evicted = evicted i }
 
-same_value : (v w : OwnedTime) → is_same_value v w ≡ true → v ≡ w
+same_value : (v w : ValueView) → is_same_value v w ≡ true → v ≡ w
 same_value v w e =
     let parts = both_parts _ _ e in
     let time = (is_same_time-Decides v.time w.time).0 parts.0 in
@@ -296,7 +296,7 @@ goes_on trace lines pass i line at c of =
           subst (BeginsWith all) one
           (adds_begin_all trace lines pass (suc place) (omega (arith, below)))
       | inr e ↦
-          let none : adds c.call ≡ false = sym (tells_where_adds c.call line.said kind) ∙ e in
+          let none : adds c.call ≡ false = sym (reports_where_adds c.call line.said kind) ∙ e in
           subst (BeginsWith all) (sym (no_addition c.thread g (addition_of c.call) none))
           (adds_begin_all trace lines pass place within)
     ]
@@ -333,41 +333,41 @@ line_is_true trace lines pass i line at c of =
     adds_length trace lines pass (front_of line.said) within)) in
     record {
       before = before;
-      told =
+      reported =
           λ k. record { thread = thread k; index = index k; said = answer k };
       part =
           goes_on trace lines pass i line at c of;
     }
 
-all_true_from : (settings : Settings) (h : History) (cs : List PlacedCall) (ls : List Line) →
+all_true_from : (config : ConfigView) (h : History) (cs : List PlacedCall) (ls : List Line) →
     length cs ≡ length ls → ((i : ℕ) (c : PlacedCall) (l : Line) → slice_get cs i ≡ Some c →
-    slice_get ls i ≡ Some l → IsTrueOf settings h c l) → AllTrue settings h cs ls
-all_true_from settings h [] [] e f = tt
-all_true_from settings h [] (l ∷ ls) e f = absurd (omega (arith, e))
-all_true_from settings h (c ∷ cs) [] e f = absurd (omega (arith, e))
-all_true_from settings h (c ∷ cs) (l ∷ ls) e f = (
+    slice_get ls i ≡ Some l → IsTrueOf config h c l) → AllTrue config h cs ls
+all_true_from config h [] [] e f = tt
+all_true_from config h [] (l ∷ ls) e f = absurd (omega (arith, e))
+all_true_from config h (c ∷ cs) [] e f = absurd (omega (arith, e))
+all_true_from config h (c ∷ cs) (l ∷ ls) e f = (
   f 0 c l refl refl,
-  all_true_from settings h cs ls (omega (arith, e))
+  all_true_from config h cs ls (omega (arith, e))
       (λ i d m a b. f (suc i) d m a b),
 )
 
 -- ---- list by list
 
-record IsSplit (settings : Settings) (h : History) (cs ds : List PlacedCall) (ls : List Line) : Type
+record IsSplit (config : ConfigView) (h : History) (cs ds : List PlacedCall) (ls : List Line) : Type
     0 where
   own : List Line
   rest : List Line
   joined : ls ≡ own ++ rest
-  first : AllTrue settings h cs own
-  second : AllTrue settings h ds rest
+  first : AllTrue config h cs own
+  second : AllTrue config h ds rest
 
-split_true : (settings : Settings) (h : History) (cs ds : List PlacedCall) (ls : List Line) →
-    AllTrue settings h (cs ++ ds) ls → IsSplit settings h cs ds ls
-split_true settings h [] ds ls a =
+split_true : (config : ConfigView) (h : History) (cs ds : List PlacedCall) (ls : List Line) →
+    AllTrue config h (cs ++ ds) ls → IsSplit config h cs ds ls
+split_true config h [] ds ls a =
     record { own = []; rest = ls; joined = refl; first = tt; second = a }
-split_true settings h (c ∷ cs) ds [] a = absurd a
-split_true settings h (c ∷ cs) ds (l ∷ ls) a =
-    let s = split_true settings h cs ds ls a.1 in
+split_true config h (c ∷ cs) ds [] a = absurd a
+split_true config h (c ∷ cs) ds (l ∷ ls) a =
+    let s = split_true config h cs ds ls a.1 in
     record {
       own = l ∷ s.own;
       rest = s.rest;
@@ -390,29 +390,29 @@ ordered_back : {X : Type 0} (R : X → X → Type 0) (xs ys : List X) → Ordere
 ordered_back R [] ys a = a
 ordered_back R (x ∷ xs) ys a = ordered_back R xs ys a.1
 
-list_is_true : (settings : Settings) (h : History) (thread index reached : ℕ) (calls : List Call)
-    (ls : List Line) → AllTrue settings h (calls_of_list thread index calls) ls →
+list_is_true : (config : ConfigView) (h : History) (thread index reached : ℕ) (calls : List Call)
+    (ls : List Line) → AllTrue config h (calls_of_list thread index calls) ls →
     Ordered GoesBefore ls → ((c : Line) (cs : List Line) → ls ≡ c ∷ cs → reached ≤ front_of c.said)
-    → AreTrueLines settings h thread index reached calls ls
-list_is_true settings h thread index reached [] [] a o r = tt
-list_is_true settings h thread index reached [] (l ∷ ls) a o r = absurd a
-list_is_true settings h thread index reached (call ∷ calls) [] a o r = absurd a
-list_is_true settings h thread index reached (call ∷ calls) (l ∷ ls) a o r =
+    → AreTrueLines config h thread index reached calls ls
+list_is_true config h thread index reached [] [] a o r = tt
+list_is_true config h thread index reached [] (l ∷ ls) a o r = absurd a
+list_is_true config h thread index reached (call ∷ calls) [] a o r = absurd a
+list_is_true config h thread index reached (call ∷ calls) (l ∷ ls) a o r =
     let t = a.0 in
-    let front : front_of l.said ≡ length t.before = ap (λ (k : Line). front_of k.said) t.told ∙
-    front_said settings t.before call in (
+    let front : front_of l.said ≡ length t.before = ap (λ (k : Line). front_of k.said) t.reported ∙
+    front_said config t.before call in (
       record {
         before = t.before;
-        told = t.told;
+        reported = t.reported;
         part = t.part;
         later = omega (arith, r l ls refl, front);
       },
-      list_is_true settings h thread (suc index) (reach l.said) calls ls a.1 o.1
+      list_is_true config h thread (suc index) (reach l.said) calls ls a.1 o.1
           (λ m ms e. next calls ls a.1 o.0 m ms e),
     )
   where
     next : (more : List Call) (ks : List Line) →
-        AllTrue settings h (calls_of_list thread (suc index) more) ks → Each (GoesBefore l) ks →
+        AllTrue config h (calls_of_list thread (suc index) more) ks → Each (GoesBefore l) ks →
         (m : Line) (ms : List Line) → ks ≡ m ∷ ms → reach l.said ≤ front_of m.said
     next more [] b g m ms e = absurd (empty e)
       where
@@ -422,27 +422,27 @@ list_is_true settings h thread index reached (call ∷ calls) (l ∷ ls) a o r =
     next (d ∷ more) (k ∷ ks) b g m ms e =
         let one : k ≡ m = head e in
         subst (λ (x : Line). reach l.said ≤ front_of x.said) one
-        (g.0 (ap (λ (x : Line). x.thread) a.0.told ∙
-        sym (ap (λ (x : Line). x.thread) b.0.told)))
+        (g.0 (ap (λ (x : Line). x.thread) a.0.reported ∙
+        sym (ap (λ (x : Line). x.thread) b.0.reported)))
       where
         head : k ∷ ks ≡ m ∷ ms → k ≡ m
         head f = cc
 
-lists_are_true : (settings : Settings) (h : History) (thread : ℕ) (lists : List (List Call))
-    (ls : List Line) → AllTrue settings h (calls_of_lists thread lists) ls → Ordered GoesBefore ls →
-    AreTrueLists settings h thread lists ls
-lists_are_true settings h thread [] [] a o = refl
-lists_are_true settings h thread [] (l ∷ ls) a o = absurd a
-lists_are_true settings h thread (calls ∷ lists) ls a o =
-    let s = split_true settings h (calls_of_list thread 0 calls) (calls_of_lists (suc thread) lists)
+lists_are_true : (config : ConfigView) (h : History) (thread : ℕ) (lists : List (List Call))
+    (ls : List Line) → AllTrue config h (calls_of_lists thread lists) ls → Ordered GoesBefore ls →
+    AreTrueLists config h thread lists ls
+lists_are_true config h thread [] [] a o = refl
+lists_are_true config h thread [] (l ∷ ls) a o = absurd a
+lists_are_true config h thread (calls ∷ lists) ls a o =
+    let s = split_true config h (calls_of_list thread 0 calls) (calls_of_lists (suc thread) lists)
     ls a in
     let both : Ordered GoesBefore (s.own ++ s.rest) = subst (Ordered GoesBefore) s.joined o in (
       s.own,
       s.rest,
       s.joined,
-      list_is_true settings h thread 0 0 calls s.own s.first
+      list_is_true config h thread 0 0 calls s.own s.first
           (ordered_front GoesBefore s.own s.rest both) (λ c cs e. omega arith),
-      lists_are_true settings h (suc thread) lists s.rest s.second
+      lists_are_true config h (suc thread) lists s.rest s.second
           (ordered_back GoesBefore s.own s.rest both),
     )
 

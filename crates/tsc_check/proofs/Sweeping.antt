@@ -144,7 +144,7 @@ same_some : (a b : Call) → Some a ≡ Some b → a ≡ b
 same_some a b e = cc
 
 -- a lookup's line tells another answer just where the test says so
-pub lookup_told : (trace : Trace) (lines : List Line) → AreInOrder trace lines →
+pub lookup_reported : (trace : Trace) (lines : List Line) → AreInOrder trace lines →
     (i : ℕ) (line : Line) → slice_get lines i ≡ Some line → (call : Call) →
     call_in (slice_get trace.threads line.thread) line.index ≡ Some call
     → (other : Bool) (stands : History → Type 0) →
@@ -152,19 +152,19 @@ pub lookup_told : (trace : Trace) (lines : List Line) → AreInOrder trace lines
     other ≡ not (is_same_answer line.said (said_after trace.config h call)))
     → (front : ℕ) → looks_up_there lines front i ≡ true →
     stands (first_adds (calls_of trace) lines front) → other ≡ is_wrong_answer trace lines i
-lookup_told trace lines order i line at call there other stands tells front looks s =
+lookup_reported trace lines order i line at call there other stands reports front looks s =
     let c = has_call trace lines order.calls i line at in
     let same : call ≡ c.call.call = same_some call c.call.call (sym there ∙ c.there) in
     let parts = lookup_parts line.said front
     (sym (at_line lines i line (λ l. is_lookup_at front l.said) at) ∙ looks) in
-    tells (first_adds (calls_of trace) lines front) s parts.0
+    reports (first_adds (calls_of trace) lines front) s parts.0
     ∙ ap (λ d. not (is_same_answer line.said
     (said_after trace.config (first_adds (calls_of trace) lines front) d))) same
     ∙ ap (λ f. not (is_same_answer line.said
     (said_after trace.config (first_adds (calls_of trace) lines f) c.call.call))) (sym parts.1)
     ∙ sym (wrong_at trace lines i line c.call at c.at)
 
-pub add_told : (trace : Trace) (lines : List Line) → AreInOrder trace lines →
+pub add_reported : (trace : Trace) (lines : List Line) → AreInOrder trace lines →
     (i : ℕ) (line : Line) → slice_get lines i ≡ Some line → (call : Call) →
     call_in (slice_get trace.threads line.thread) line.index ≡ Some call
     → (other : Bool) (stands : History → Type 0) →
@@ -172,12 +172,12 @@ pub add_told : (trace : Trace) (lines : List Line) → AreInOrder trace lines �
     other ≡ not (is_same_answer line.said (said_after trace.config h call)))
     → (place : ℕ) → adds_there lines place i ≡ true →
     stands (first_adds (calls_of trace) lines place) → other ≡ is_wrong_answer trace lines i
-add_told trace lines order i line at call there other stands tells place adds s =
+add_reported trace lines order i line at call there other stands reports place adds s =
     let c = has_call trace lines order.calls i line at in
     let same : call ≡ c.call.call = same_some call c.call.call (sym there ∙ c.there) in
     let parts = kind_of_add line.said place
     (sym (at_line lines i line (λ l. is_add_at place l.said) at) ∙ adds) in
-    tells (first_adds (calls_of trace) lines place) s parts.0
+    reports (first_adds (calls_of trace) lines place) s parts.0
     (ap (λ d. is_of_kind d line.said) same ∙ c.kind)
     ∙ ap (λ d. not (is_same_answer line.said
     (said_after trace.config (first_adds (calls_of trace) lines place) d))) same

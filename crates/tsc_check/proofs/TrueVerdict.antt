@@ -5,7 +5,7 @@ use Rattle.std.proofs.lemmas.Bool.Decides.{nat_tests}
 use Rattle.std.proofs.Math.Seq.{take-append_seam}
 use Rattle.tsc_time.proofs.TimeOrder.{is_same_time-Decides}
 use Rattle.tsc_time.proofs.SharedOwner.{is_same_owner-Decides}
-use Rattle.tsc_cache.specs.Settings.{Settings}
+use Rattle.tsc_cache.specs.ConfigView.{ConfigView}
 use Rattle.tsc_cache.specs.declared.history.Entry.{Entry}
 use Rattle.tsc_cache.specs.History.{History, BeginsWith, state_of}
 use Rattle.tsc_trace_format.specs.Calls.{Addition, kind_of, is_same_kind, addition_of, adds}
@@ -31,27 +31,27 @@ use Rattle.tsc_check.proofs.TrueRuns.{IsTrueOf, AllTrue, GoesBefore, front_said,
 same_number : (a : ℕ) → (a == a) ≡ true
 same_number a = grind (arith, nat_tests)
 
-kind_said : (settings : Settings) (before : History) (call : Call) →
-    is_of_kind call (said_after settings before call) ≡ true
-kind_said settings before call = ap (is_same_kind (kind_of call))
-    (kind_in settings (state_of settings before) (length before) call) ∙ kind_itself (kind_of call)
+kind_said : (config : ConfigView) (before : History) (call : Call) →
+    is_of_kind call (said_after config before call) ≡ true
+kind_said config before call = ap (is_same_kind (kind_of call))
+    (kind_in config (state_of config before) (length before) call) ∙ kind_itself (kind_of call)
 
-line_of_call : (settings : Settings) (h : History) (c : PlacedCall) (line : Line) →
-    IsTrueOf settings h c line → is_line_of c line ≡ true
-line_of_call settings h c line t =
-    ap (is_line_of c) t.told ∙ rw (
+line_of_call : (config : ConfigView) (h : History) (c : PlacedCall) (line : Line) →
+    IsTrueOf config h c line → is_line_of c line ≡ true
+line_of_call config h c line t =
+    ap (is_line_of c) t.reported ∙ rw (
       same_number c.thread,
       same_number c.index,
-      kind_said settings t.before c.call,
+      kind_said config t.before c.call,
     ) refl
 
-right_calls : (settings : Settings) (h : History) (cs : List PlacedCall) (ls : List Line) →
-    AllTrue settings h cs ls → (i : ℕ) → is_wrong_call cs ls i ≡ false
-right_calls settings h [] [] a i = refl
-right_calls settings h [] (l ∷ ls) a i = absurd a
-right_calls settings h (c ∷ cs) [] a i = absurd a
-right_calls settings h (c ∷ cs) (l ∷ ls) a zero = ap not (line_of_call settings h c l a.0)
-right_calls settings h (c ∷ cs) (l ∷ ls) a (suc i) = right_calls settings h cs ls a.1 i
+right_calls : (config : ConfigView) (h : History) (cs : List PlacedCall) (ls : List Line) →
+    AllTrue config h cs ls → (i : ℕ) → is_wrong_call cs ls i ≡ false
+right_calls config h [] [] a i = refl
+right_calls config h [] (l ∷ ls) a i = absurd a
+right_calls config h (c ∷ cs) [] a i = absurd a
+right_calls config h (c ∷ cs) (l ∷ ls) a zero = ap not (line_of_call config h c l a.0)
+right_calls config h (c ∷ cs) (l ∷ ls) a (suc i) = right_calls config h cs ls a.1 i
 
 -- ---- the second test
 
@@ -73,14 +73,14 @@ both_parts false b e = absurd (true≢false (sym e))
 
 -- where a call's answer is that of an Add, the call adds, and its place is the length of the
 -- history
-placed_said : (settings : Settings) (before : History) (call : Call) (p : ℕ) →
-    is_add_at p (said_after settings before call) ≡ true → (adds call ≡ true) × (length before ≡ p)
-placed_said settings before call p at =
-    let parts = both_parts (is_add (said_after settings before call))
-    (front_of (said_after settings before call) == p) at in (
-      sym (adds_said settings before call) ∙ parts.0,
-      sym (front_said settings before call) ∙
-          is_number (front_of (said_after settings before call)) p parts.1,
+placed_said : (config : ConfigView) (before : History) (call : Call) (p : ℕ) →
+    is_add_at p (said_after config before call) ≡ true → (adds call ≡ true) × (length before ≡ p)
+placed_said config before call p at =
+    let parts = both_parts (is_add (said_after config before call))
+    (front_of (said_after config before call) == p) at in (
+      sym (adds_said config before call) ∙ parts.0,
+      sym (front_said config before call) ∙
+          is_number (front_of (said_after config before call)) p parts.1,
     )
 
 seated_addition : (h before : History) (thread : ℕ) (o : Option Addition) →
@@ -91,13 +91,13 @@ seated_addition h before thread (Some a) part p adds at =
     let e = entry_after thread before a in
     (e, rw (← at, part.1) (at_seam before part.0 e), refl)
 
-seated : (settings : Settings) (h : History) (c : PlacedCall) (line : Line) →
-    IsTrueOf settings h c line → IsSeated h line
-seated settings h c line t p at =
-    let placed = placed_said settings t.before c.call p
-    (sym (ap (λ l. is_add_at p l.said) t.told) ∙ at) in
+seated : (config : ConfigView) (h : History) (c : PlacedCall) (line : Line) →
+    IsTrueOf config h c line → IsSeated h line
+seated config h c line t p at =
+    let placed = placed_said config t.before c.call p
+    (sym (ap (λ l. is_add_at p l.said) t.reported) ∙ at) in
     let s = seated_addition h t.before c.thread (addition_of c.call) t.part p placed.0 placed.1 in
-    (s.0, s.1, s.2 ∙ sym (ap (λ l. l.thread) t.told))
+    (s.0, s.1, s.2 ∙ sym (ap (λ l. l.thread) t.reported))
 
 begins_length : (h before : History) → BeginsWith h before → length before ≤ length h
 begins_length h before part = omega (arith, ap length part.1, length-append before part.0)
@@ -107,22 +107,22 @@ within_call : (h before : History) (thread : ℕ) (call : Call) →
 within_call h before thread call part =
     begins_length h before (begins_before h before thread (addition_of call) part)
 
-within : (settings : Settings) (h : History) (c : PlacedCall) (line : Line) →
-    IsTrueOf settings h c line → IsWithin h line
-within settings h c line t = omega (
+within : (config : ConfigView) (h : History) (c : PlacedCall) (line : Line) →
+    IsTrueOf config h c line → IsWithin h line
+within config h c line t = omega (
   arith,
-  ap (λ l. front_of l.said) t.told,
-  front_said settings t.before c.call,
+  ap (λ l. front_of l.said) t.reported,
+  front_said config t.before c.call,
   within_call h t.before c.thread c.call t.part,
 )
 
-each_line : (settings : Settings) (h : History) (P : Line → Type 0) →
-    ((c : PlacedCall) (line : Line) → IsTrueOf settings h c line → P line) →
-    (cs : List PlacedCall) (ls : List Line) → AllTrue settings h cs ls → Each P ls
-each_line settings h P f [] [] a = tt
-each_line settings h P f [] (l ∷ ls) a = absurd a
-each_line settings h P f (c ∷ cs) [] a = absurd a
-each_line settings h P f (c ∷ cs) (l ∷ ls) a = (f c l a.0, each_line settings h P f cs ls a.1)
+each_line : (config : ConfigView) (h : History) (P : Line → Type 0) →
+    ((c : PlacedCall) (line : Line) → IsTrueOf config h c line → P line) →
+    (cs : List PlacedCall) (ls : List Line) → AllTrue config h cs ls → Each P ls
+each_line config h P f [] [] a = tt
+each_line config h P f [] (l ∷ ls) a = absurd a
+each_line config h P f (c ∷ cs) [] a = absurd a
+each_line config h P f (c ∷ cs) (l ∷ ls) a = (f c l a.0, each_line config h P f cs ls a.1)
 
 some_below : (h : History) (p : ℕ) (e : Entry) → slice_get h p ≡ Some e → p < length h
 some_below [] p e s = absurd (no_some e s)
@@ -261,51 +261,51 @@ put_addition h before thread (Some a) part p adds at =
     ap (λ g. with_addition thread g (Some a)) front ∙ sym (begins_take h (before ++ e ∷ []) part) ∙
     ap (λ n. take n h) more
 
-put_call : (settings : Settings) (h before : History) (thread : ℕ) (call : Call) →
+put_call : (config : ConfigView) (h before : History) (thread : ℕ) (call : Call) →
     BeginsWith h (after_call thread before call) → (p : ℕ) →
-    is_add_at p (said_after settings before call) ≡ true →
+    is_add_at p (said_after config before call) ≡ true →
     after_call thread (take p h) call ≡ take (suc p) h
-put_call settings h before thread call part p at =
-    let placed = placed_said settings before call p at in
+put_call config h before thread call part p at =
+    let placed = placed_said config before call p at in
     put_addition h before thread (addition_of call) part p placed.0 placed.1
 
 -- where one is, just this one is
-one_put : (settings : Settings) (h : History) (p : ℕ) (cs : List PlacedCall) (ls : List Line) →
-    AllTrue settings h cs ls → count_at p ls ≡ 1 → with_adds_at p cs ls (take p h) ≡ take (suc p) h
-one_put settings h p [] [] a one = absurd (omega (arith, one))
-one_put settings h p [] (l ∷ ls) a one = absurd a
-one_put settings h p (c ∷ cs) [] a one = absurd a
-one_put settings h p (c ∷ cs) (l ∷ ls) a one = elim (tested (is_add_at p l.said)) [
+one_put : (config : ConfigView) (h : History) (p : ℕ) (cs : List PlacedCall) (ls : List Line) →
+    AllTrue config h cs ls → count_at p ls ≡ 1 → with_adds_at p cs ls (take p h) ≡ take (suc p) h
+one_put config h p [] [] a one = absurd (omega (arith, one))
+one_put config h p [] (l ∷ ls) a one = absurd a
+one_put config h p (c ∷ cs) [] a one = absurd a
+one_put config h p (c ∷ cs) (l ∷ ls) a one = elim (tested (is_add_at p l.said)) [
   | inl e ↦ rw (
     e,
-    put_call settings h a.0.before c.thread c.call a.0.part p
-        (sym (ap (λ (x : Line). is_add_at p x.said) a.0.told) ∙ e),
+    put_call config h a.0.before c.thread c.call a.0.part p
+        (sym (ap (λ (x : Line). is_add_at p x.said) a.0.reported) ∙ e),
   )
       (none_put p cs ls (take (suc p) h) (omega (arith, one, ap one_if e)))
-  | inr e ↦ rw e (one_put settings h p cs ls a.1 (omega (arith, one, ap one_if e)))
+  | inr e ↦ rw e (one_put config h p cs ls a.1 (omega (arith, one, ap one_if e)))
 ]
 
 -- the first Adds by their places are the first entries
-first_entries : (settings : Settings) (h : History) (cs : List PlacedCall) (ls : List Line) →
-    AllTrue settings h cs ls → ((p : ℕ) → p < length h → count_at p ls ≡ 1) → (p : ℕ) →
+first_entries : (config : ConfigView) (h : History) (cs : List PlacedCall) (ls : List Line) →
+    AllTrue config h cs ls → ((p : ℕ) → p < length h → count_at p ls ≡ 1) → (p : ℕ) →
     p ≤ length h → first_adds cs ls p ≡ take p h
-first_entries settings h cs ls a ones zero low = refl
-first_entries settings h cs ls a ones (suc p) low =
-    ap (with_adds_at p cs ls) (first_entries settings h cs ls a ones p (omega arith)) ∙
-    one_put settings h p cs ls a (ones p (omega arith))
+first_entries config h cs ls a ones zero low = refl
+first_entries config h cs ls a ones (suc p) low =
+    ap (with_adds_at p cs ls) (first_entries config h cs ls a ones p (omega arith)) ∙
+    one_put config h p cs ls a (ones p (omega arith))
 
 right_answer : (trace : Trace) (h : History) (all : List Line) (c : PlacedCall) (line : Line) →
     ((p : ℕ) → p ≤ length h → first_adds (calls_of trace) all p ≡ take p h) →
     IsTrueOf trace.config h c line
     → is_untrue_pair trace all (Some c) (Some line) ≡ false
 right_answer trace h all c line first t =
-    let front : front_of line.said ≡ length t.before = ap (λ l. front_of l.said) t.told ∙
+    let front : front_of line.said ≡ length t.before = ap (λ l. front_of l.said) t.reported ∙
     front_said trace.config t.before c.call in
     let before : first_adds (calls_of trace) all (front_of line.said) ≡ t.before =
     ap (first_adds (calls_of trace) all) front ∙
     first (length t.before) (within_call h t.before c.thread c.call t.part) ∙
     begins_take h t.before (begins_before h t.before c.thread (addition_of c.call) t.part) in
-    let says : line.said ≡ said_after trace.config t.before c.call = ap (λ l. l.said) t.told in
+    let says : line.said ≡ said_after trace.config t.before c.call = ap (λ l. l.said) t.reported in
     rw before (rw says (ap not (same_answers (said_after trace.config t.before c.call))))
 
 right_answers : (trace : Trace) (h : History) (all : List Line) →

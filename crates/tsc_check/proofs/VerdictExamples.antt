@@ -1,9 +1,9 @@
 -- Verdicts on small logs: two Adds in two lists and a lookup in a third, a list that looks up after
 -- its own Add, and a batch.
 use Rattle.std.specs.Prelude.{◌≡◌, ℕ, List, [], ◌∷◌, true, false, codes, refl}
-use Rattle.tsc_time.specs.OwnedTime.{unowned}
+use Rattle.tsc_time.specs.ValueView.{unowned}
 use Rattle.tsc_span.specs.Span.{point}
-use Rattle.tsc_cache.proofs.ExampleSettings.{at, of_first, of_second, usual, twenty, added}
+use Rattle.tsc_cache.proofs.ExampleConfig.{at, of_first, of_second, usual, twenty, added}
 use Rattle.tsc_trace_format.specs.declared.trace.Call.TheVariants.{Add, Batch, Get}
 use Rattle.tsc_trace_format.specs.Traces.{Trace}
 use Rattle.tsc_trace.specs.declared.log.Line.{Line}

@@ -1,6 +1,6 @@
 -- Lines that tell the truth of one history of a trace's Adds.
 use Rattle.std.specs.Prelude.{◌≡◌, ℕ, suc, ◌+◌, ◌≤◌, List, [], ◌∷◌, ◌++◌, length, count_by}
-use Rattle.tsc_cache.specs.Settings.{Settings}
+use Rattle.tsc_cache.specs.ConfigView.{ConfigView}
 use Rattle.tsc_cache.specs.History.{History, BeginsWith}
 use Rattle.tsc_trace_format.specs.Calls.{adds}
 use Rattle.tsc_trace_format.specs.declared.trace.Call.{Call}
@@ -22,33 +22,33 @@ adds_of_lists (calls ∷ lists) = adds_of_list calls + adds_of_lists lists
 -- A line tells the truth of a history: it says what its call answers after a first part of it,
 -- which goes on with the call's own entry where the call is an Add. That part has all that earlier
 -- lines of the list reach.
-pub record IsTrueLine (settings : Settings) (h : History) (thread index reached : ℕ) (call : Call)
+pub record IsTrueLine (config : ConfigView) (h : History) (thread index reached : ℕ) (call : Call)
     (line : Line) : Type 0 where
   pub before : History
-  pub told : line ≡ record {
+  pub reported : line ≡ record {
     thread = thread;
     index = index;
-    said = said_after settings before call;
+    said = said_after config before call;
   }
   pub part : BeginsWith h (after_call thread before call)
   pub later : reached ≤ length before
 
 -- The lines of one list, from an index in it on, tell the truth of a history, one line for each
 -- call.
-abbrev pub AreTrueLines : Settings → History → ℕ → ℕ → ℕ → List Call → List Line → Type 0
-AreTrueLines settings h thread index reached [] [] = Unit {0}
-AreTrueLines settings h thread index reached [] (line ∷ lines) = ⊥
-AreTrueLines settings h thread index reached (call ∷ calls) [] = ⊥
-AreTrueLines settings h thread index reached (call ∷ calls) (line ∷ lines) =
-    IsTrueLine settings h thread index reached call line ×
-    AreTrueLines settings h thread (suc index) (reach line.said) calls lines
+abbrev pub AreTrueLines : ConfigView → History → ℕ → ℕ → ℕ → List Call → List Line → Type 0
+AreTrueLines config h thread index reached [] [] = Unit {0}
+AreTrueLines config h thread index reached [] (line ∷ lines) = ⊥
+AreTrueLines config h thread index reached (call ∷ calls) [] = ⊥
+AreTrueLines config h thread index reached (call ∷ calls) (line ∷ lines) =
+    IsTrueLine config h thread index reached call line ×
+    AreTrueLines config h thread (suc index) (reach line.said) calls lines
 
 -- The lines of lists, from the list with this number on, tell the truth of a history.
-abbrev pub AreTrueLists : Settings → History → ℕ → List (List Call) → List Line → Type 0
-AreTrueLists settings h thread [] lines = lines ≡ []
-AreTrueLists settings h thread (calls ∷ lists) lines =
-    (own rest : List Line) × (lines ≡ own ++ rest) × AreTrueLines settings h thread 0 0 calls own ×
-    AreTrueLists settings h (suc thread) lists rest
+abbrev pub AreTrueLists : ConfigView → History → ℕ → List (List Call) → List Line → Type 0
+AreTrueLists config h thread [] lines = lines ≡ []
+AreTrueLists config h thread (calls ∷ lists) lines =
+    (own rest : List Line) × (lines ≡ own ++ rest) × AreTrueLines config h thread 0 0 calls own ×
+    AreTrueLists config h (suc thread) lists rest
 
 -- The lines are the log of a run whose Adds came in this order: the history has as many entries as
 -- the trace has Adds, and each line tells the truth of it.

@@ -3,7 +3,7 @@
 use Rattle.std.specs.Prelude.{ℕ, zero, suc, max, ◌==◌, ◌&&◌, ◌||◌, not, nat_lt, List, [], ◌∷◌, ◌++◌, length, take, count_by, slice_get, Bool, true, false, Option, Some, None, is_some, if◌then◌else◌}
 use Rattle.std.specs.List.{list_any}
 use Rattle.tsc_time.specs.Time.{is_same_time}
-use Rattle.tsc_time.specs.OwnedTime.{OwnedTime, is_same_owner}
+use Rattle.tsc_time.specs.ValueView.{ValueView, is_same_owner}
 use Rattle.tsc_cache.specs.History.{History}
 use Rattle.tsc_cache.specs.declared.added.Added.{Added}
 use Rattle.tsc_trace_format.specs.Calls.{kind_of, is_same_kind}
@@ -124,7 +124,7 @@ abbrev pub is_same_added : Added → Added → Bool
 is_same_added a b = is_same_bit a.kept b.kept && is_same_bit a.rotated b.rotated &&
     (a.evicted == b.evicted)
 
-abbrev pub is_same_value : OwnedTime → OwnedTime → Bool
+abbrev pub is_same_value : ValueView → ValueView → Bool
 is_same_value a b = is_same_time a.time b.time && is_same_owner a.owner b.owner
 
 -- whether two answers are equal but for their places and fronts

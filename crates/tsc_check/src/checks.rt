@@ -1,3 +1,4 @@
+//! Checks of a log against its trace. Of two wrong lines the first one decides.
 ghost use Rattle.std.specs.Prelude.{◌≡◌, ◌<◌, ◌+◌, ◌^◌, IfOk, IfSome};
 ghost use Rattle.tsc_check.specs.Verdict.{named_or, verdict_of};
 ghost use Rattle.tsc_check.specs.declared.verdict.Verdict.TheVariants.{Right, WrongAnswer};

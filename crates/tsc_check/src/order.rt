@@ -26,7 +26,7 @@ pub struct Order {
 pub fn is_add(said: CallAnswer) -> bool
     ensures { result ≡ is_add said }
 {
-    said.told().is_some()
+    said.reported().is_some()
 }
 
 /// How many Adds a caller knows of who has had an answer: those before it, and its own.

@@ -33,14 +33,14 @@ pub enum CheckFault {
 
 impl CheckFault {
     /// Writes the text of the fault. It takes no memory.
-    pub fn tell<W: Sink>(self, writer: &mut W) -> Result<(), WriteFailed>
+    pub fn report<W: Sink>(self, writer: &mut W) -> Result<(), WriteFailed>
         ensures ok { OnOk result (HasWritten (W.known writer.old) (W.known writer.new)
             (fault_text self)) }
         ensures err { OnErr result
             (CouldNotWrite (W.known writer.old) (W.known writer.new) (fault_text self)) }
     {
         match self {
-            CheckFault::Stream(fault) => fault.tell(writer),
+            CheckFault::Stream(fault) => fault.report(writer),
             CheckFault::Text(line) => {
                 let mut digits = Buffer::new();
                 let number = digits.format(line);

@@ -1,6 +1,6 @@
 //! One pass over a cache, in the order of the Adds.
 ghost use Rattle.std.specs.Prelude.{◌≡◌, ◌⊎◌, ◌<◌, ◌≤◌, ◌||◌, ℕ, suc, length, true, false, not, Some, IfOk, IfSome, OnOk, option_map, slice_get};
-ghost use Rattle.tsc_cache.specs.Settings.{Settings};
+ghost use Rattle.tsc_cache.specs.ConfigView.{ConfigView};
 ghost use Rattle.tsc_cache.specs.History.{History, state_of};
 ghost use Rattle.tsc_cache.specs.CacheView.{RepresentsState};
 ghost use Rattle.tsc_trace_format.specs.Calls.{call_fits, is_same_kind};
@@ -25,9 +25,9 @@ fn differ(value: Value, other: Value) -> bool
 
 /// Whether the answer of a lookup is another than the cache gives.
 fn is_other_value(cache: &Cache, call: &Call, said: CallAnswer) -> bool
-    ensures { (settings : Settings) (h : History) →
-        RepresentsState cache.now settings (state_of settings h) → is_add said ≡ false
-        → result ≡ not (is_same_answer said (said_after settings h call.now)) }
+    ensures { (config : ConfigView) (h : History) →
+        RepresentsState cache.now config (state_of config h) → is_add said ≡ false
+        → result ≡ not (is_same_answer said (said_after config h call.now)) }
 {
     match (call, said) {
         (Call::Get { span }, CallAnswer::Get { value, .. }) => differ(value, cache.get_max(span)),
@@ -43,22 +43,22 @@ fn is_other_added(said: CallAnswer, made: Added) -> bool
         → outcome_of answer ≡ Some (record { place = place; added = made }) →
         result ≡ not (is_same_answer said answer) }
 {
-    match said.told() {
-        Some(told) => told.added != made,
+    match said.reported() {
+        Some(reported) => reported.added != made,
         None => true,
     }
 }
 
 /// Makes an Add or a batch, and tells whether its answer is another.
 fn is_other_add(cache: &mut Cache, call: &Call, said: CallAnswer) -> Result<bool, NoMemory>
-    requires { call_fits cache.old.settings call.now ≡ true }
-    ensures other { IfOk result (λ other. (settings : Settings) (h : History) →
-        RepresentsState cache.old settings (state_of settings h) → is_add said ≡ true
+    requires { call_fits cache.old.config call.now ≡ true }
+    ensures other { IfOk result (λ other. (config : ConfigView) (h : History) →
+        RepresentsState cache.old config (state_of config h) → is_add said ≡ true
         → is_of_kind call.now said ≡ true →
-        other ≡ not (is_same_answer said (said_after settings h call.now))) }
-    ensures stands { OnOk result ((settings : Settings) (thread : ℕ) (h : History) →
-        RepresentsState cache.old settings (state_of settings h)
-        → RepresentsState cache.new settings (state_of settings (after_call thread h call.now))) }
+        other ≡ not (is_same_answer said (said_after config h call.now))) }
+    ensures stands { OnOk result ((config : ConfigView) (thread : ℕ) (h : History) →
+        RepresentsState cache.old config (state_of config h)
+        → RepresentsState cache.new config (state_of config (after_call thread h call.now))) }
 {
     match call {
         Call::Add { span, value, now } => {
@@ -123,7 +123,7 @@ impl<'a> OrderedLog<'a> {
     /// another.
     fn make_add(&self, cache: &mut Cache, i: usize, least: usize) -> Result<usize, NoMemory>
         requires index { i < length self.now.lines.now }
-        requires settings { cache.old.settings ≡ self.now.trace.now.config }
+        requires config { cache.old.config ≡ self.now.trace.now.config }
         ensures lowers { IfOk result (λ new. (place : ℕ) →
             adds_there self.now.lines.now place i ≡ true →
             HasAdded cache.old self.now.trace.now self.now.lines.now place

@@ -1,3 +1,4 @@
+//! What a check says of a log, and its text.
 ghost use Rattle.std.specs.Prelude.{◌≡◌, ◌++◌, Some, OnOk, OnErr};
 ghost use Rattle.tsc_check.specs.Checking.{verdict_line, verdict_text};
 ghost use Rattle.tsc_stream.specs.Stream.{CouldNotWrite, HasWritten};

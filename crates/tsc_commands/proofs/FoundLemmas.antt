@@ -67,5 +67,5 @@ nothing_explains NoMemory wanted none = tt
 -- a reason handed on stays one
 pub refused_alike : (r : Result Asked WordsFault) (fault : WordsFault) (wanted : Option Request) →
     IsErrAnd r (λ e. e ≡ fault) → Explains wanted fault → Answers asks wanted r
-refused_alike (Ok answer) fault wanted same told = absurd same
-refused_alike (Err e) fault wanted same told = subst (Explains wanted) (sym same) told
+refused_alike (Ok answer) fault wanted same reported = absurd same
+refused_alike (Err e) fault wanted same reported = subst (Explains wanted) (sym same) reported

@@ -8,7 +8,7 @@ use Rattle.tsc_check.specs.declared.verdict.Verdict.{Verdict}
 use Rattle.tsc_check.specs.declared.verdict.Verdict.TheVariants.{Right, WrongCall, WrongPlace, WrongAnswer}
 use Rattle.tsc_check.specs.declared.streams.CheckFault.{CheckFault}
 use Rattle.tsc_check.specs.declared.streams.CheckFault.TheVariants.{Stream, Text, Length}
-use Rattle.tsc_commands.specs.Replay.{Tells, status_of}
+use Rattle.tsc_commands.specs.Replay.{Reports, status_of}
 
 -- the exit status of a verdict
 abbrev pub verdict_status : Verdict → ℕ
@@ -42,7 +42,7 @@ pub record FailsCheck (status : ℕ) (reader reader' log log' : KnownReader)
   pub fault : CheckFault
   pub stopped : StopsCheck fault reader reader' log log' writer writer'
   pub is_status : status ≡ check_fault_status fault
-  pub told : Tells (check_fault_line fault) errors errors'
+  pub reported : Reports (check_fault_line fault) errors errors'
 
 -- how the command ends
 abbrev pub EndsCheck : ℕ → KnownReader → KnownReader → KnownReader → KnownReader → KnownWriter →

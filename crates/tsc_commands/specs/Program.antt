@@ -9,7 +9,7 @@ use Rattle.tsc_trace.specs.declared.replays.ReplayFault.{ReplayFault}
 use Rattle.tsc_trace.specs.declared.replays.ReplayFault.TheVariants.{Read, NoMemory}
 use Rattle.tsc_commands.specs.Check.{EndsCheck}
 use Rattle.tsc_commands.specs.FileSystem.{KnownFile, Opening, fresh_file}
-use Rattle.tsc_commands.specs.Replay.{EndsReplay, Tells, fault_line, status_of}
+use Rattle.tsc_commands.specs.Replay.{EndsReplay, Reports, fault_line, status_of}
 use Rattle.tsc_commands.specs.Run.{EndsRun}
 use Rattle.tsc_commands.specs.Words.{Answers, Request, Word, check, refusal_status, refusal_text, replay, request_in, run}
 use Rattle.tsc_commands.specs.declared.file_system.OpenFault.{OpenFault}
@@ -27,10 +27,10 @@ AskFor (Ok words) asked = Answers (λ request. request) (request_in words) asked
 AskFor (Err fault) asked = asked ≡ Err fault
 
 -- Nothing was written, and one line was told, with this exit status.
-pub record OnlyTells (line : List ℕ) (wanted status : ℕ)
+pub record OnlyReports (line : List ℕ) (wanted status : ℕ)
     (writer writer' errors errors' : KnownWriter) : Type 0 where
   pub is_status : status ≡ wanted
-  pub told : Tells line errors errors'
+  pub reported : Reports line errors errors'
   pub silent : writer' ≡ writer
 
 -- how a command ends whose file was not opened
@@ -56,7 +56,7 @@ abbrev pub GoesOverOpening : Ends → Opening → ℕ → KnownWriter → KnownW
 GoesOverOpening command (Ok file) status writer writer' errors errors' =
     GoesOverFile command file status writer writer' errors errors'
 GoesOverOpening command (Err fault) status writer writer' errors errors' =
-    OnlyTells (fault_line (fault_of_open fault)) (status_of (fault_of_open fault)) status writer
+    OnlyReports (fault_line (fault_of_open fault)) (status_of (fault_of_open fault)) status writer
     writer' errors errors'
 
 -- A file was opened, or was not, and a command ended by that. What opening it may come to is for
@@ -85,7 +85,7 @@ DoesAsked (Ok (run file)) refused opens status writer writer' errors errors' =
 DoesAsked (Ok (check trace log)) refused opens status writer writer' errors errors' =
     GoesOver (EndsCheckOf (opens log)) (opens trace) status writer writer' errors errors'
 DoesAsked (Err fault) refused opens status writer writer' errors errors' =
-    OnlyTells (refusal_text fault ++ line_feed ∷ []) (refusal_status fault) status writer writer'
+    OnlyReports (refusal_text fault ++ line_feed ∷ []) (refusal_status fault) status writer writer'
     errors errors'
 
 -- The program did what its words ask for, with what opening the file of a name may come to, and

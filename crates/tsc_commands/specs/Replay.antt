@@ -28,8 +28,8 @@ abbrev pub fault_line : ReplayFault → List ℕ
 fault_line fault = fault_text fault ++ line_feed ∷ []
 
 -- A line was written, or a write failed, where a part of the line was written.
-abbrev pub Tells : List ℕ → KnownWriter → KnownWriter → Type 0
-Tells line errors errors' = HasWritten errors errors' line ⊎ CouldNotWrite errors errors' line
+abbrev pub Reports : List ℕ → KnownWriter → KnownWriter → Type 0
+Reports line errors errors' = HasWritten errors errors' line ⊎ CouldNotWrite errors errors' line
 
 -- The replay was done, with exit status 0, and nothing was told.
 pub record Succeeds (status : ℕ) (reader reader' : KnownReader)
@@ -44,7 +44,7 @@ pub record Fails (status : ℕ) (reader reader' : KnownReader)
   pub fault : ReplayFault
   pub stopped : StopsReplay fault reader reader' writer writer'
   pub is_status : status ≡ status_of fault
-  pub told : Tells (fault_line fault) errors errors'
+  pub reported : Reports (fault_line fault) errors errors'
 
 -- how the command ends
 abbrev pub EndsReplay : ℕ → KnownReader → KnownReader → KnownWriter → KnownWriter → KnownWriter →

@@ -6,7 +6,7 @@ use Rattle.tsc_stream.specs.Stream.{KnownReader, KnownWriter}
 use Rattle.tsc_run.specs.Ending.{Ran, StopsRun, stop_text}
 use Rattle.tsc_run.specs.declared.streams.RunStop.{RunStop}
 use Rattle.tsc_run.specs.declared.streams.RunStop.TheVariants.{Stream, NoView, NoPlace, HistoryFull, NoThread}
-use Rattle.tsc_commands.specs.Replay.{Tells, status_of}
+use Rattle.tsc_commands.specs.Replay.{Reports, status_of}
 
 -- the exit status of why a run ended
 abbrev pub stop_status : RunStop → ℕ
@@ -35,7 +35,7 @@ pub record FailsRun (refused : Type 0) (status : ℕ) (reader reader' : KnownRea
   pub stopped : StopsRun stop reader reader' writer writer'
   pub no_thread : stop ≡ NoThread → refused
   pub is_status : status ≡ stop_status stop
-  pub told : Tells (stop_line stop) errors errors'
+  pub reported : Reports (stop_line stop) errors errors'
 
 -- how the command ends, where `refused` says that the start of a thread was refused
 abbrev pub EndsRun : Type 0 → ℕ → KnownReader → KnownReader → KnownWriter → KnownWriter →

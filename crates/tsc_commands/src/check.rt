@@ -2,7 +2,7 @@
 ghost use Rattle.std.specs.Prelude.{◌≡◌, OnOk, OnErr};
 ghost use Rattle.tsc_stream.specs.Stream.{CouldNotWrite, HasWritten};
 ghost use Rattle.tsc_commands.specs.Check.{EndsCheck, check_fault_line, check_fault_status, verdict_status};
-ghost use Rattle.tsc_commands.specs.Replay.{Tells};
+ghost use Rattle.tsc_commands.specs.Replay.{Reports};
 
 use crate::replay::status_of;
 use std::alloc::Global;
@@ -47,7 +47,7 @@ pub fn check_with_progress<R: Source, L: Source, W: Sink, E: Sink, P: Progress>(
     match check_stream(alloc, trace, log, writer, progress) {
         Ok(verdict) => status_of_verdict(verdict),
         Err(fault) => {
-            tell_check_fault(errors, fault);
+            report_check_fault(errors, fault);
             status_of_check_fault(fault)
         }
     }
@@ -74,8 +74,8 @@ pub fn status_of_check_fault(fault: CheckFault) -> u8
 }
 
 /// Tells why a check ended without a verdict by one line, where that can be written.
-pub fn tell_check_fault<E: Sink>(errors: &mut E, fault: CheckFault)
-    ensures { Tells (check_fault_line fault) (E.known errors.old) (E.known errors.new) }
+pub fn report_check_fault<E: Sink>(errors: &mut E, fault: CheckFault)
+    ensures { Reports (check_fault_line fault) (E.known errors.old) (E.known errors.new) }
 {
     let _ = write_check_fault(errors, fault);
 }
@@ -87,6 +87,6 @@ fn write_check_fault<E: Sink>(errors: &mut E, fault: CheckFault) -> Result<(), W
     ensures err { OnErr result (CouldNotWrite (E.known errors.old) (E.known errors.new)
         (check_fault_line fault)) }
 {
-    fault.tell(errors)?;
+    fault.report(errors)?;
     write_output(errors, b"\n")
 }

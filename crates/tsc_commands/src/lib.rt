@@ -21,11 +21,11 @@ mod run;
 mod streams;
 mod system;
 
-pub use check::{check_command, check_with_progress, status_of_check_fault, tell_check_fault};
+pub use check::{check_command, check_with_progress, report_check_fault, status_of_check_fault};
 pub use cli::{Asked, WordsFault, request};
 pub use file_system::{FileSystem, OpenFault};
 pub use meter::{Meter, NoMeter};
-pub use replay::{replay_command, replay_with_progress, tell_fault};
-pub use run::{run_command, tell_stop};
+pub use replay::{replay_command, replay_with_progress, report_fault};
+pub use run::{report_stop, run_command};
 pub use streams::{Errors, Output, Streams};
 pub use system::{SystemFiles, fetch_words, standard_errors, standard_output};

@@ -58,7 +58,7 @@ impl<'a, C: Clock> Meter<'a, C> {
     }
 
     /// Tells how many calls were made, where that can be written.
-    fn tell(&self, made: u64) {
+    fn report(&self, made: u64) {
         let mut errors = self.errors;
         let _ = writeln!(errors, "{made} calls made");
     }
@@ -71,13 +71,13 @@ impl<C: Clock> Progress for Meter<'_, C> {
         };
         let made = self.made.fetch_add(1, Ordering::SeqCst).wrapping_add(1);
         if made % CALLS == 0 && self.is_due(start) {
-            self.tell(made);
+            self.report(made);
         }
     }
 }
 
 impl<C: Clock> Gate for Meter<'_, C> {
-    ghost HasTold = { λ _ _. Unit {0} };
+    ghost HasReported = { λ _ _. Unit {0} };
 
     fn start(&self, _thread: u32, _call: u32) {}
 
@@ -97,7 +97,7 @@ impl Progress for NoMeter {
 }
 
 impl Gate for NoMeter {
-    ghost HasTold = { λ _ _. Unit {0} };
+    ghost HasReported = { λ _ _. Unit {0} };
 
     fn start(&self, _thread: u32, _call: u32) {}
 

@@ -2,14 +2,14 @@
 ghost use Rattle.std.specs.Prelude.{◌≡◌};
 ghost use Rattle.std.specs.Process.{exit_status};
 ghost use Rattle.tsc_commands.specs.Program.{AskFor, EndsCheckOf, GoesOver, RunsProgram, fault_of_open, texts_of};
-ghost use Rattle.tsc_commands.specs.Replay.{EndsReplay, Tells, fault_line, status_of};
+ghost use Rattle.tsc_commands.specs.Replay.{EndsReplay, Reports, fault_line, status_of};
 ghost use Rattle.tsc_commands.specs.Run.{EndsRun};
 ghost use Rattle.tsc_commands.specs.Words.{asked_as};
 
 use crate::check::check_with_progress;
 use crate::cli::{Asked, WordsFault, request};
 use crate::file_system::{FileSystem, OpenFault};
-use crate::replay::{replay_with_progress, status_of, tell_fault};
+use crate::replay::{replay_with_progress, report_fault, status_of};
 use crate::run::run_command;
 use crate::streams::Streams;
 use std::alloc::Global;
@@ -77,7 +77,7 @@ fn do_asked<
             check_files(alloc, files, &trace, &log, streams, meter)
         }
         Err(fault) => {
-            tell_line(&mut streams.errors.writer, fault.line());
+            report_line(&mut streams.errors.writer, fault.line());
             fault.status()
         }
     }
@@ -190,11 +190,11 @@ fn check_file<R: Source, P: FileSystem, W: Sink, E: Sink, M: Progress>(
 /// Tells why a file was not opened, and gives the exit status.
 fn end_unopened<E: Sink>(errors: &mut E, fault: OpenFault) -> u8
     ensures status { result ≡ status_of (fault_of_open fault) }
-    ensures told { Tells (fault_line (fault_of_open fault)) (E.known errors.old)
+    ensures reported { Reports (fault_line (fault_of_open fault)) (E.known errors.old)
         (E.known errors.new) }
 {
     let fault = ending_of(fault);
-    tell_fault(errors, fault);
+    report_fault(errors, fault);
     status_of(fault)
 }
 
@@ -209,8 +209,8 @@ fn ending_of(fault: OpenFault) -> ReplayFault
 }
 
 /// Tells a line, where it can be written.
-fn tell_line<E: Sink>(errors: &mut E, line: &str)
-    ensures { Tells line.now (E.known errors.old) (E.known errors.new) }
+fn report_line<E: Sink>(errors: &mut E, line: &str)
+    ensures { Reports line.now (E.known errors.old) (E.known errors.new) }
 {
     let _ = write_output(errors, line.as_bytes());
 }

@@ -1,7 +1,7 @@
 //! The command that replays a trace from a reader to a writer, and tells how it ended.
 ghost use Rattle.std.specs.Prelude.{◌≡◌, OnOk, OnErr};
 ghost use Rattle.tsc_stream.specs.Stream.{CouldNotWrite, HasWritten};
-ghost use Rattle.tsc_commands.specs.Replay.{EndsReplay, Tells, fault_line, status_of};
+ghost use Rattle.tsc_commands.specs.Replay.{EndsReplay, Reports, fault_line, status_of};
 
 use std::alloc::Global;
 use tsc_stream::{NoProgress, Progress, Sink, Source, WriteFailed, write_output};
@@ -38,7 +38,7 @@ pub fn replay_with_progress<R: Source, W: Sink, E: Sink, P: Progress>(
     match replay_stream_with_progress(alloc, reader, writer, progress) {
         Ok(()) => 0,
         Err(fault) => {
-            tell_fault(errors, fault);
+            report_fault(errors, fault);
             status_of(fault)
         }
     }
@@ -56,8 +56,8 @@ pub(crate) fn status_of(fault: ReplayFault) -> u8
 }
 
 /// Tells a fault by one line, where that can be written.
-pub fn tell_fault<E: Sink>(errors: &mut E, fault: ReplayFault)
-    ensures { Tells (fault_line fault) (E.known errors.old) (E.known errors.new) }
+pub fn report_fault<E: Sink>(errors: &mut E, fault: ReplayFault)
+    ensures { Reports (fault_line fault) (E.known errors.old) (E.known errors.new) }
 {
     let _ = write_fault(errors, fault);
 }
@@ -69,6 +69,6 @@ fn write_fault<E: Sink>(errors: &mut E, fault: ReplayFault) -> Result<(), WriteF
     ensures err { OnErr result (CouldNotWrite (E.known errors.old) (E.known errors.new)
         (fault_line fault)) }
 {
-    fault.tell(errors)?;
+    fault.report(errors)?;
     write_output(errors, b"\n")
 }

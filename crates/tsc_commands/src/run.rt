@@ -1,7 +1,7 @@
 //! The command that runs a trace on threads, from a reader to a writer, and tells how it ended.
 ghost use Rattle.std.specs.Prelude.{◌≡◌, OnOk, OnErr};
 ghost use Rattle.tsc_stream.specs.Stream.{CouldNotWrite, HasWritten};
-ghost use Rattle.tsc_commands.specs.Replay.{Tells};
+ghost use Rattle.tsc_commands.specs.Replay.{Reports};
 ghost use Rattle.tsc_commands.specs.Run.{EndsRun, stop_line, stop_status};
 
 use crate::replay::status_of;
@@ -31,7 +31,7 @@ pub fn run_command<
     match run_stream(rt, alloc, reader, writer, gate) {
         Ok(()) => 0,
         Err(stop) => {
-            tell_stop(errors, stop);
+            report_stop(errors, stop);
             status_of_stop(stop)
         }
     }
@@ -48,8 +48,8 @@ pub(crate) fn status_of_stop(stop: RunStop) -> u8
 }
 
 /// Tells why a run ended by one line, where that can be written.
-pub fn tell_stop<E: Sink>(errors: &mut E, stop: RunStop)
-    ensures { Tells (stop_line stop) (E.known errors.old) (E.known errors.new) }
+pub fn report_stop<E: Sink>(errors: &mut E, stop: RunStop)
+    ensures { Reports (stop_line stop) (E.known errors.old) (E.known errors.new) }
 {
     let _ = write_stop(errors, stop);
 }
@@ -61,6 +61,6 @@ fn write_stop<E: Sink>(errors: &mut E, stop: RunStop) -> Result<(), WriteFailed>
     ensures err { OnErr result (CouldNotWrite (E.known errors.old) (E.known errors.new)
         (stop_line stop)) }
 {
-    stop.tell(errors)?;
+    stop.report(errors)?;
     write_output(errors, b"\n")
 }

@@ -2,11 +2,11 @@
 use Rattle.std.proofs.Common.{◌≡◌, ◌∙◌, ◌⊎◌, refl, sym, ap, subst, inl, inr, ℕ, List, [], ◌∷◌, Bool, true, false}
 use Rattle.std.specs.Prelude.{Option, Some, Result, Ok, Err, IfOk, IfErr, OnErr, IsErrOf}
 use Rattle.tsc_time.specs.Time.{Time}
-use Rattle.tsc_time.specs.OwnedTime.{OwnedTime}
-use Rattle.tsc_span.specs.Span.{Interval}
-use Rattle.tsc_page_nodes.specs.Page.{Mark}
+use Rattle.tsc_time.specs.ValueView.{ValueView}
+use Rattle.tsc_span.specs.Span.{SpanView}
+use Rattle.tsc_page_model.specs.Page.{Mark}
 use Rattle.tsc_cache.specs.declared.added.Added.{Added}
-use Rattle.tsc_cache.specs.Settings.{fits}
+use Rattle.tsc_cache.specs.ConfigView.{fits}
 use Rattle.tsc_cache.specs.Batch.{all_fit}
 use Rattle.tsc_shared.specs.Seats.{SeatView as SharedSeat}
 use Rattle.tsc_shared.specs.declared.answers.Receipt.{Receipt}
@@ -38,25 +38,25 @@ use Rattle.tsc_ffi_store.proofs.Trying.{why_refused}
 
 -- ---- at a shared cache
 
-pub record Accepted (told : Result Receipt TryAddFault) (placed : Placed) : Type 0 where
+pub record Accepted (reported : Result Receipt TryAddFault) (placed : Placed) : Type 0 where
   pub receipt : Receipt
-  pub is : told ≡ Ok receipt
+  pub is : reported ≡ Ok receipt
   pub place : placed.place ≡ receipt.place
   pub added : placed.added ≡ receipt.added
 
-accepted : (told : Result Receipt TryAddFault) (placed : Placed) → IsPlaced told (Ok placed)
-    → Accepted told placed
+accepted : (reported : Result Receipt TryAddFault) (placed : Placed) → IsPlaced reported (Ok placed)
+    → Accepted reported placed
 accepted (Ok receipt) placed is =
     record { receipt = receipt; is = refl; place = is.0; added = is.1 }
 accepted (Err fault) placed is = absurd is
 
-pub record Faulted (told : Result Receipt TryAddFault) (why : Refusal) : Type 0 where
+pub record Faulted (reported : Result Receipt TryAddFault) (why : Refusal) : Type 0 where
   pub fault : TryAddFault
-  pub is : told ≡ Err fault
+  pub is : reported ≡ Err fault
   pub code : IsCodeOf fault why
 
-faulted : (told : Result Receipt TryAddFault) (why : Refusal) → IsPlaced told (Err why)
-    → Faulted told why
+faulted : (reported : Result Receipt TryAddFault) (why : Refusal) → IsPlaced reported (Err why)
+    → Faulted reported why
 faulted (Ok receipt) why is = absurd is
 faulted (Err fault) why is = record { fault = fault; is = refl; code = is }
 
@@ -65,7 +65,7 @@ seat_accepts : (ms : List Mark) (now : Time) (fit : Bool) (tries : ℕ) (placed 
     → AddsShared ms now fit tries old new (Ok placed)
     → SeatAccepts old new ms now placed.place added
 seat_accepts ms now fit tries placed added old new same a =
-    let t = accepted a.told placed a.is in
+    let t = accepted a.reported placed a.is in
     record {
       receipt = t.receipt;
       accepts = subst (λ (r : Result Receipt TryAddFault). IfOk r
@@ -81,7 +81,7 @@ seat_refuses : {X Y : Type 0} (ms : List Mark) (now : Time) (fit : Bool) (tries 
     → (fit ≡ false → why ≡ refusal.TooLarge → new ≡ old → X)
     → (fit ≡ true → RefusesTried why old new → Y) → X ⊎ Y
 seat_refuses {X} {Y} ms now fit tries why old new a large tried =
-    let t = faulted a.told why a.is in
+    let t = faulted a.reported why a.is in
     let answers : shared.AnswersTriedAdd old new ms now fit (Some tries) (Err t.fault) =
     subst (λ (r : Result Receipt TryAddFault). shared.AnswersTriedAdd old new ms now fit
     (Some tries) r) t.is a.answers in
@@ -91,7 +91,7 @@ seat_spared : (ms : List Mark) (now : Time) (fit : Bool) (tries : ℕ) (why : Re
     (old new : SharedSeat) → AddsShared ms now fit tries old new (Err why)
     → KeepsOnRefusal old new
 seat_spared ms now fit tries why old new a =
-    let t = faulted a.told why a.is in
+    let t = faulted a.reported why a.is in
     let answers : shared.AnswersTriedAdd old new ms now fit (Some tries) (Err t.fault) =
     subst (λ (r : Result Receipt TryAddFault). shared.AnswersTriedAdd old new ms now fit
     (Some tries) r) t.is a.answers in
@@ -99,27 +99,27 @@ seat_spared ms now fit tries why old new a =
 
 -- ---- in stripes
 
-pub record AcceptedInStripes (told : Result StripedReceipt StripedFault) (placed : Placed) :
+pub record AcceptedInStripes (reported : Result StripedReceipt StripedFault) (placed : Placed) :
     Type 0 where
   pub receipt : StripedReceipt
-  pub is : told ≡ Ok receipt
+  pub is : reported ≡ Ok receipt
   pub place_is : placed.place ≡ receipt.number
   pub added : placed.added ≡ receipt.added
 
-accepted_in_stripes : (told : Result StripedReceipt StripedFault) (placed : Placed)
-    → IsPlacedInStripes told (Ok placed) → AcceptedInStripes told placed
+accepted_in_stripes : (reported : Result StripedReceipt StripedFault) (placed : Placed)
+    → IsPlacedInStripes reported (Ok placed) → AcceptedInStripes reported placed
 accepted_in_stripes (Ok receipt) placed is =
     record { receipt = receipt; is = refl; place_is = is.0; added = is.1 }
 accepted_in_stripes (Err fault) placed is = absurd is
 
-pub record FaultedInStripes (told : Result StripedReceipt StripedFault) (why : Refusal) : Type
+pub record FaultedInStripes (reported : Result StripedReceipt StripedFault) (why : Refusal) : Type
     0 where
   pub fault : StripedFault
-  pub is : told ≡ Err fault
+  pub is : reported ≡ Err fault
   pub code : IsStripedCode fault why
 
-faulted_in_stripes : (told : Result StripedReceipt StripedFault) (why : Refusal)
-    → IsPlacedInStripes told (Err why) → FaultedInStripes told why
+faulted_in_stripes : (reported : Result StripedReceipt StripedFault) (why : Refusal)
+    → IsPlacedInStripes reported (Err why) → FaultedInStripes reported why
 faulted_in_stripes (Ok receipt) why is = absurd is
 faulted_in_stripes (Err fault) why is = record { fault = fault; is = refl; code = is }
 
@@ -127,7 +127,7 @@ striped_accepts : (ms : List Mark) (now : Time) (tries : ℕ) (placed : Placed) 
     (old new : StripedSeat) → placed.added ≡ added → AddsStriped ms now tries old new (Ok placed)
     → StripedAccepts old new ms now placed.place added
 striped_accepts ms now tries placed added old new same a =
-    let t = accepted_in_stripes a.told placed a.is in
+    let t = accepted_in_stripes a.reported placed a.is in
     let accepts : striped.Accepts old new ms now t.receipt =
     subst (λ (r : Result StripedReceipt StripedFault). IfOk r
     (λ receipt. striped.Accepts old new ms now receipt)) t.is a.answers.accepted in
@@ -141,15 +141,15 @@ striped_accepts ms now tries placed added old new same a =
 
 why_in_stripes : (why : Refusal) (old : StripedSeat) (fault : StripedFault)
     → IsStripedCode fault why → striped.TryRefusedFor old fault → RefusesInStripes why old
-why_in_stripes why old Busy code told = inr (inl (code, told))
-why_in_stripes why old (Refused SeatFull) code told = inl (code, (λ can. can told))
-why_in_stripes why old (Refused NoMemory) code told = inr (inr (code, told))
+why_in_stripes why old Busy code reported = inr (inl (code, reported))
+why_in_stripes why old (Refused SeatFull) code reported = inl (code, (λ can. can reported))
+why_in_stripes why old (Refused NoMemory) code reported = inr (inr (code, reported))
 
 striped_refuses : (ms : List Mark) (now : Time) (tries : ℕ) (why : Refusal)
     (old new : StripedSeat) → AddsStriped ms now tries old new (Err why)
     → RefusesInStripes why old
 striped_refuses ms now tries why old new a =
-    let t = faulted_in_stripes a.told why a.is in
+    let t = faulted_in_stripes a.reported why a.is in
     why_in_stripes why old t.fault t.code
     (subst (λ (r : Result StripedReceipt StripedFault). IfErr r
     (λ fault. striped.TryRefusedFor old fault)) t.is a.answers.why)
@@ -157,61 +157,64 @@ striped_refuses ms now tries why old new a =
 striped_same : (ms : List Mark) (now : Time) (tries : ℕ) (why : Refusal) (old new : StripedSeat)
     → AddsStriped ms now tries old new (Err why) → new ≡ old
 striped_same ms now tries why old new a =
-    let t = faulted_in_stripes a.told why a.is in
+    let t = faulted_in_stripes a.reported why a.is in
     subst (λ (r : Result StripedReceipt StripedFault). OnErr r (new ≡ old)) t.is a.answers.refused
 
 -- ---- an Add of a span
 
-abbrev pub TriesOne : Interval → OwnedTime → Time → ℕ → AnySeat → AnySeat → Result Placed Refusal
+abbrev pub TriesOne : SpanView → ValueView → Time → ℕ → AnySeat → AnySeat → Result Placed Refusal
     → Type 0
 TriesOne span value now tries old new did = ByKind
     (λ x y (r : Result Placed Refusal). AddsShared (one_mark span value) now
     (fits x.cache.config span) tries x y r) (AddsStriped (one_mark span value) now tries) old new did
 
-pub one_refused : (asked : AskedAdd) (span : Interval) (value : OwnedTime) (now : Time) (tries : ℕ)
-    (why : Refusal) (place : ℕ) (told : Added) (old new : AnySeat) → NamesAdd asked span
+pub one_refused : (asked : AskedAdd) (span : SpanView) (value : ValueView) (now : Time) (tries : ℕ)
+    (why : Refusal) (place : ℕ) (reported : Added) (old new : AnySeat) → NamesAdd asked span
     → fits (config_of old) span ≡ true → TriesOne span value now tries old new (Err why)
-    → ByKind {A = Result (Unit {0}) Refusal} (AnswersTriedAdd asked place told)
-    (AnswersStripedTriedAdd asked place told) old new (Err why)
-one_refused asked span value now tries why place told (Shared x) (Shared y) names fit a = record {
+    → ByKind {A = Result (Unit {0}) Refusal} (AnswersTriedAdd asked place reported)
+    (AnswersStripedTriedAdd asked place reported) old new (Err why)
+one_refused asked span value now tries why place reported (Shared x) (Shared y) names fit a = record {
   added = tt;
   refused = seat_refuses (one_mark span value) now (fits x.cache.config span) tries why x y a
       (λ large code same. (
-        inr (record { span = span; names = names; too_large = large; told = code }),
+        inr (record { span = span; names = names; too_large = large; reported = code }),
         same,
       ))
-      (λ does code. record { span = span; names = names; fit = does; told = code });
+      (λ does code. record { span = span; names = names; fit = does; reported = code });
   spared = seat_spared (one_mark span value) now (fits x.cache.config span) tries why x y a;
 }
-one_refused asked span value now tries why place told (Shared x) (Striped y) names fit a = absurd a
-one_refused asked span value now tries why place told (Striped x) (Shared y) names fit a = absurd a
-one_refused asked span value now tries why place told (Striped x) (Striped y) names fit a = record {
-  added = tt;
-  refused = inr (inr (record {
-    span = span;
-    names = names;
-    fit = fit;
-    told = striped_refuses (one_mark span value) now tries why x y a;
-  }));
-  unchanged = striped_same (one_mark span value) now tries why x y a;
-}
+one_refused asked span value now tries why place reported (Shared x) (Striped y) names fit a =
+    absurd a
+one_refused asked span value now tries why place reported (Striped x) (Shared y) names fit a =
+    absurd a
+one_refused asked span value now tries why place reported (Striped x) (Striped y) names fit a =
+    record {
+      added = tt;
+      refused = inr (inr (record {
+        span = span;
+        names = names;
+        fit = fit;
+        reported = striped_refuses (one_mark span value) now tries why x y a;
+      }));
+      unchanged = striped_same (one_mark span value) now tries why x y a;
+    }
 
 -- where there was no memory for a copy of what is added
-pub one_lacks : (asked : AskedAdd) (span : Interval) (why : Refusal) (place : ℕ) (told : Added)
+pub one_lacks : (asked : AskedAdd) (span : SpanView) (why : Refusal) (place : ℕ) (reported : Added)
     (old new : AnySeat) → NamesAdd asked span → fits (config_of old) span ≡ true
     → ByKind LacksShared LacksStriped old new why
-    → ByKind {A = Result (Unit {0}) Refusal} (AnswersTriedAdd asked place told)
-    (AnswersStripedTriedAdd asked place told) old new (Err why)
-one_lacks asked span why place told (Shared x) (Shared y) names fit a = record {
+    → ByKind {A = Result (Unit {0}) Refusal} (AnswersTriedAdd asked place reported)
+    (AnswersStripedTriedAdd asked place reported) old new (Err why)
+one_lacks asked span why place reported (Shared x) (Shared y) names fit a = record {
   added = tt;
-  refused = inr (record { span = span; names = names; fit = fit; told = a.tried });
+  refused = inr (record { span = span; names = names; fit = fit; reported = a.tried });
   spared = inr a.spared;
 }
-one_lacks asked span why place told (Shared x) (Striped y) names fit a = absurd a
-one_lacks asked span why place told (Striped x) (Shared y) names fit a = absurd a
-one_lacks asked span why place told (Striped x) (Striped y) names fit a = record {
+one_lacks asked span why place reported (Shared x) (Striped y) names fit a = absurd a
+one_lacks asked span why place reported (Striped x) (Shared y) names fit a = absurd a
+one_lacks asked span why place reported (Striped x) (Striped y) names fit a = record {
   added = tt;
-  refused = inr (inr (record { span = span; names = names; fit = fit; told = a.refuses }));
+  refused = inr (inr (record { span = span; names = names; fit = fit; reported = a.refuses }));
   unchanged = a.same;
 }
 
@@ -222,78 +225,79 @@ TriesAll ms now tries old new did = ByKind
     (λ x y (r : Result Placed Refusal). AddsShared ms now (all_fit x.cache.config ms) tries x y r)
     (AddsStriped ms now tries) old new did
 
-pub all_added : (asked : AskedBatch) (ms : List Mark) (tries : ℕ) (placed : Placed) (told : Added)
+pub all_added : (asked : AskedBatch) (ms : List Mark) (tries : ℕ) (placed : Placed)
+    (reported : Added)
     (old new : AnySeat) → NamesAddAll asked ms → all_fit (config_of old) ms ≡ true
-    → placed.added ≡ told → TriesAll ms asked.moment tries old new (Ok placed)
-    → ByKind {A = Result (Unit {0}) Refusal} (AnswersTriedAddAll asked placed.place told)
-    (AnswersStripedTriedAll asked placed.place told) old new (Ok tt)
-all_added asked ms tries placed told (Shared x) (Shared y) names fit added a = record {
+    → placed.added ≡ reported → TriesAll ms asked.moment tries old new (Ok placed)
+    → ByKind {A = Result (Unit {0}) Refusal} (AnswersTriedAddAll asked placed.place reported)
+    (AnswersStripedTriedAll asked placed.place reported) old new (Ok tt)
+all_added asked ms tries placed reported (Shared x) (Shared y) names fit added a = record {
   added = record {
     marks = ms;
     names = names;
     fit = fit;
     accepted = seat_accepts ms asked.moment (all_fit x.cache.config ms) tries placed
-        told x y added a;
+        reported x y added a;
   };
   refused = tt;
   spared = tt;
 }
-all_added asked ms tries placed told (Shared x) (Striped y) names fit added a = absurd a
-all_added asked ms tries placed told (Striped x) (Shared y) names fit added a = absurd a
-all_added asked ms tries placed told (Striped x) (Striped y) names fit added a = record {
+all_added asked ms tries placed reported (Shared x) (Striped y) names fit added a = absurd a
+all_added asked ms tries placed reported (Striped x) (Shared y) names fit added a = absurd a
+all_added asked ms tries placed reported (Striped x) (Striped y) names fit added a = record {
   added = record {
     marks = ms;
     names = names;
     fit = fit;
-    accepted = striped_accepts ms asked.moment tries placed told x y added a;
+    accepted = striped_accepts ms asked.moment tries placed reported x y added a;
   };
   refused = tt;
   unchanged = tt;
 }
 
 pub all_refused : (asked : AskedBatch) (ms : List Mark) (now : Time) (tries : ℕ)
-    (why : Refusal) (place : ℕ) (told : Added) (old new : AnySeat) → NamesAddAll asked ms
+    (why : Refusal) (place : ℕ) (reported : Added) (old new : AnySeat) → NamesAddAll asked ms
     → all_fit (config_of old) ms ≡ true → TriesAll ms now tries old new (Err why)
-    → ByKind {A = Result (Unit {0}) Refusal} (AnswersTriedAddAll asked place told)
-    (AnswersStripedTriedAll asked place told) old new (Err why)
-all_refused asked ms now tries why place told (Shared x) (Shared y) names fit a = record {
+    → ByKind {A = Result (Unit {0}) Refusal} (AnswersTriedAddAll asked place reported)
+    (AnswersStripedTriedAll asked place reported) old new (Err why)
+all_refused asked ms now tries why place reported (Shared x) (Shared y) names fit a = record {
   added = tt;
   refused = seat_refuses ms now (all_fit x.cache.config ms) tries why x y a
       (λ large code same. (
-        inr (record { marks = ms; names = names; too_large = large; told = code }),
+        inr (record { marks = ms; names = names; too_large = large; reported = code }),
         same,
       ))
-      (λ does code. record { marks = ms; names = names; fit = does; told = code });
+      (λ does code. record { marks = ms; names = names; fit = does; reported = code });
   spared = seat_spared ms now (all_fit x.cache.config ms) tries why x y a;
 }
-all_refused asked ms now tries why place told (Shared x) (Striped y) names fit a = absurd a
-all_refused asked ms now tries why place told (Striped x) (Shared y) names fit a = absurd a
-all_refused asked ms now tries why place told (Striped x) (Striped y) names fit a = record {
+all_refused asked ms now tries why place reported (Shared x) (Striped y) names fit a = absurd a
+all_refused asked ms now tries why place reported (Striped x) (Shared y) names fit a = absurd a
+all_refused asked ms now tries why place reported (Striped x) (Striped y) names fit a = record {
   added = tt;
   refused = inr (inr (record {
     marks = ms;
     names = names;
     fit = fit;
-    told = striped_refuses ms now tries why x y a;
+    reported = striped_refuses ms now tries why x y a;
   }));
   unchanged = striped_same ms now tries why x y a;
 }
 
 -- where there was no memory for a copy of what is added
-pub all_lacks : (asked : AskedBatch) (ms : List Mark) (why : Refusal) (place : ℕ) (told : Added)
+pub all_lacks : (asked : AskedBatch) (ms : List Mark) (why : Refusal) (place : ℕ) (reported : Added)
     (old new : AnySeat) → NamesAddAll asked ms → all_fit (config_of old) ms ≡ true
     → ByKind LacksShared LacksStriped old new why
-    → ByKind {A = Result (Unit {0}) Refusal} (AnswersTriedAddAll asked place told)
-    (AnswersStripedTriedAll asked place told) old new (Err why)
-all_lacks asked ms why place told (Shared x) (Shared y) names fit a = record {
+    → ByKind {A = Result (Unit {0}) Refusal} (AnswersTriedAddAll asked place reported)
+    (AnswersStripedTriedAll asked place reported) old new (Err why)
+all_lacks asked ms why place reported (Shared x) (Shared y) names fit a = record {
   added = tt;
-  refused = inr (record { marks = ms; names = names; fit = fit; told = a.tried });
+  refused = inr (record { marks = ms; names = names; fit = fit; reported = a.tried });
   spared = inr a.spared;
 }
-all_lacks asked ms why place told (Shared x) (Striped y) names fit a = absurd a
-all_lacks asked ms why place told (Striped x) (Shared y) names fit a = absurd a
-all_lacks asked ms why place told (Striped x) (Striped y) names fit a = record {
+all_lacks asked ms why place reported (Shared x) (Striped y) names fit a = absurd a
+all_lacks asked ms why place reported (Striped x) (Shared y) names fit a = absurd a
+all_lacks asked ms why place reported (Striped x) (Striped y) names fit a = record {
   added = tt;
-  refused = inr (inr (record { marks = ms; names = names; fit = fit; told = a.refuses }));
+  refused = inr (inr (record { marks = ms; names = names; fit = fit; reported = a.refuses }));
   unchanged = a.same;
 }

@@ -5,7 +5,7 @@ use Rattle.std.proofs.lemmas.List.{map_push, drop_more, append_assoc, append-nil
 use Rattle.std.proofs.lemmas.List.Folds.{concat-append}
 use Rattle.std.proofs.lemmas.List.Sums.{sum_by-cons}
 use Rattle.tsc_span.specs.Span.{KeyBytes}
-use Rattle.tsc_cache.specs.Settings.{Settings}
+use Rattle.tsc_cache.specs.ConfigView.{ConfigView}
 use Rattle.tsc_striped.specs.Seats.{IsSettled}
 use Rattle.tsc_striped.specs.Answers.{open_fault}
 use Rattle.tsc_striped.specs.declared.answers.OpenFault.TheVariants.{NoMemory}
@@ -46,10 +46,10 @@ one_cut keys lens i d bounds more rest front others key lt cut long left is push
     }
 
 -- what was opened once was refused for memory alone
-pub no_memory : (settings : Settings) (count : ℕ) (bounds : List KeyBytes)
-    → IsSettled (record { config = settings; seats = count; bounds = bounds })
-    → NoMemory ≡ open_fault settings bounds
-no_memory settings count bounds settled =
+pub no_memory : (config : ConfigView) (count : ℕ) (bounds : List KeyBytes)
+    → IsSettled (record { config = config; seats = count; bounds = bounds })
+    → NoMemory ≡ open_fault config bounds
+no_memory config count bounds settled =
     let order = settled.in_order in
     let few = settled.few in
     let room = settled.room in

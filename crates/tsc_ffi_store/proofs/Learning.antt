@@ -62,11 +62,11 @@ pub keeper_learns : (cache : AnyCache) (table its : TableId) (seats returned : �
     (me me' : At) → me ≡ (keeping cache seats returned me.0.back me.0.missed, []) →
     LearnsBy table its w me me' →
     me' ≡ (keeping cache seats returned me'.0.back me'.0.missed, [])
-keeper_learns cache table its seats returned w me me' known (inl told) =
+keeper_learns cache table its seats returned w me me' known (inl reported) =
     by_itself cache seats returned (me.0.back ++ w.back) me.0.missed me'
-    (told.1 ∙ ap (λ (m : At). (also_back m.0 w, m.1)) known)
-keeper_learns cache table its seats returned w me me' known (inr told) =
-    by_itself cache seats returned me.0.back me.0.missed me' (told.1 ∙ known)
+    (reported.1 ∙ ap (λ (m : At). (also_back m.0 w, m.1)) known)
+keeper_learns cache table its seats returned w me me' known (inr reported) =
+    by_itself cache seats returned me.0.back me.0.missed me' (reported.1 ∙ known)
 
 -- an owner, by what its keeper's token knows
 abbrev pub owner_of : AnyCache → TableId → At → OwnerView
@@ -80,8 +80,10 @@ owner_of cache table me = record {
 pub owner_learns : (cache : AnyCache) (table its : TableId) (w : Known) (me me' : At) →
     LearnsBy table its w me me' →
     LearnsOf its w.back (owner_of cache table me) (owner_of cache table me')
-owner_learns cache table its w me me' (inl told) = inl (told.0, ap (owner_of cache table) told.1)
-owner_learns cache table its w me me' (inr told) = inr (told.0, ap (owner_of cache table) told.1)
+owner_learns cache table its w me me' (inl reported) = inl
+    (reported.0, ap (owner_of cache table) reported.1)
+owner_learns cache table its w me me' (inr reported) = inr
+    (reported.0, ap (owner_of cache table) reported.1)
 
 -- an owner whose keeper looked in vain
 pub owner_misses : (cache key : AnyCache) (table slots its : TableId) (me me' : At)
@@ -156,11 +158,11 @@ owner_or d (Seat seat) = d
 pub slot_learns : (returns : TableId) (seats : List AnySeat) (old new : OwnerView) →
     LearnsOf returns seats old new → Learns returns seats (Shared old) (Shared new)
 unfolding owner_or
-slot_learns returns seats old new (inl told) =
-    inl (record { owner = old; held = refl; its = told.0; knows = ap Shared told.1 })
-slot_learns returns seats old new (inr told) = inr (record {
-  other = λ owner is its. told.0 (ap (λ (s : Slot). (owner_or old s).returns) is ∙ its);
-  same = ap Shared told.1;
+slot_learns returns seats old new (inl reported) =
+    inl (record { owner = old; held = refl; its = reported.0; knows = ap Shared reported.1 })
+slot_learns returns seats old new (inr reported) = inr (record {
+  other = λ owner is its. reported.0 (ap (λ (s : Slot). (owner_or old s).returns) is ∙ its);
+  same = ap Shared reported.1;
 })
 
 is_some : Option OwnerView → Bool

@@ -12,7 +12,7 @@ mod GoingOn
 mod Handles
 mod BoundsCut
 mod ByKinds
-mod Laying
+mod PushedSlots
 mod Learning
 mod Looking
 mod MarksMade
@@ -27,9 +27,9 @@ mod SeatsDealt
 mod SeatsOfKind
 mod SpansAsked
 mod StripesRead
-mod SummariesTold
+mod SummariesReported
 mod TableIds
 mod Trying
 mod WritesRefused
-mod WritesTold
+mod WritesReported
 mod WrittenRanges

@@ -3,10 +3,10 @@ use Rattle.std.proofs.Common.{◌≡◌, ◌∙◌, refl, sym, ap, subst, inl, i
 use Rattle.std.specs.Prelude.{◌⊎◌, ◌&&◌}
 use Rattle.std.proofs.lemmas.List.{drop_more, drop_all, append_assoc, append-nil}
 use Rattle.std.proofs.lemmas.List.Elements.{Contains-get_or}
-use Rattle.tsc_time.specs.OwnedTime.{OwnedTime}
-use Rattle.tsc_span.specs.Span.{KeyBytes, Interval}
-use Rattle.tsc_page_nodes.specs.Page.{Mark}
-use Rattle.tsc_cache.specs.Settings.{Settings, fits}
+use Rattle.tsc_time.specs.ValueView.{ValueView}
+use Rattle.tsc_span.specs.Span.{KeyBytes, SpanView}
+use Rattle.tsc_page_model.specs.Page.{Mark}
+use Rattle.tsc_cache.specs.ConfigView.{ConfigView, fits}
 use Rattle.tsc_cache.specs.Batch.{all_fit}
 use Rattle.tsc_ffi_store.specs.declared.ctypes.TscMark.{TscMark}
 use Rattle.tsc_ffi_store.specs.declared.refusal.Refusal.{Refusal}
@@ -60,14 +60,14 @@ one_not_copied why keys words i d lt (inr memory) = inr memory
 
 -- So far: whatever marks the words that are left ask for, all words ask for marks with these, and
 -- `fit` says whether those before fit.
-pub record ChecksOn (settings : Settings) (keys : List ℕ) (words left : List TscMark) (fit : Bool) :
+pub record ChecksOn (config : ConfigView) (keys : List ℕ) (words left : List TscMark) (fit : Bool) :
     Type 0 where
   pub goes_on : (rest : List Mark) → AreMarks keys left rest →
-      AskForMarks settings keys words (fit && all_fit settings rest)
+      AskForMarks config keys words (fit && all_fit config rest)
 
-pub none_checked : (settings : Settings) (keys : List ℕ) (words : List TscMark) →
-    ChecksOn settings keys words words true
-none_checked settings keys words = record {
+pub none_checked : (config : ConfigView) (keys : List ℕ) (words : List TscMark) →
+    ChecksOn config keys words words true
+none_checked config keys words = record {
   goes_on = λ rest are. record { marks = rest; are = are; fit_is = refl };
 }
 
@@ -75,15 +75,15 @@ and_assoc : (a b c : Bool) → (a && (b && c)) ≡ ((a && b) && c)
 and_assoc true b c = refl
 and_assoc false b c = refl
 
-pub one_checked : (settings : Settings) (keys : List ℕ) (words : List TscMark) (i : ℕ)
+pub one_checked : (config : ConfigView) (keys : List ℕ) (words : List TscMark) (i : ℕ)
     (d : TscMark) (m : Mark) (fit does : Bool)
-    → i < length words → IsMark keys (get_or words i d) m → does ≡ fits settings m.span
-    → ChecksOn settings keys words (drop i words) fit
-    → ChecksOn settings keys words (drop (i + 1) words) (fit && does)
-one_checked settings keys words i d m fit does lt is same so_far = record {
-  goes_on = λ rest are. subst (AskForMarks settings keys words)
-      (and_assoc fit (fits settings m.span) (all_fit settings rest) ∙
-      ap (λ (b : Bool). (fit && b) && all_fit settings rest) (sym same))
+    → i < length words → IsMark keys (get_or words i d) m → does ≡ fits config m.span
+    → ChecksOn config keys words (drop i words) fit
+    → ChecksOn config keys words (drop (i + 1) words) (fit && does)
+one_checked config keys words i d m fit does lt is same so_far = record {
+  goes_on = λ rest are. subst (AskForMarks config keys words)
+      (and_assoc fit (fits config m.span) (all_fit config rest) ∙
+      ap (λ (b : Bool). (fit && b) && all_fit config rest) (sym same))
       (so_far.goes_on (m ∷ rest)
       (subst (λ (ws : List TscMark). AreMarks keys ws (m ∷ rest)) (sym (drop_more words i d lt))
       (is, are)));
@@ -93,11 +93,11 @@ and_true : (b : Bool) → (b && true) ≡ b
 and_true true = refl
 and_true false = refl
 
-pub all_checked : (settings : Settings) (keys : List ℕ) (words : List TscMark) (i : ℕ) (fit : Bool)
-    → length words ≤ i → ChecksOn settings keys words (drop i words) fit
-    → AskForMarks settings keys words fit
-all_checked settings keys words i fit le so_far =
-    subst (AskForMarks settings keys words) (and_true fit)
+pub all_checked : (config : ConfigView) (keys : List ℕ) (words : List TscMark) (i : ℕ) (fit : Bool)
+    → length words ≤ i → ChecksOn config keys words (drop i words) fit
+    → AskForMarks config keys words fit
+all_checked config keys words i fit le so_far =
+    subst (AskForMarks config keys words) (and_true fit)
     (so_far.goes_on [] (subst (λ (ws : List TscMark). AreMarks keys ws [])
     (sym (drop_all i words le)) tt))
 
@@ -110,8 +110,8 @@ same_mark keys w a b one other =
     let spans : a.span ≡ b.span = the_same one.names.named
     (ap (λ (k : KeyBytes). add_span (span_asked k one.to w.ends)) from
     ∙ ap (λ (k : KeyBytes). add_span (span_asked other.from k w.ends)) to ∙ other.names.named) in
-    ap (λ (s : Interval). record { span = s; value = a.value }) spans
-    ∙ ap (λ (v : OwnedTime). record { span = b.span; value = v }) (one.value ∙ sym other.value)
+    ap (λ (s : SpanView). record { span = s; value = a.value }) spans
+    ∙ ap (λ (v : ValueView). record { span = b.span; value = v }) (one.value ∙ sym other.value)
 
 pub same_marks : (keys : List ℕ) (words : List TscMark) (ms ns : List Mark)
     → AreMarks keys words ms → AreMarks keys words ns → ms ≡ ns

@@ -2,7 +2,7 @@
 use Rattle.std.proofs.Common.{◌≡◌, ◌∙◌, ap, sym, subst, inl, inr, Bool, false}
 use Rattle.std.specs.Prelude.{◌⊎◌, Some, Result, Ok, Err, IfOk, IfErr}
 use Rattle.tsc_span.specs.declared.span.Ends.{Ends}
-use Rattle.tsc_span.specs.Span.{KeyBytes, Interval, point, onward, range, range_for_lookup, is_inverted}
+use Rattle.tsc_span.specs.Span.{KeyBytes, SpanView, point, onward, range, range_for_lookup, is_inverted}
 use Rattle.tsc_ffi_store.specs.declared.decode.Form.TheVariants.{Point, Range, Onward}
 use Rattle.tsc_ffi_store.specs.declared.refusal.Refusal.{Refusal}
 use Rattle.tsc_ffi_store.specs.declared.refusal.Refusal.TheVariants as refusal
@@ -28,7 +28,7 @@ names_onward asked key excluded is same short = record {
   short = subst (AreShort asked.from asked.to) (sym is) short;
 }
 
-pub names_range : (asked : AskedSpan) (ends : Ends) (span : Interval)
+pub names_range : (asked : AskedSpan) (ends : Ends) (span : SpanView)
     → form_of asked.ends ≡ Some (Range ends) → NamesRange asked.from asked.to ends span
     → NamesAddSpan asked span
 names_range asked ends span is names = record {
@@ -53,7 +53,7 @@ refuses_range_copy why asked ends is (inl refused) = inl (refuses_range why aske
 refuses_range_copy why asked ends is (inr lacks) = inr (record {
   span = lacks.span;
   names = names_range asked ends lacks.span is lacks.names;
-  told = lacks.told;
+  reported = lacks.reported;
 })
 
 -- why a call was refused, in other words
@@ -65,12 +65,12 @@ refused_so (Err why) so refused = so why refused
 -- Two keys that are not inverted name a range, and so do others that are the same.
 pub names_upright : (from to first second : KeyBytes) (xf xt : Bool) → first ≡ from → second ≡ to
     → is_inverted from to ≡ false
-    → (span : Interval) × (range first second xf xt ≡ Some span)
+    → (span : SpanView) × (range first second xf xt ≡ Some span)
 names_upright from to first second xf xt same same_to h =
     (range_for_lookup from to xf xt, rw (same, same_to) (upright from to xf xt h))
 
 -- A range of copies is the one that two keys name.
-pub made : (from to first second : KeyBytes) (ends : Ends) (did : Result Interval Refusal)
+pub made : (from to first second : KeyBytes) (ends : Ends) (did : Result SpanView Refusal)
     → first ≡ from → second ≡ to → IsShort from → IsShort to
     → IfOk did (λ span. range first second ends.exclude_from ends.exclude_to ≡ Some span)
     → IfOk did (λ span. NamesRange from to ends span)
@@ -84,13 +84,13 @@ made from to first second ends (Ok span) same same_to short short_to is = (
 made from to first second ends (Err why) same same_to short short_to is = tt
 
 -- What a copy of a range answers that two keys name.
-pub copied : (from to first second : KeyBytes) (ends : Ends) (did : Result Interval Refusal)
+pub copied : (from to first second : KeyBytes) (ends : Ends) (did : Result SpanView Refusal)
     → first ≡ from → second ≡ to → IsShort from → IsShort to → is_inverted from to ≡ false
     → IfErr did (λ why. why ≡ refusal.NoMemory)
     → IfErr did (λ why. RefusesRange why from to ⊎ LacksRangeCopy why from to ends)
 copied from to first second ends did same same_to short short_to h memory =
-    refused_so did (λ why told. inr (record {
+    refused_so did (λ why reported. inr (record {
       span = range_for_lookup from to ends.exclude_from ends.exclude_to;
       names = (short, short_to, upright from to ends.exclude_from ends.exclude_to h);
-      told = told;
+      reported = reported;
     })) memory

@@ -2,7 +2,7 @@
 use Rattle.std.proofs.Common.{◌≡◌, refl, ap, ℕ, zero, suc, List, [], ◌∷◌, ◌++◌, length, length-append}
 use Rattle.std.specs.Prelude.{◌≢◌, Some, None, slice_get}
 use Rattle.tsc_cache.specs.CacheView.{CacheView, RepresentsState}
-use Rattle.tsc_cache.specs.Settings.{Settings}
+use Rattle.tsc_cache.specs.ConfigView.{ConfigView}
 use Rattle.tsc_cache.specs.State.{opening}
 use Rattle.tsc_ffi_store.specs.declared.store.Slot.{Slot}
 use Rattle.tsc_ffi_store.specs.declared.store.Slot.TheVariants.{Own}
@@ -25,11 +25,11 @@ as_before [] e (suc other) ne = refl
 as_before (x ∷ items) e zero ne = refl
 as_before (x ∷ items) e (suc other) ne = as_before items e other (λ same. ne (ap suc same))
 
-pub opens_next : (items more : List Slot) (n : ℕ) (cache : CacheView) (settings : Settings) →
+pub opens_next : (items more : List Slot) (n : ℕ) (cache : CacheView) (config : ConfigView) →
     n ≡ length items → more ≡ items ++ Own (record { cache = cache; counts = no_counts }) ∷ [] →
-    RepresentsState cache settings (opening settings)
-    → Opens (cache_at items n) (cache_at more n) settings
-opens_next items more n cache settings handle laid stands = rw (handle, laid) record {
+    RepresentsState cache config (opening config)
+    → Opens (cache_at items n) (cache_at more n) config
+opens_next items more n cache config handle pushed stands = rw (handle, pushed) record {
   cache = cache;
   none = ap cache_in (none_yet items);
   holds = ap cache_in (there_then items (Own (record { cache = cache; counts = no_counts })));
@@ -38,7 +38,7 @@ opens_next items more n cache settings handle laid stands = rw (handle, laid) re
 
 pub gives_next : (items more : List Slot) (n : ℕ) (e : Slot) → n ≡ length items →
     more ≡ items ++ e ∷ [] → GivesNext items more n
-gives_next items more n e handle laid = rw (handle, laid) record {
+gives_next items more n e handle pushed = rw (handle, pushed) record {
   next = refl;
   given = length-append items (e ∷ []);
   others = λ other ne. ap cache_in (as_before items e other ne);

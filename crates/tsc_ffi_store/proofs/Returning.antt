@@ -716,9 +716,9 @@ in_hand number i x me is same = (
       (λ k. (sym same k, x) ∷ rest ((sym is) k).1),
 )
 
-pub laid : (number i : ℕ) (x y : Returned) (me me' : At) → me ≡ (spent number, (number, x) ∷ []) →
-    i ≡ number → me' ≡ (me.0, (i, y) ∷ rest me.1) → me' ≡ (spent number, (number, y) ∷ [])
-laid number i x y me me' is same e = e ∙ (λ k. ((is k).0, (same k, y) ∷ rest (is k).1))
+pub put_back : (number i : ℕ) (x y : Returned) (me me' : At) → me ≡ (spent number, (number, x) ∷ [])
+    → i ≡ number → me' ≡ (me.0, (i, y) ∷ rest me.1) → me' ≡ (spent number, (number, y) ∷ [])
+put_back number i x y me me' is same e = e ∙ (λ k. ((is k).0, (same k, y) ∷ rest (is k).1))
 
 -- what is in hand once a seat was collected
 pub in_hand_then : (st : Step Returned) (me me' : At) → collects st me 2 me' →

@@ -8,22 +8,23 @@ use Rattle.tsc_ffi_store.specs.declared.refusal.Refusal.{Refusal}
 use Rattle.tsc_ffi_store.specs.declared.seats.kinds.AnySeat.{AnySeat}
 use Rattle.tsc_ffi_store.specs.declared.seats.placed.Counted.{Counted}
 use Rattle.tsc_ffi_store.specs.Asking.{CountsShared, CountsStriped}
-use Rattle.tsc_ffi_store.specs.Decode.{figures_told}
+use Rattle.tsc_ffi_store.specs.Decode.{figures_reported}
 use Rattle.tsc_ffi_store.specs.Kinds.{ByKind}
 use Rattle.tsc_ffi_store.specs.SeatCalls.{AnswersSeatFigures}
 use Rattle.tsc_ffi_store.specs.StripedCalls.{AnswersStripedFigures}
 use Rattle.tsc_ffi_store.proofs.ByKinds.{by_kind}
 
 -- The words tell figures with the memory that stands in the words.
-told_with_memory : (counted : Counted) (counts : Counts) (words : TscFigures)
-    → words ≡ figures_told counted.figures.figures counted.memory counts
-    → words ≡ figures_told counted.figures.figures words.memory counts
-told_with_memory counted counts words is =
-    subst (λ (w : TscFigures). w ≡ figures_told counted.figures.figures w.memory counts) (sym is)
+reported_with_memory : (counted : Counted) (counts : Counts) (words : TscFigures)
+    → words ≡ figures_reported counted.figures.figures counted.memory counts
+    → words ≡ figures_reported counted.figures.figures words.memory counts
+reported_with_memory counted counts words is =
+    subst (λ (w : TscFigures). w ≡ figures_reported counted.figures.figures w.memory counts)
+    (sym is)
     refl
 
 pub counted_at : (counts : Counts) (counted : Counted) (words : TscFigures) (old new : AnySeat)
-    → words ≡ figures_told counted.figures.figures counted.memory counts
+    → words ≡ figures_reported counted.figures.figures counted.memory counts
     → ByKind CountsShared CountsStriped old new (Ok counted)
     → ByKind {A = Result (Unit {0}) Refusal}
     (AnswersSeatFigures counts counted.figures.front words)
@@ -32,21 +33,21 @@ counted_at counts counted words old new is did =
     by_kind CountsShared CountsStriped (AnswersSeatFigures counts counted.figures.front words)
     (AnswersStripedFigures counts counted.figures.front words) (Ok counted) (Ok tt)
     (λ x y a. record {
-      tells = record {
+      reports = record {
         counted = counted.figures.figures;
-        told = told_with_memory counted counts words is;
+        reported = reported_with_memory counted counts words is;
         reads = subst (λ (r : Result Counted Refusal). IfOk r
             (λ given. ReadsFigures x y given.figures)) (sym a.is) a.reads;
       };
       done = refl;
     })
     (λ x y a. record {
-      tells = record {
+      reports = record {
         counted = counted.figures.figures;
         read = a.counted.read;
         reads = a.counted.reads;
         on = a.counted.on;
-        told = told_with_memory counted counts words is;
+        reported = reported_with_memory counted counts words is;
         own = a.counted.front;
       };
       refused = tt;

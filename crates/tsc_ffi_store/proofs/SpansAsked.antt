@@ -2,7 +2,7 @@
 use Rattle.std.proofs.Common.{◌≡◌, ◌∙◌, inl, inr, sym, ap, subst, arith, ℕ, zero, suc, ◌+◌, ◌<◌, ◌≤◌, List, [], ◌∷◌, length, get_or, drop, Bool}
 use Rattle.std.specs.Prelude.{Option, Some, None, if◌then◌else◌}
 use Rattle.std.proofs.lemmas.List.{drop_more, drop_all}
-use Rattle.tsc_span.specs.Span.{KeyBytes, Interval, from_to}
+use Rattle.tsc_span.specs.Span.{KeyBytes, SpanView, from_to}
 use Rattle.tsc_ffi_store.specs.declared.ctypes.TscSpan.{TscSpan}
 use Rattle.tsc_ffi_store.specs.declared.refusal.Refusal.{Refusal}
 use Rattle.tsc_ffi_store.specs.Decode.{AskedSpan, span_asked, add_span, formed_to_add, IsInverted, RefusesWrittenSpan}
@@ -10,12 +10,12 @@ use Rattle.tsc_ffi_store.specs.Writes.{IsSpan, AreSpans, AllSpans, RefusesSpan}
 
 -- So far: whatever the words that are left ask for, all words ask for spans with that.
 pub record AsksOn (keys : List ℕ) (words left : List TscSpan) : Type 0 where
-  pub goes_on : (rest : List Interval) → AreSpans keys left rest → AllSpans keys words
+  pub goes_on : (rest : List SpanView) → AreSpans keys left rest → AllSpans keys words
 
 pub none_asked_yet : (keys : List ℕ) (words : List TscSpan) → AsksOn keys words words
 none_asked_yet keys words = record { goes_on = λ rest are. (rest, are) }
 
-pub one_asked_more : (keys : List ℕ) (words : List TscSpan) (i : ℕ) (d : TscSpan) (s : Interval) →
+pub one_asked_more : (keys : List ℕ) (words : List TscSpan) (i : ℕ) (d : TscSpan) (s : SpanView) →
     i < length words → IsSpan keys (get_or words i d) s → AsksOn keys words (drop i words) →
     AsksOn keys words (drop (i + 1) words)
 one_asked_more keys words i d s lt is so_far = record {
@@ -32,8 +32,8 @@ all_asked_for keys words i le so_far =
 
 -- ---- no span that is asked for is refused
 
-asked_at : (keys : List ℕ) (words : List TscSpan) (spans : List Interval) (i : ℕ) (d : TscSpan) →
-    AreSpans keys words spans → i < length words → (s : Interval) × IsSpan keys (get_or words i d) s
+asked_at : (keys : List ℕ) (words : List TscSpan) (spans : List SpanView) (i : ℕ) (d : TscSpan) →
+    AreSpans keys words spans → i < length words → (s : SpanView) × IsSpan keys (get_or words i d) s
 asked_at keys [] spans i d are lt = absurd (omega (arith, lt))
 asked_at keys (w ∷ ws) [] i d are lt = absurd are
 asked_at keys (w ∷ ws) (s ∷ ss) zero d are lt = (s, are.0)
@@ -56,7 +56,7 @@ refused_is_none : (why : Refusal) (asked : AskedSpan) → RefusesWrittenSpan why
 refused_is_none why asked (inl ends) = ap (formed_to_add asked.from asked.to) ends.1
 refused_is_none why asked (inr inverted) = inverted_is_none asked inverted.1
 
-not_refused : (why : Refusal) (keys : List ℕ) (words : TscSpan) (s : Interval) →
+not_refused : (why : Refusal) (keys : List ℕ) (words : TscSpan) (s : SpanView) →
     IsSpan keys words s → RefusesSpan why keys words → ⊥
 not_refused why keys words s is (inl part) = none_is_some part.1 is.from_lies
 not_refused why keys words s is (inr (inl part)) = none_is_some part.1 is.to_lies

@@ -38,14 +38,14 @@ numbers [] (y ∷ ys) = inr (λ h. omega (arith, ap length h))
 numbers (x ∷ xs) [] = inr (λ h. omega (arith, ap length h))
 numbers (x ∷ xs) (y ∷ ys) = longer x y xs ys (number x y) (numbers xs ys)
 
-abbrev Told : Type 0
-Told = ℕ × (ℕ × (ℕ × (ℕ × (ℕ × (ℕ × List ℕ)))))
+abbrev Reported : Type 0
+Reported = ℕ × (ℕ × (ℕ × (ℕ × (ℕ × (ℕ × List ℕ)))))
 
-abbrev told : TableId → Told
-told z = (z.words, (z.slots, (z.views_name, (z.atom, (z.block, (z.offset, z.slot_names))))))
+abbrev reported : TableId → Reported
+reported z = (z.words, (z.slots, (z.views_name, (z.atom, (z.block, (z.offset, z.slot_names))))))
 
-by_told : (a b : TableId) → told a ≡ told b → a ≡ b
-by_told a b e i = record {
+by_reported : (a b : TableId) → reported a ≡ reported b → a ≡ b
+by_reported a b e i = record {
   words = (e i).0;
   slots = (e i).1.0;
   views_name = (e i).1.1.0;
@@ -55,16 +55,17 @@ by_told a b e i = record {
   slot_names = (e i).1.1.1.1.1.1;
 }
 
-from_told : (a b : TableId) → Decided (told a) (told b) → Decided a b
-from_told a b (inl e) = inl (by_told a b e)
-from_told a b (inr n) = inr (λ e. n (ap told e))
+from_reported : (a b : TableId) → Decided (reported a) (reported b) → Decided a b
+from_reported a b (inl e) = inl (by_reported a b e)
+from_reported a b (inr n) = inr (λ e. n (ap reported e))
 
 pub one_table : (a b : TableId) → Decided a b
-one_table a b = from_told a b (both a.words b.words (told a).1 (told b).1 (number a.words b.words)
-    (both a.slots b.slots (told a).1.1 (told b).1.1 (number a.slots b.slots)
-    (both a.views_name b.views_name (told a).1.1.1 (told b).1.1.1
+one_table a b = from_reported a b (both a.words b.words (reported a).1 (reported b).1
+    (number a.words b.words)
+    (both a.slots b.slots (reported a).1.1 (reported b).1.1 (number a.slots b.slots)
+    (both a.views_name b.views_name (reported a).1.1.1 (reported b).1.1.1
     (number a.views_name b.views_name)
-    (both a.atom b.atom (told a).1.1.1.1 (told b).1.1.1.1 (number a.atom b.atom)
-    (both a.block b.block (told a).1.1.1.1.1 (told b).1.1.1.1.1 (number a.block b.block)
+    (both a.atom b.atom (reported a).1.1.1.1 (reported b).1.1.1.1 (number a.atom b.atom)
+    (both a.block b.block (reported a).1.1.1.1.1 (reported b).1.1.1.1.1 (number a.block b.block)
     (both a.offset b.offset a.slot_names b.slot_names (number a.offset b.offset)
     (numbers a.slot_names b.slot_names)))))))

@@ -40,17 +40,17 @@ pub why_refused : {X Y : Type 0} (why : Refusal) (old new : SeatView) (fit : Boo
     IsTooLargeFor fit (Err fault)
     → (fit ≡ false → why ≡ refusal.TooLarge → new ≡ old → X)
     → (fit ≡ true → RefusesTried why old new → Y) → X ⊎ Y
-why_refused why old new fit DeskBusy code told t too_large tried =
-    inr (tried (fits_else fit DeskBusy t refl) (inl (code, inl told)))
-why_refused why old new fit SeatInside code told t too_large tried =
-    inr (tried (fits_else fit SeatInside t refl) (inl (code, inr told)))
-why_refused why old new fit (Refused (HistoryFull front)) code told t too_large tried =
+why_refused why old new fit DeskBusy code reported t too_large tried =
+    inr (tried (fits_else fit DeskBusy t refl) (inl (code, inl reported)))
+why_refused why old new fit SeatInside code reported t too_large tried =
+    inr (tried (fits_else fit SeatInside t refl) (inl (code, inr reported)))
+why_refused why old new fit (Refused (HistoryFull front)) code reported t too_large tried =
     inr (tried (fits_else fit (Refused (HistoryFull front)) t refl)
-    (inr (inl (code, told.limit))))
-why_refused why old new fit (Refused NoMemory) code told t too_large tried =
-    inr (tried (fits_else fit (Refused NoMemory) t refl) (inr (inr (code, told))))
-why_refused why old new fit (Refused TooLarge) code told t too_large tried =
-    inl (too_large (t.0 refl) code told)
+    (inr (inl (code, reported.limit))))
+why_refused why old new fit (Refused NoMemory) code reported t too_large tried =
+    inr (tried (fits_else fit (Refused NoMemory) t refl) (inr (inr (code, reported))))
+why_refused why old new fit (Refused TooLarge) code reported t too_large tried =
+    inl (too_large (t.0 refl) code reported)
 
 -- whether a cache refused an Add for its size
 abbrev is_large : Result Added CacheFault → Bool

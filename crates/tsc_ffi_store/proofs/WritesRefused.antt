@@ -22,8 +22,8 @@ pub write_refused : (asked : AskedWrite) (seen : ℕ) (at : Time) (why : Refusal
 write_refused asked seen at why old new did =
     by_kind (AsksOfWrite asked) (AsksOfWriteStriped asked) (AnswersSeatWrite asked seen at)
     (AnswersStripedWrite asked seen at) (Err why) (Err why)
-    (λ x y a. record { told = tt; front = tt; refused = inl (a.refused, a.unchanged) })
-    (λ x y a. record { told = tt; front = tt; refused = with_between a.refused }) old new did
+    (λ x y a. record { reported = tt; front = tt; refused = inl (a.refused, a.unchanged) })
+    (λ x y a. record { reported = tt; front = tt; refused = with_between a.refused }) old new did
 
 pub may_refused : (asked : AskedWrite) (seen : ℕ) (may : Bool) (why : Refusal)
     (old new : AnySeat) → ByKind (AsksOfWrite asked) (AsksOfWriteStriped asked) old new (Err why)
@@ -32,5 +32,5 @@ pub may_refused : (asked : AskedWrite) (seen : ℕ) (may : Bool) (why : Refusal)
 may_refused asked seen may why old new did =
     by_kind (AsksOfWrite asked) (AsksOfWriteStriped asked) (AnswersSeatMayWrite asked seen may)
     (AnswersStripedMayWrite asked seen may) (Err why) (Err why)
-    (λ x y a. record { told = tt; front = tt; refused = (a.refused, a.unchanged) })
-    (λ x y a. record { told = tt; front = tt; refused = a.refused }) old new did
+    (λ x y a. record { reported = tt; front = tt; refused = (a.refused, a.unchanged) })
+    (λ x y a. record { reported = tt; front = tt; refused = a.refused }) old new did

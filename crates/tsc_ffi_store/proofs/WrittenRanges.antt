@@ -4,7 +4,7 @@ use Rattle.std.specs.Prelude.{Some}
 use Rattle.std.specs.declared.cmp.Ordering.TheVariants.{Less, Equal, Greater}
 use Rattle.std.specs.Ordering.{is_lt, ordering_reverse}
 use Rattle.tsc_span.specs.Span.{KeyBytes, key_cmp, is_inverted, range, range_for_lookup}
-use Rattle.tsc_span.proofs.CutOrder.{key_cmp_back}
+use Rattle.tsc_span.proofs.CutsTotal.{key_cmp_back}
 
 pub inverted_of_greater : (from to : KeyBytes) → key_cmp from to ≡ Greater →
     is_inverted from to ≡ true

@@ -1,9 +1,9 @@
 -- What a seat answers by its handle: at a shared cache, and in stripes. (For private contracts.)
 use Rattle.std.specs.Prelude.{◌≡◌, ◌⊎◌, ℕ, ◌∷◌, [], List, Bool, length, Some, Result, Ok, Err, IfOk, IfErr, OnErr}
 use Rattle.tsc_time.specs.Time.{Time}
-use Rattle.tsc_time.specs.OwnedTime.{OwnedTime}
-use Rattle.tsc_span.specs.Span.{Interval}
-use Rattle.tsc_page_nodes.specs.Page.{Mark}
+use Rattle.tsc_time.specs.ValueView.{ValueView}
+use Rattle.tsc_span.specs.Span.{SpanView}
+use Rattle.tsc_page_model.specs.Page.{Mark}
 use Rattle.tsc_stripe_table.specs.Stripes.{stripe_count}
 use Rattle.tsc_shared.specs.Seats.{SeatView as SharedSeat}
 use Rattle.tsc_shared.specs.declared.answers.Answer.{Answer}
@@ -29,32 +29,32 @@ use Rattle.tsc_ffi_store.specs.StripedCalls.{IsStripedCode, ReadsFloors, ReadsAl
 use Rattle.tsc_ffi_store.specs.StripedCalls.{RefusesInStripes}
 
 -- one mark by itself
-abbrev pub one_mark : Interval → OwnedTime → List Mark
+abbrev pub one_mark : SpanView → ValueView → List Mark
 one_mark span value = record { span = span; value = value } ∷ []
 
 -- A lookup at a shared cache is never refused.
-pub record LooksShared (span : Interval) (old new : SharedSeat) (did : Result Answer Refusal) : Type
+pub record LooksShared (span : SpanView) (old new : SharedSeat) (did : Result Answer Refusal) : Type
     0 where
   pub answer : Answer
   pub is : did ≡ Ok answer
   pub looked : shared.AnswersLookup old new span answer
   pub above : shared.IsAbove new span answer.value
-  pub whole : shared.TellsNoPart new span answer.value
+  pub whole : shared.ReportsNoPart new span answer.value
 
 -- A lookup in stripes is refused where a lock was held at each try.
-pub record LooksStriped (span : Interval) (old new : StripedSeat) (did : Result Answer Refusal) :
+pub record LooksStriped (span : SpanView) (old new : StripedSeat) (did : Result Answer Refusal) :
     Type 0 where
   pub looked : IfOk did (λ answer. striped.AnswersLookup old new span answer.value
       × (answer.front ≡ new.count))
   pub refused : IfErr did (λ why. (why ≡ refusal.Busy) × (new ≡ old))
 
-pub record TellsFloor (old new : SharedSeat) (did : Result LowWater Refusal) : Type 0 where
+pub record ReportsFloor (old new : SharedSeat) (did : Result LowWater Refusal) : Type 0 where
   pub answer : LowWater
   pub is : did ≡ Ok answer
   pub reads : shared.ReadsFloor old new answer
 
 -- The earliest floor of all stripes is told.
-pub record TellsFloorStriped (old new : StripedSeat) (did : Result LowWater Refusal) : Type
+pub record ReportsFloorStriped (old new : StripedSeat) (did : Result LowWater Refusal) : Type
     0 where
   pub reads : IfOk did (λ answer. ReadsFloors old new (stripe_count old.cache.terms.bounds) answer.time
       × (answer.front ≡ new.count))
@@ -80,23 +80,23 @@ pub record CountsStriped (old new : StripedSeat) (did : Result Counted Refusal) 
   pub goes_on : striped.GoesOn old new
   pub count : new.count ≡ old.count
 
-pub record SumsUpShared (span : Interval) (most : ℕ) (old new : SharedSeat)
+pub record SumsUpShared (span : SpanView) (most : ℕ) (old new : SharedSeat)
     (did : Result SeatSummary Refusal) : Type 0 where
-  pub told : IfOk did (λ told. SummarizesAt old new span most told)
+  pub reported : IfOk did (λ reported. SummarizesAt old new span most reported)
   pub refused : IfErr did (λ why. why ≡ refusal.NoMemory)
   pub looked : shared.HasLookedOn old new
 
 -- Summaries of all stripes that a span touches, of one moment, are told as one.
-pub record MergesStripes (span : Interval) (most : ℕ) (old new : StripedSeat) (told : SeatSummary) :
-    Type 0 where
+pub record MergesStripes (span : SpanView) (most : ℕ) (old new : StripedSeat)
+    (reported : SeatSummary) : Type 0 where
   pub parts : List Summary
   pub summarizes : SummarizesInStripes old new span most parts
-  pub merges : told.summary ≡ merged span parts
-  pub front : told.front ≡ new.count
+  pub merges : reported.summary ≡ merged span parts
+  pub front : reported.front ≡ new.count
 
-pub record SumsUpStriped (span : Interval) (most : ℕ) (old new : StripedSeat)
+pub record SumsUpStriped (span : SpanView) (most : ℕ) (old new : StripedSeat)
     (did : Result SeatSummary Refusal) : Type 0 where
-  pub told : IfOk did (λ told. MergesStripes span most old new told)
+  pub reported : IfOk did (λ reported. MergesStripes span most old new reported)
   pub refused : IfErr did (λ why. (why ≡ refusal.Busy) ⊎ (why ≡ refusal.NoMemory))
   pub looked : LooksOn old new
 
@@ -110,9 +110,9 @@ IsPlaced (Err fault) (Err why) = IsCodeOf fault why
 
 pub record AddsShared (marks : List Mark) (now : Time) (fit : Bool) (tries : ℕ)
     (old new : SharedSeat) (did : Result Placed Refusal) : Type 0 where
-  pub told : Result Receipt TryAddFault
-  pub answers : shared.AnswersTriedAdd old new marks now fit (Some tries) told
-  pub is : IsPlaced told did
+  pub reported : Result Receipt TryAddFault
+  pub answers : shared.AnswersTriedAdd old new marks now fit (Some tries) reported
+  pub is : IsPlaced reported did
 
 -- What a cache in stripes says of an Add is told: its place among the seat's own, and what it did.
 abbrev pub IsPlacedInStripes : Result StripedReceipt StripedFault → Result Placed Refusal → Type 0
@@ -124,9 +124,9 @@ IsPlacedInStripes (Err fault) (Err why) = IsStripedCode fault why
 
 pub record AddsStriped (marks : List Mark) (now : Time) (tries : ℕ) (old new : StripedSeat)
     (did : Result Placed Refusal) : Type 0 where
-  pub told : Result StripedReceipt StripedFault
-  pub answers : striped.AnswersTriedAdd old new marks now (Some tries) told
-  pub is : IsPlacedInStripes told did
+  pub reported : Result StripedReceipt StripedFault
+  pub answers : striped.AnswersTriedAdd old new marks now (Some tries) reported
+  pub is : IsPlacedInStripes reported did
 
 -- There is no memory for an Add: it is refused as it would be that was tried.
 pub record LacksShared (old new : SharedSeat) (why : Refusal) : Type 0 where

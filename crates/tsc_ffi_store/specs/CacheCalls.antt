@@ -1,11 +1,11 @@
 -- What a call makes of the cache that it names, and why it is refused.
 use Rattle.std.specs.Prelude.{◌≡◌, ◌⊎◌, ◌+◌, ◌-◌, ◌^◌, ◌≤◌, ℕ, List, length, true, false, Option, Some, None, Result, IfOk, IfErr, IsOk, OnErr}
 use Rattle.tsc_time.specs.Time.{Time}
-use Rattle.tsc_time.specs.OwnedTime.{OwnedTime}
-use Rattle.tsc_span.specs.Span.{Interval}
-use Rattle.tsc_page_nodes.specs.Page.{Mark}
+use Rattle.tsc_time.specs.ValueView.{ValueView}
+use Rattle.tsc_span.specs.Span.{SpanView}
+use Rattle.tsc_page_model.specs.Page.{Mark}
 use Rattle.tsc_cache.specs.declared.added.Added.{Added}
-use Rattle.tsc_cache.specs.Settings.{Settings, fits}
+use Rattle.tsc_cache.specs.ConfigView.{ConfigView, fits}
 use Rattle.tsc_cache.specs.State.{CacheState, opening, step, step_all, look}
 use Rattle.tsc_cache.specs.CacheView.{CacheView, RepresentsState, Adds, cache_answer}
 use Rattle.tsc_cache.specs.Counts.{figures_of, figures_seen}
@@ -15,17 +15,17 @@ use Rattle.tsc_ffi_store.specs.declared.ctypes.TscFigures.{TscFigures}
 use Rattle.tsc_ffi_store.specs.declared.refusal.Refusal.{Refusal}
 use Rattle.tsc_ffi_store.specs.declared.refusal.Refusal.TheVariants as refusal
 use Rattle.tsc_ffi_store.specs.declared.store.Slot.{Slot}
-use Rattle.tsc_ffi_store.specs.Decode.{AskedSpan, AskedAdd, AskedBatch, AskedConfig, lookup_span, figures_told, NamesAdd, NamesSettings, RefusesEnds, RefusesNamed, RefusesConfig}
+use Rattle.tsc_ffi_store.specs.Decode.{AskedSpan, AskedAdd, AskedBatch, AskedConfig, lookup_span, figures_reported, NamesAdd, NamesConfig, RefusesEnds, RefusesNamed, RefusesConfig}
 use Rattle.tsc_ffi_store.specs.Marks.{NamesAddAll, RefusesBatch}
 use Rattle.tsc_ffi_store.specs.Counts.{no_counts}
 use Rattle.tsc_ffi_store.specs.Store.{cache_at, GivesNext, RefusesHandles}
 
 -- Where there was none, a cache without Adds is held, of which nothing was asked.
-pub record Opens (old new : Option CountedCache) (settings : Settings) : Type 0 where
+pub record Opens (old new : Option CountedCache) (config : ConfigView) : Type 0 where
   pub cache : CacheView
   pub none : old ≡ None
   pub holds : new ≡ Some (record { cache = cache; counts = no_counts })
-  pub stands : RepresentsState cache settings (opening settings)
+  pub stands : RepresentsState cache config (opening config)
 
 -- There are so many handles more, but no memory for what they are to name.
 abbrev pub LacksMemoryForHandles : Refusal → List Slot → ℕ → Type 0
@@ -35,8 +35,8 @@ LacksMemoryForHandles why slots more =
 -- All that a call says of a cache is right, and there is a handle for it, but no memory.
 pub record LacksMemoryToOpen (why : Refusal) (asked : AskedConfig) (slots : List Slot) : Type
     0 where
-  pub settings : Settings
-  pub names : NamesSettings asked settings
+  pub config : ConfigView
+  pub names : NamesConfig asked config
   pub lacks : LacksMemoryForHandles why slots 1
 
 -- Why no cache was opened.
@@ -47,22 +47,22 @@ RefusesOpen why asked slots = RefusesConfig why asked ⊎ RefusesHandles why slo
 -- What a call does that opens a cache, at the next handle.
 pub record AnswersOpen {A : Type 0} (asked : AskedConfig) (handle : ℕ) (old new : List Slot)
     (did : Result A Refusal) : Type 0 where
-  pub opened : IfOk did (λ _. (settings : Settings) × NamesSettings asked settings ×
-      Opens (cache_at old handle) (cache_at new handle) settings)
+  pub opened : IfOk did (λ _. (config : ConfigView) × NamesConfig asked config ×
+      Opens (cache_at old handle) (cache_at new handle) config)
   pub given : IfOk did (λ _. GivesNext old new handle)
   pub refused : IfErr did (λ why. RefusesOpen why asked old)
   pub unchanged : OnErr did (new ≡ old)
 
 -- What a cache answers to the span that a call names.
-pub record LooksIn (cache : CacheView) (asked : AskedSpan) (v : OwnedTime) : Type 0 where
-  pub span : Interval
+pub record LooksIn (cache : CacheView) (asked : AskedSpan) (v : ValueView) : Type 0 where
+  pub span : SpanView
   pub asked_for : lookup_span asked ≡ Some span
   pub value : v ≡ cache_answer cache span
-  pub stands : (settings : Settings) (s : CacheState) → RepresentsState cache settings s →
+  pub stands : (config : ConfigView) (s : CacheState) → RepresentsState cache config s →
       v ≡ look s span
 
 -- What a lookup in a cache answers.
-pub record AnswersLookup {A : Type 0} (asked : AskedSpan) (v : OwnedTime) (cache : CacheView)
+pub record AnswersLookup {A : Type 0} (asked : AskedSpan) (v : ValueView) (cache : CacheView)
     (did : Result A Refusal) : Type 0 where
   pub looked : IfOk did (λ _. LooksIn cache asked v)
   pub refused : IfErr did (λ why. RefusesEnds why asked.ends)
@@ -70,56 +70,56 @@ pub record AnswersLookup {A : Type 0} (asked : AskedSpan) (v : OwnedTime) (cache
 -- Where the floor of a cache stands.
 pub record StandsAt (cache : CacheView) (floor : Time) : Type 0 where
   pub value : floor ≡ cache.floor
-  pub stands : (settings : Settings) (s : CacheState) → RepresentsState cache settings s →
+  pub stands : (config : ConfigView) (s : CacheState) → RepresentsState cache config s →
       floor ≡ s.floor
 
 -- The figures of a cache, and what was asked of it. Of the memory nothing is said.
-pub record TellsFigures (held : CountedCache) (figures : TscFigures) : Type 0 where
-  pub value : figures ≡ figures_told (figures_seen held.cache) figures.memory held.counts
-  pub stands : (settings : Settings) (s : CacheState) → RepresentsState held.cache settings s →
-      figures ≡ figures_told (figures_of s) figures.memory held.counts
+pub record ReportsFigures (held : CountedCache) (figures : TscFigures) : Type 0 where
+  pub value : figures ≡ figures_reported (figures_seen held.cache) figures.memory held.counts
+  pub stands : (config : ConfigView) (s : CacheState) → RepresentsState held.cache config s →
+      figures ≡ figures_reported (figures_of s) figures.memory held.counts
 
 -- What a call answers that no cache refuses.
-pub record AnswersAlways {A : Type 0} (Told : CountedCache → Type 0) (held : CountedCache)
+pub record AnswersAlways {A : Type 0} (Reported : CountedCache → Type 0) (held : CountedCache)
     (did : Result A Refusal) : Type 0 where
-  pub told : Told held
+  pub reported : Reported held
   pub done : IsOk did
 
 -- What an Add of the span that a call names makes of a cache, where the span fits a page.
 pub record AddsIn (cache after : CacheView) (asked : AskedAdd) (added : Added) : Type 0 where
-  pub span : Interval
+  pub span : SpanView
   pub names : NamesAdd asked span
-  pub fit : fits cache.settings span ≡ true
+  pub fit : fits cache.config span ≡ true
   pub adds : Adds cache after (record { span = span; value = asked.value }) asked.moment added
-  pub stands : (settings : Settings) (s : CacheState) → RepresentsState cache settings s
-      → RepresentsState after settings
-      (step settings s (record { span = span; value = asked.value }) asked.moment).state
-  pub tells : (settings : Settings) (s : CacheState) → RepresentsState cache settings s
-      → added ≡ (step settings s (record { span = span; value = asked.value }) asked.moment).added
+  pub stands : (config : ConfigView) (s : CacheState) → RepresentsState cache config s
+      → RepresentsState after config
+      (step config s (record { span = span; value = asked.value }) asked.moment).state
+  pub reports : (config : ConfigView) (s : CacheState) → RepresentsState cache config s
+      → added ≡ (step config s (record { span = span; value = asked.value }) asked.moment).added
 
 -- All that a call says of an Add is right, but its span costs more than the largest page may have.
-pub record IsTooLarge (why : Refusal) (settings : Settings) (asked : AskedAdd) : Type 0 where
-  pub span : Interval
+pub record IsTooLarge (why : Refusal) (config : ConfigView) (asked : AskedAdd) : Type 0 where
+  pub span : SpanView
   pub names : NamesAdd asked span
-  pub too_large : fits settings span ≡ false
-  pub told : why ≡ refusal.TooLarge
+  pub too_large : fits config span ≡ false
+  pub reported : why ≡ refusal.TooLarge
 
 -- All that a call says of an Add is right, and its span fits a page, but memory was refused.
-pub record LacksMemoryFor (why : Refusal) (settings : Settings) (asked : AskedAdd) : Type 0 where
-  pub span : Interval
+pub record LacksMemoryFor (why : Refusal) (config : ConfigView) (asked : AskedAdd) : Type 0 where
+  pub span : SpanView
   pub names : NamesAdd asked span
-  pub fit : fits settings span ≡ true
-  pub told : why ≡ refusal.NoMemory
+  pub fit : fits config span ≡ true
+  pub reported : why ≡ refusal.NoMemory
 
 -- Why a cache refused an Add.
 abbrev pub RefusesAdd : Refusal → CacheView → AskedAdd → Type 0
-RefusesAdd why cache asked = RefusesNamed why asked ⊎ IsTooLarge why cache.settings asked ⊎
-    LacksMemoryFor why cache.settings asked
+RefusesAdd why cache asked = RefusesNamed why asked ⊎ IsTooLarge why cache.config asked ⊎
+    LacksMemoryFor why cache.config asked
 
 -- What an Add to a cache does.
-pub record AnswersAdd {A : Type 0} (asked : AskedAdd) (told : Added) (cache after : CacheView)
+pub record AnswersAdd {A : Type 0} (asked : AskedAdd) (reported : Added) (cache after : CacheView)
     (did : Result A Refusal) : Type 0 where
-  pub added : IfOk did (λ _. AddsIn cache after asked told)
+  pub added : IfOk did (λ _. AddsIn cache after asked reported)
   pub refused : IfErr did (λ why. RefusesAdd why cache asked)
   pub unchanged : OnErr did (after ≡ cache)
 
@@ -127,37 +127,37 @@ pub record AnswersAdd {A : Type 0} (asked : AskedAdd) (told : Added) (cache afte
 pub record AddsAllIn (cache after : CacheView) (asked : AskedBatch) (added : Added) : Type 0 where
   pub marks : List Mark
   pub names : NamesAddAll asked marks
-  pub fit : all_fit cache.settings marks ≡ true
+  pub fit : all_fit cache.config marks ≡ true
   pub adds : AddsAll cache after marks asked.moment added
-  pub stands : (settings : Settings) (s : CacheState) → RepresentsState cache settings s →
-      RepresentsState after settings (step_all settings s marks asked.moment).state
-  pub tells : (settings : Settings) (s : CacheState) → RepresentsState cache settings s →
-      added ≡ (step_all settings s marks asked.moment).added
+  pub stands : (config : ConfigView) (s : CacheState) → RepresentsState cache config s →
+      RepresentsState after config (step_all config s marks asked.moment).state
+  pub reports : (config : ConfigView) (s : CacheState) → RepresentsState cache config s →
+      added ≡ (step_all config s marks asked.moment).added
 
 -- All that a call says of several marks is right, but the span of one costs more than the largest
 -- page may have.
-pub record AreTooLarge (why : Refusal) (settings : Settings) (asked : AskedBatch) : Type 0 where
+pub record AreTooLarge (why : Refusal) (config : ConfigView) (asked : AskedBatch) : Type 0 where
   pub marks : List Mark
   pub names : NamesAddAll asked marks
-  pub too_large : all_fit settings marks ≡ false
-  pub told : why ≡ refusal.TooLarge
+  pub too_large : all_fit config marks ≡ false
+  pub reported : why ≡ refusal.TooLarge
 
 -- All that a call says of several marks is right, and the span of each fits a page, but memory was
 -- refused.
-pub record LackMemoryFor (why : Refusal) (settings : Settings) (asked : AskedBatch) : Type 0 where
+pub record LackMemoryFor (why : Refusal) (config : ConfigView) (asked : AskedBatch) : Type 0 where
   pub marks : List Mark
   pub names : NamesAddAll asked marks
-  pub fit : all_fit settings marks ≡ true
-  pub told : why ≡ refusal.NoMemory
+  pub fit : all_fit config marks ≡ true
+  pub reported : why ≡ refusal.NoMemory
 
 -- Why a cache refused an Add of several marks.
 abbrev pub RefusesAddAll : Refusal → CacheView → AskedBatch → Type 0
-RefusesAddAll why cache asked = RefusesBatch why asked ⊎ AreTooLarge why cache.settings asked ⊎
-    LackMemoryFor why cache.settings asked
+RefusesAddAll why cache asked = RefusesBatch why asked ⊎ AreTooLarge why cache.config asked ⊎
+    LackMemoryFor why cache.config asked
 
 -- What an Add of several marks to a cache does.
-pub record AnswersAddAll {A : Type 0} (asked : AskedBatch) (told : Added) (cache after : CacheView)
-    (did : Result A Refusal) : Type 0 where
-  pub added : IfOk did (λ _. AddsAllIn cache after asked told)
+pub record AnswersAddAll {A : Type 0} (asked : AskedBatch) (reported : Added)
+    (cache after : CacheView) (did : Result A Refusal) : Type 0 where
+  pub added : IfOk did (λ _. AddsAllIn cache after asked reported)
   pub refused : IfErr did (λ why. RefusesAddAll why cache asked)
   pub unchanged : OnErr did (after ≡ cache)

@@ -2,11 +2,11 @@
 -- history.
 use Rattle.std.specs.Prelude.{◌≡◌, ℕ, List, [], ◌∷◌, ◌++◌, length, Option, Some, None, Ok}
 use Rattle.tsc_time.specs.Time.{Time}
-use Rattle.tsc_time.specs.OwnedTime.{OwnedTime}
-use Rattle.tsc_span.specs.Span.{Interval}
-use Rattle.tsc_page_nodes.specs.Page.{Mark}
+use Rattle.tsc_time.specs.ValueView.{ValueView}
+use Rattle.tsc_span.specs.Span.{SpanView}
+use Rattle.tsc_page_model.specs.Page.{Mark}
 use Rattle.tsc_cache.specs.declared.added.Added.{Added}
-use Rattle.tsc_cache.specs.Settings.{Settings}
+use Rattle.tsc_cache.specs.ConfigView.{ConfigView}
 use Rattle.tsc_cache.specs.State.{look}
 use Rattle.tsc_cache.specs.declared.history.Entry.{Entry}
 use Rattle.tsc_cache.specs.History.{History, state_of}
@@ -32,34 +32,34 @@ bare (Some held) = Some held.cache
 -- entry.
 pub data AddsUp (handle : ℕ) : List Slot → List Slot → History → Type 0 where
   nothing_yet : (slots : List Slot) → AddsUp handle slots slots []
-  one_more : (opened old new : List Slot) (h : History) (asked : AskedAdd) (told : Added)
+  one_more : (opened old new : List Slot) (h : History) (asked : AskedAdd) (reported : Added)
       → AddsUp handle opened old h →
-      (w : WorksOnCache (CountsAdd (AnswersAdd asked told) told.evicted) old new handle
+      (w : WorksOnCache (CountsAdd (AnswersAdd asked reported) reported.evicted) old new handle
       (Ok (tt {0})))
       → AddsUp handle opened new (h ++
       next_entry h (record { span = w.works.works.added.span; value = asked.value } ∷ [])
       asked.moment ∷ [])
-  several_more : (opened old new : List Slot) (h : History) (asked : AskedBatch) (told : Added)
+  several_more : (opened old new : List Slot) (h : History) (asked : AskedBatch) (reported : Added)
       → AddsUp handle opened old h →
-      (w : WorksOnCache (CountsAdd (AnswersAddAll asked told) told.evicted) old new handle
+      (w : WorksOnCache (CountsAdd (AnswersAddAll asked reported) reported.evicted) old new handle
       (Ok (tt {0})))
       → AddsUp handle opened new (h ++ next_entry h w.works.works.added.marks asked.moment ∷ [])
   left : (opened old new : List Slot) (h : History) → AddsUp handle opened old h →
       bare (cache_at new handle) ≡ bare (cache_at old handle) → AddsUp handle opened new h
 
 -- What is held stands for the state that a history leaves.
-pub record HoldsHistory (held : Option CountedCache) (settings : Settings) (h : History) : Type
+pub record HoldsHistory (held : Option CountedCache) (config : ConfigView) (h : History) : Type
     0 where
   pub cache : CacheView
   pub holds : bare held ≡ Some cache
-  pub stands : RepresentsState cache settings (state_of settings h)
+  pub stands : RepresentsState cache config (state_of config h)
 
 -- A lookup in what was opened and added to answers what the state of all that was added does.
 abbrev pub AnswersAllAdded : Type 0
 AnswersAllAdded =
-    (handle : ℕ) (before opened slots after : List Slot) (settings : Settings) (h : History)
-    (asked : AskedSpan) (v : OwnedTime)
-    → Opens (cache_at before handle) (cache_at opened handle) settings →
+    (handle : ℕ) (before opened slots after : List Slot) (config : ConfigView) (h : History)
+    (asked : AskedSpan) (v : ValueView)
+    → Opens (cache_at before handle) (cache_at opened handle) config →
     AddsUp handle opened slots h →
     WorksOnCache (CountsLookup (AnswersLookup asked v)) slots after handle (Ok (tt {0}))
-    → (span : Interval) × (lookup_span asked ≡ Some span) × (v ≡ look (state_of settings h) span)
+    → (span : SpanView) × (lookup_span asked ≡ Some span) × (v ≡ look (state_of config h) span)

@@ -36,7 +36,7 @@ code_for (Err why) = code_of why
 
 -- A number tells of a call that did what it answers. Of a refused one, all that could be told is
 -- kept.
-pub record Tells (Answers : Result (Unit {0}) Refusal → Type 0) (Kept : Type 0) (code : ℕ) : Type
+pub record Reports (Answers : Result (Unit {0}) Refusal → Type 0) (Kept : Type 0) (code : ℕ) : Type
     0 where
   pub did : Result (Unit {0}) Refusal
   pub code_is : code ≡ code_for did

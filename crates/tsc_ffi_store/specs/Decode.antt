@@ -1,14 +1,14 @@
 -- What the arguments of a call from C ask for, and why they are refused.
 use Rattle.std.specs.Prelude.{◌≡◌, ◌⊎◌, ◌<◌, ◌≤◌, ◌==◌, ℕ, List, length, Bool, true, false, Option, Some, None, Result, Ok, Err, if◌then◌else◌}
 use Rattle.tsc_time.specs.Time.{Time, is_in_range}
-use Rattle.tsc_time.specs.OwnedTime.{OwnedTime, owner_of}
+use Rattle.tsc_time.specs.ValueView.{ValueView, owner_of}
 use Rattle.tsc_span.specs.declared.span.Ends.{Ends}
-use Rattle.tsc_span.specs.Span.{KeyBytes, Interval, longest_key, point, range, range_for_lookup, onward, is_inverted}
+use Rattle.tsc_span.specs.Span.{KeyBytes, SpanView, longest_key, point, range, range_for_lookup, onward, is_inverted}
 use Rattle.tsc_cache.specs.declared.added.Added.{Added}
 use Rattle.tsc_cache.specs.declared.config.ConfigFault.{ConfigFault}
 use Rattle.tsc_cache.specs.declared.config.ConfigFault.TheVariants as fault
 use Rattle.tsc_cache.specs.declared.figures.Figures.{Figures}
-use Rattle.tsc_cache.specs.Settings.{Settings, settings_of}
+use Rattle.tsc_cache.specs.ConfigView.{ConfigView, made_config}
 use Rattle.tsc_ffi_store.specs.declared.counts.Counts.{Counts}
 use Rattle.tsc_ffi_store.specs.declared.ctypes.TscTime.{TscTime}
 use Rattle.tsc_ffi_store.specs.declared.ctypes.TscValue.{TscValue}
@@ -29,7 +29,7 @@ abbrev pub time_of : TscTime → Time
 time_of words = record { wall = words.wall; logical = words.logical }
 
 -- the value of some words: sixteen zero bytes name no owner
-abbrev pub value_of : TscValue → OwnedTime
+abbrev pub value_of : TscValue → ValueView
 value_of words = record {
   time = record { wall = words.wall; logical = words.logical };
   owner = owner_of words.owner;
@@ -40,8 +40,8 @@ abbrev pub added_of : TscAdded → Added
 added_of words = record { kept = words.kept; rotated = words.rotated; evicted = words.evicted }
 
 -- the words that tell figures, all but the floor, with the memory that they take and what was asked
-abbrev pub figures_told : Figures → ℕ → Counts → TscFigures
-figures_told figures memory counts = record {
+abbrev pub figures_reported : Figures → ℕ → Counts → TscFigures
+figures_reported figures memory counts = record {
   pages = figures.pages;
   rotations = figures.rotations;
   nodes = figures.nodes;
@@ -68,7 +68,7 @@ asked_span args = span_asked args.from.now args.to.now args.ends
 -- What a call says of an Add of one span.
 pub record AskedAdd : Type 0 where
   pub span : AskedSpan
-  pub value : OwnedTime
+  pub value : ValueView
   pub moment : Time
 
 abbrev pub add_asked : AskedSpan → TscValue → TscTime → AskedAdd
@@ -116,8 +116,8 @@ asked_config args = config_asked args.page_first args.page_max args.min_pages ar
     args.low_water.now
 
 -- the settings that a call names
-abbrev pub settings_asked : AskedConfig → Result Settings ConfigFault
-settings_asked asked = settings_of asked.page_first asked.page_max asked.min_pages asked.retention
+abbrev pub config_of_asked : AskedConfig → Result ConfigView ConfigFault
+config_of_asked asked = made_config asked.page_first asked.page_max asked.min_pages asked.retention
     asked.low_water
 
 -- a range, and which of its ends are excluded
@@ -139,14 +139,14 @@ form_of ends =
 
 -- The span to be added that two keys name in a form. The second key is passed over where the form
 -- has none.
-abbrev pub formed_to_add : KeyBytes → KeyBytes → Option Form → Option Interval
+abbrev pub formed_to_add : KeyBytes → KeyBytes → Option Form → Option SpanView
 formed_to_add from to None = None
 formed_to_add from to (Some Point) = Some (point from)
 formed_to_add from to (Some (Range ends)) = range from to ends.exclude_from ends.exclude_to
 formed_to_add from to (Some (Onward excluded)) = Some (onward from excluded)
 
 -- the span of a form that is to be looked up, in which an inverted range is the empty span
-abbrev pub formed_to_look_up : KeyBytes → KeyBytes → Option Form → Option Interval
+abbrev pub formed_to_look_up : KeyBytes → KeyBytes → Option Form → Option SpanView
 formed_to_look_up from to None = None
 formed_to_look_up from to (Some Point) = Some (point from)
 formed_to_look_up from to (Some (Range ends)) =
@@ -154,11 +154,11 @@ formed_to_look_up from to (Some (Range ends)) =
 formed_to_look_up from to (Some (Onward excluded)) = Some (onward from excluded)
 
 -- the span to be added that a call names
-abbrev pub add_span : AskedSpan → Option Interval
+abbrev pub add_span : AskedSpan → Option SpanView
 add_span asked = formed_to_add asked.from asked.to (form_of asked.ends)
 
 -- the span to be looked up
-abbrev pub lookup_span : AskedSpan → Option Interval
+abbrev pub lookup_span : AskedSpan → Option SpanView
 lookup_span asked = formed_to_look_up asked.from asked.to (form_of asked.ends)
 
 -- Why a time was refused.
@@ -178,7 +178,7 @@ abbrev pub IsShort : KeyBytes → Type 0
 IsShort key = length key ≤ longest_key
 
 -- Two keys name this range, and neither is too long.
-abbrev pub NamesRange : KeyBytes → KeyBytes → Ends → Interval → Type 0
+abbrev pub NamesRange : KeyBytes → KeyBytes → Ends → SpanView → Type 0
 NamesRange from to ends span = IsShort from × IsShort to ×
     (range from to ends.exclude_from ends.exclude_to ≡ Some span)
 
@@ -200,7 +200,7 @@ AreShort from to (Some (Range ends)) = IsShort from × IsShort to
 AreShort from to (Some (Onward excluded)) = IsShort from
 
 -- A call names this span to be added, and none of its keys is too long.
-pub record NamesAddSpan (asked : AskedSpan) (span : Interval) : Type 0 where
+pub record NamesAddSpan (asked : AskedSpan) (span : SpanView) : Type 0 where
   pub named : add_span asked ≡ Some span
   pub short : AreShort asked.from asked.to (form_of asked.ends)
 
@@ -217,22 +217,22 @@ RefusesAddSpan why asked =
 
 -- Two keys name a range, but there is no memory for a copy of them.
 pub record LacksRangeCopy (why : Refusal) (from to : KeyBytes) (ends : Ends) : Type 0 where
-  pub span : Interval
+  pub span : SpanView
   pub names : NamesRange from to ends span
-  pub told : why ≡ refusal.NoMemory
+  pub reported : why ≡ refusal.NoMemory
 
 -- A call names a span, but there is no memory for a copy of its keys.
 pub record LacksCopy (why : Refusal) (asked : AskedSpan) : Type 0 where
-  pub span : Interval
+  pub span : SpanView
   pub names : NamesAddSpan asked span
-  pub told : why ≡ refusal.NoMemory
+  pub reported : why ≡ refusal.NoMemory
 
 -- Why there is no copy of the span that a call names.
 abbrev pub RefusesCopy : Refusal → AskedSpan → Type 0
 RefusesCopy why asked = RefusesAddSpan why asked ⊎ LacksCopy why asked
 
 -- All that a call says of an Add is right: its times are in range, and it names this span.
-pub record NamesAdd (asked : AskedAdd) (span : Interval) : Type 0 where
+pub record NamesAdd (asked : AskedAdd) (span : SpanView) : Type 0 where
   pub value_time : is_in_range asked.value.time ≡ true
   pub moment : is_in_range asked.moment ≡ true
   pub names : NamesAddSpan asked.span span
@@ -249,13 +249,13 @@ RefusesWrittenSpan why asked = RefusesEnds why asked.ends ⊎
     ((why ≡ refusal.Inverted) × IsInverted asked)
 
 -- A call names these settings, and the time of its low water is in range.
-pub record NamesSettings (asked : AskedConfig) (settings : Settings) : Type 0 where
+pub record NamesConfig (asked : AskedConfig) (config : ConfigView) : Type 0 where
   pub low_water : is_in_range asked.low_water ≡ true
-  pub named : settings_asked asked ≡ Ok settings
+  pub named : config_of_asked asked ≡ Ok config
 
 -- Why settings were refused.
-abbrev pub RefusesSettings : Refusal → ConfigFault → Type 0
-RefusesSettings why f = ((why ≡ refusal.PageSize) × (f ≡ fault.PageSize)) ⊎
+abbrev pub RefusesConfigFault : Refusal → ConfigFault → Type 0
+RefusesConfigFault why f = ((why ≡ refusal.PageSize) × (f ≡ fault.PageSize)) ⊎
     ((why ≡ refusal.MinPages) × (f ≡ fault.MinPages)) ⊎
     ((why ≡ refusal.Retention) × (f ≡ fault.Retention))
 
@@ -263,8 +263,8 @@ RefusesSettings why f = ((why ≡ refusal.PageSize) × (f ≡ fault.PageSize)) �
 pub record RefusesNumbers (why : Refusal) (page_first page_max min_pages retention : ℕ)
     (low_water : Time) : Type 0 where
   pub fault : ConfigFault
-  pub refused : settings_of page_first page_max min_pages retention low_water ≡ Err fault
-  pub told : RefusesSettings why fault
+  pub refused : made_config page_first page_max min_pages retention low_water ≡ Err fault
+  pub reported : RefusesConfigFault why fault
 
 -- Why a configuration was refused.
 abbrev pub RefusesConfig : Refusal → AskedConfig → Type 0

@@ -1,6 +1,6 @@
 -- The kinds of caches that threads share, and of their seats: what is said of each by itself.
 use Rattle.std.specs.Prelude.{◌≡◌, ℕ, zero, suc, List, [], ◌∷◌, length}
-use Rattle.tsc_cache.specs.Settings.{Settings}
+use Rattle.tsc_cache.specs.ConfigView.{ConfigView}
 use Rattle.tsc_shared.specs.Seats.{SeatView as SharedSeat, new_seat as new_shared, IsSeat as IsShared}
 use Rattle.tsc_striped.specs.Seats.{SeatView as StripedSeat, new_seat as new_striped}
 use Rattle.tsc_striped.specs.Seats.{IsSeat as IsStriped}
@@ -20,7 +20,7 @@ cache_of (Shared s) = cache.Shared s.cache
 cache_of (Striped s) = cache.Striped s.cache
 
 -- how the cache of a seat was set up
-abbrev pub config_of : AnySeat → Settings
+abbrev pub config_of : AnySeat → ConfigView
 config_of (Shared s) = s.cache.config
 config_of (Striped s) = s.cache.terms.config
 

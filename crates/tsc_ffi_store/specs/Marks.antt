@@ -3,8 +3,8 @@ use Rattle.std.specs.Prelude.{◌≡◌, ◌⊎◌, ◌-◌, ◌&&◌, ℕ, List
 use Rattle.std.specs.List.{Contains}
 use Rattle.tsc_time.specs.Time.{is_in_range}
 use Rattle.tsc_span.specs.Span.{KeyBytes}
-use Rattle.tsc_page_nodes.specs.Page.{Mark}
-use Rattle.tsc_cache.specs.Settings.{Settings}
+use Rattle.tsc_page_model.specs.Page.{Mark}
+use Rattle.tsc_cache.specs.ConfigView.{ConfigView}
 use Rattle.tsc_cache.specs.Batch.{all_fit}
 use Rattle.tsc_ffi_store.specs.declared.ctypes.TscMark.{TscMark}
 use Rattle.tsc_ffi_store.specs.declared.refusal.Refusal.{Refusal}
@@ -58,11 +58,11 @@ abbrev pub RefusesMarks : Refusal → List ℕ → List TscMark → Type 0
 RefusesMarks why keys ws = (w : TscMark) × Contains ws w × RefusesMark why keys w
 
 -- An array asks for marks, of which all fit a page, or not all.
-pub record AskForMarks (settings : Settings) (keys : List ℕ) (ws : List TscMark) (fit : Bool) : Type
+pub record AskForMarks (config : ConfigView) (keys : List ℕ) (ws : List TscMark) (fit : Bool) : Type
     0 where
   pub marks : List Mark
   pub are : AreMarks keys ws marks
-  pub fit_is : all_fit settings marks ≡ fit
+  pub fit_is : all_fit config marks ≡ fit
 
 -- All that a call says of an Add of several marks is right: its moment is in range, and it names
 -- these.

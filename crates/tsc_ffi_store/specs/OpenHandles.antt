@@ -42,7 +42,7 @@ abbrev pub IsPlaceOf : List ℕ → ℕ → ℕ → Type 0
 IsPlaceOf handles handle place = StandsThere handles handle place ⊎ IsNotOpen handles handle place
 
 -- A slot is laid behind all that there are, at the next handle.
-pub record Lays (slot : Slot) (handles : List ℕ) (slots : List Slot) (next : ℕ)
+pub record PushesSlot (slot : Slot) (handles : List ℕ) (slots : List Slot) (next : ℕ)
     (handles' : List ℕ) (slots' : List Slot) (next' : ℕ) : Type 0 where
   pub handles_are : handles' ≡ handles ++ next ∷ []
   pub slots_are : slots' ≡ slots ++ slot ∷ []

@@ -3,7 +3,7 @@ use Rattle.std.specs.Prelude.{◌≡◌, ◌≢◌, ◌⊎◌, ◌++◌, ◌∷�
 use Rattle.atomic_table.specs.Seated.{TableId}
 use Rattle.tsc_span.specs.Span.{KeyBytes}
 use Rattle.std.specs.List.{sum_by}
-use Rattle.tsc_cache.specs.Settings.{Settings}
+use Rattle.tsc_cache.specs.ConfigView.{ConfigView}
 use Rattle.tsc_cache.specs.CacheView.{CacheView}
 use Rattle.tsc_cache.specs.Counts.{up_to_end}
 use Rattle.tsc_shared.specs.Seats.{SharedView, SeatView, is_seat_count}
@@ -37,19 +37,19 @@ abbrev pub handle_of : TableId → AnySeat → HandleView
 handle_of returns seat = record { seat = seat; returns = returns }
 
 -- A shared cache with these settings, that many seats, and that limit.
-pub record IsShared (settings : Settings) (count limit : ℕ) (cache : AnyCache) : Type 0 where
+pub record IsShared (config : ConfigView) (count limit : ℕ) (cache : AnyCache) : Type 0 where
   pub shared : SharedView
   pub is : cache ≡ Shared shared
-  pub settings_kept : shared.config ≡ settings
+  pub config_kept : shared.config ≡ config
   pub count_kept : shared.seats ≡ count
   pub limit_kept : shared.limit ≡ limit
 
 -- A cache in stripes with these settings, that many seats, and these bounds.
-pub record IsStriped (settings : Settings) (count : ℕ) (bounds : List KeyBytes) (cache : AnyCache) :
+pub record IsStriped (config : ConfigView) (count : ℕ) (bounds : List KeyBytes) (cache : AnyCache) :
     Type 0 where
   pub striped : StripedView
   pub is : cache ≡ Striped striped
-  pub terms : striped.terms ≡ record { config = settings; seats = count; bounds = bounds }
+  pub terms : striped.terms ≡ record { config = config; seats = count; bounds = bounds }
   pub settled : IsSettled striped.terms
 
 -- An owner has new seats, as many as these, which nobody has used. None of them is back, and none
@@ -61,17 +61,17 @@ pub record HasSeats (count : ℕ) (owner : OwnerView) (handles : List HandleView
 
 -- A cache is opened with these settings, that many seats, which nobody has used, and that limit.
 -- None of the seats is back.
-pub record OpensAt (settings : Settings) (count limit : ℕ) (owner : OwnerView)
+pub record OpensAt (config : ConfigView) (count limit : ℕ) (owner : OwnerView)
     (handles : List HandleView) : Type 0 where
-  pub cache : IsShared settings count limit owner.cache
+  pub cache : IsShared config count limit owner.cache
   pub is_count : is_seat_count count ≡ true
   pub seats : HasSeats count owner handles
 
 -- A cache in stripes is opened with these settings, that many seats, which nobody has used, and
 -- these bounds. None of the seats is back.
-pub record OpensInStripes (settings : Settings) (count : ℕ) (bounds : List KeyBytes)
+pub record OpensInStripes (config : ConfigView) (count : ℕ) (bounds : List KeyBytes)
     (owner : OwnerView) (handles : List HandleView) : Type 0 where
-  pub cache : IsStriped settings count bounds owner.cache
+  pub cache : IsStriped config count bounds owner.cache
   pub some : 0 < count
   pub seats : HasSeats count owner handles
 

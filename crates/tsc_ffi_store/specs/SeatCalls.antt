@@ -1,25 +1,25 @@
 -- What a call makes of a shared cache, or of the seat that it names, and why it is refused.
 use Rattle.std.specs.Prelude.{◌≡◌, ◌≢◌, ◌⊎◌, ◌++◌, ◌∷◌, ◌+◌, ◌<◌, ℕ, List, [], map, length, slice_get, slice_set, true, false, Option, Some, None, Result, Err, IfOk, IfErr, IsOk, OnErr}
 use Rattle.tsc_time.specs.Time.{Time}
-use Rattle.tsc_time.specs.OwnedTime.{OwnedTime}
-use Rattle.tsc_span.specs.Span.{Interval}
-use Rattle.tsc_page_nodes.specs.Page.{Mark}
+use Rattle.tsc_time.specs.ValueView.{ValueView}
+use Rattle.tsc_span.specs.Span.{SpanView}
+use Rattle.tsc_page_model.specs.Page.{Mark}
 use Rattle.tsc_cache.specs.declared.added.Added.{Added}
 use Rattle.tsc_cache.specs.declared.figures.Figures.{Figures}
-use Rattle.tsc_cache.specs.Settings.{Settings, fits}
+use Rattle.tsc_cache.specs.ConfigView.{ConfigView, fits}
 use Rattle.tsc_cache.specs.Batch.{all_fit}
 use Rattle.tsc_shared.specs.declared.answers.Receipt.{Receipt}
 use Rattle.tsc_shared.specs.declared.answers.AddFault.TheVariants.{HistoryFull, NoMemory, TooLarge}
 use Rattle.tsc_shared.specs.declared.answers.TryAddFault.{TryAddFault}
 use Rattle.tsc_shared.specs.declared.answers.TryAddFault.TheVariants.{DeskBusy, SeatInside, Refused}
 use Rattle.tsc_shared.specs.Seats.{SeatView, is_seat_count}
-use Rattle.tsc_shared.specs.Answers.{GoesOn, Accepts, Refuses, AnswersLookup, IsAbove, TellsNoPart, ReadsFloor, ReadsFigures}
+use Rattle.tsc_shared.specs.Answers.{GoesOn, Accepts, Refuses, AnswersLookup, IsAbove, ReportsNoPart, ReadsFloor, ReadsFigures}
 use Rattle.tsc_ffi_store.specs.declared.ctypes.TscFigures.{TscFigures}
 use Rattle.tsc_ffi_store.specs.declared.refusal.Refusal.{Refusal}
 use Rattle.tsc_ffi_store.specs.declared.refusal.Refusal.TheVariants as refusal
 use Rattle.tsc_ffi_store.specs.declared.store.Slot.{Slot}
 use Rattle.tsc_ffi_store.specs.declared.store.Slot.TheVariants.{Closed, Shared, Seat}
-use Rattle.tsc_ffi_store.specs.Decode.{AskedSpan, AskedAdd, AskedBatch, AskedConfig, lookup_span, figures_told, NamesAdd, NamesSettings, RefusesEnds, RefusesNamed, RefusesConfig}
+use Rattle.tsc_ffi_store.specs.Decode.{AskedSpan, AskedAdd, AskedBatch, AskedConfig, lookup_span, figures_reported, NamesAdd, NamesConfig, RefusesEnds, RefusesNamed, RefusesConfig}
 use Rattle.tsc_ffi_store.specs.Marks.{NamesAddAll, RefusesBatch}
 use Rattle.tsc_ffi_store.specs.CacheCalls.{IsTooLarge, AreTooLarge, LacksMemoryForHandles}
 use Rattle.tsc_ffi_store.specs.declared.counts.CountedSeat.{CountedSeat}
@@ -37,13 +37,13 @@ unasked at seat = record { seat = seat; opened_at = at; counts = no_counts }
 
 -- A shared cache is opened at the next handle, and its seats, which nobody has used, at the handles
 -- behind it, in their order. All that was given stays.
-pub record OpensShared (old new : List Slot) (handle : ℕ) (settings : Settings) (count limit : ℕ) :
+pub record OpensShared (old new : List Slot) (handle : ℕ) (config : ConfigView) (count limit : ℕ) :
     Type 0 where
   pub owner : OwnerView
   pub next : handle ≡ length old
   pub given : new ≡ old ++ Shared owner ∷
       map (λ s. Seat (unasked handle (handle_of owner.returns s))) (new_any_seats owner.cache 0 count)
-  pub cache : IsShared settings count limit owner.cache
+  pub cache : IsShared config count limit owner.cache
   pub none_back : owner.back ≡ []
   pub none_missed : owner.missed ≡ []
 
@@ -59,8 +59,8 @@ LacksMemoryForSeats why count slots =
 -- All that a call says of a shared cache is right, and there are handles for it, but no memory.
 pub record LacksMemoryToShare (why : Refusal) (asked : AskedConfig) (count : ℕ)
     (slots : List Slot) : Type 0 where
-  pub settings : Settings
-  pub names : NamesSettings asked settings
+  pub config : ConfigView
+  pub names : NamesConfig asked config
   pub lacks : LacksMemoryForSeats why count slots
 
 -- Why no shared cache was opened.
@@ -71,23 +71,23 @@ RefusesOpenShared why asked count slots = RefusesConfig why asked ⊎ RefusesSea
 -- What a call does that opens a shared cache, at the next handle.
 pub record AnswersOpenShared {A : Type 0} (asked : AskedConfig) (count limit handle : ℕ)
     (old new : List Slot) (did : Result A Refusal) : Type 0 where
-  pub opened : IfOk did (λ _. (settings : Settings) × NamesSettings asked settings ×
-      OpensShared old new handle settings count limit)
+  pub opened : IfOk did (λ _. (config : ConfigView) × NamesConfig asked config ×
+      OpensShared old new handle config count limit)
   pub refused : IfErr did (λ why. RefusesOpenShared why asked count old)
   pub unchanged : OnErr did (new ≡ old)
 
 -- What the cache of a seat answers to the span that a call names: by all that the seat has seen
 -- then, which are `seen` Adds.
-pub record SeatLooks (old new : SeatView) (asked : AskedSpan) (seen : ℕ) (v : OwnedTime) : Type
+pub record SeatLooks (old new : SeatView) (asked : AskedSpan) (seen : ℕ) (v : ValueView) : Type
     0 where
-  pub span : Interval
+  pub span : SpanView
   pub asked_for : lookup_span asked ≡ Some span
   pub looks : AnswersLookup old new span (record { value = v; front = seen })
   pub above : IsAbove new span v
-  pub whole : TellsNoPart new span v
+  pub whole : ReportsNoPart new span v
 
 -- What a lookup at a seat answers.
-pub record AnswersSeatLookup {A : Type 0} (asked : AskedSpan) (seen : ℕ) (v : OwnedTime)
+pub record AnswersSeatLookup {A : Type 0} (asked : AskedSpan) (seen : ℕ) (v : ValueView)
     (old new : SeatView) (did : Result A Refusal) : Type 0 where
   pub looked : IfOk did (λ _. SeatLooks old new asked seen v)
   pub refused : IfErr did (λ why. RefusesEnds why asked.ends)
@@ -101,16 +101,16 @@ pub record AnswersSeatLowWater {A : Type 0} (seen : ℕ) (floor : Time) (old new
 
 -- The figures of the cache of a seat, after all that the seat has seen then, and what was asked of
 -- the seat. Of the memory nothing is said.
-pub record TellsFiguresAt (counts : Counts) (seen : ℕ) (figures : TscFigures) (old new : SeatView) :
-    Type 0 where
+pub record ReportsFiguresAt (counts : Counts) (seen : ℕ) (figures : TscFigures) (old new : SeatView)
+    : Type 0 where
   pub counted : Figures
-  pub told : figures ≡ figures_told counted figures.memory counts
+  pub reported : figures ≡ figures_reported counted figures.memory counts
   pub reads : ReadsFigures old new (record { figures = counted; front = seen })
 
 -- What a call answers that tells them.
 pub record AnswersSeatFigures {A : Type 0} (counts : Counts) (seen : ℕ) (figures : TscFigures)
     (old new : SeatView) (did : Result A Refusal) : Type 0 where
-  pub tells : TellsFiguresAt counts seen figures old new
+  pub reports : ReportsFiguresAt counts seen figures old new
   pub done : IsOk did
 
 -- An Add of some marks at a seat, which has this place in the history of its cache, and did this.
@@ -125,7 +125,7 @@ pub record SeatAccepts (old new : SeatView) (marks : List Mark) (now : Time) (pl
 -- What an Add of the span that a call names makes of a seat, where the span fits a page.
 pub record SeatAdds (old new : SeatView) (asked : AskedAdd) (place : ℕ) (added : Added) : Type
     0 where
-  pub span : Interval
+  pub span : SpanView
   pub names : NamesAdd asked span
   pub fit : fits old.cache.config span ≡ true
   pub accepted : SeatAccepts old new (record { span = span; value = asked.value } ∷ []) asked.moment
@@ -179,10 +179,10 @@ IsCodeOf (Refused TooLarge) why = why ≡ refusal.TooLarge
 -- All that a call says of an Add is right, and its span fits a page. It was refused for a reason
 -- that lies with the cache, or for memory.
 pub record RefusesFitting (why : Refusal) (old new : SeatView) (asked : AskedAdd) : Type 0 where
-  pub span : Interval
+  pub span : SpanView
   pub names : NamesAdd asked span
   pub fit : fits old.cache.config span ≡ true
-  pub told : RefusesTried why old new
+  pub reported : RefusesTried why old new
 
 -- An Add was refused before the seat was asked: what the call says of it is wrong, or too large.
 abbrev pub RefusesUntried : Refusal → SeatView → AskedAdd → Type 0
@@ -194,23 +194,23 @@ RefusesSeatAdd why old new asked =
     (RefusesUntried why old asked × (new ≡ old)) ⊎ RefusesFitting why old new asked
 
 -- What an Add at a seat does that may be tried.
-pub record AnswersTriedAdd {A : Type 0} (asked : AskedAdd) (place : ℕ) (told : Added)
+pub record AnswersTriedAdd {A : Type 0} (asked : AskedAdd) (place : ℕ) (reported : Added)
     (old new : SeatView) (did : Result A Refusal) : Type 0 where
-  pub added : IfOk did (λ _. SeatAdds old new asked place told)
+  pub added : IfOk did (λ _. SeatAdds old new asked place reported)
   pub refused : IfErr did (λ why. RefusesSeatAdd why old new asked)
   pub spared : OnErr did (KeepsOnRefusal old new)
 
 -- Without tries an Add is refused by name, before all else that it names is read. The seat is as it
 -- was.
 pub record RefusesNoTries {A : Type 0} (old new : SeatView) (did : Result A Refusal) : Type 0 where
-  pub told : did ≡ Err refusal.Tries
+  pub reported : did ≡ Err refusal.Tries
   pub same : new ≡ old
 
 -- What an Add at a seat does. It is refused for its tries just where they are 0.
-pub record AnswersSeatAdd {A : Type 0} (asked : AskedAdd) (tries place : ℕ) (told : Added)
+pub record AnswersSeatAdd {A : Type 0} (asked : AskedAdd) (tries place : ℕ) (reported : Added)
     (old new : SeatView) (did : Result A Refusal) : Type 0 where
   pub no_tries : tries ≡ 0 → RefusesNoTries old new did
-  pub tried : tries ≢ 0 → AnswersTriedAdd asked place told old new did
+  pub tried : tries ≢ 0 → AnswersTriedAdd asked place reported old new did
 
 -- All that a call says of several marks is right, and the span of each fits a page. They were
 -- refused for a reason that lies with the cache, or for memory.
@@ -219,7 +219,7 @@ pub record RefusesAllFitting (why : Refusal) (old new : SeatView) (asked : Asked
   pub marks : List Mark
   pub names : NamesAddAll asked marks
   pub fit : all_fit old.cache.config marks ≡ true
-  pub told : RefusesTried why old new
+  pub reported : RefusesTried why old new
 
 -- Several marks were refused before the seat was asked: what the call says of them is wrong, or one
 -- is too large.
@@ -232,17 +232,17 @@ RefusesSeatAddAll why old new asked =
     (RefusesAllUntried why old asked × (new ≡ old)) ⊎ RefusesAllFitting why old new asked
 
 -- What an Add of several marks at a seat does that may be tried.
-pub record AnswersTriedAddAll {A : Type 0} (asked : AskedBatch) (place : ℕ) (told : Added)
+pub record AnswersTriedAddAll {A : Type 0} (asked : AskedBatch) (place : ℕ) (reported : Added)
     (old new : SeatView) (did : Result A Refusal) : Type 0 where
-  pub added : IfOk did (λ _. SeatAddsAll old new asked place told)
+  pub added : IfOk did (λ _. SeatAddsAll old new asked place reported)
   pub refused : IfErr did (λ why. RefusesSeatAddAll why old new asked)
   pub spared : OnErr did (KeepsOnRefusal old new)
 
 -- What an Add of several marks at a seat does. It is refused for its tries just where they are 0.
-pub record AnswersSeatAddAll {A : Type 0} (asked : AskedBatch) (tries place : ℕ) (told : Added)
+pub record AnswersSeatAddAll {A : Type 0} (asked : AskedBatch) (tries place : ℕ) (reported : Added)
     (old new : SeatView) (did : Result A Refusal) : Type 0 where
   pub no_tries : tries ≡ 0 → RefusesNoTries old new did
-  pub tried : tries ≢ 0 → AnswersTriedAddAll asked place told old new did
+  pub tried : tries ≢ 0 → AnswersTriedAddAll asked place reported old new did
 
 -- What a handle names in one store goes to the next handle of another. The handle names nothing
 -- from then on.

@@ -4,13 +4,13 @@ use Rattle.std.specs.Prelude.{List, [], map, length, true, false, Bool, Option, 
 use Rattle.std.specs.Prelude.{Result, Ok, Err, IfOk, IfErr, IsOk, OnErr, IsTrue, ◌↔◌}
 use Rattle.std.specs.List.{sum_by, concat, Contains}
 use Rattle.tsc_time.specs.Time.{Time}
-use Rattle.tsc_time.specs.OwnedTime.{OwnedTime}
-use Rattle.tsc_span.specs.Span.{KeyBytes, Interval, longest_key}
-use Rattle.tsc_page_nodes.specs.Page.{Mark}
+use Rattle.tsc_time.specs.ValueView.{ValueView}
+use Rattle.tsc_span.specs.Span.{KeyBytes, SpanView, longest_key}
+use Rattle.tsc_page_model.specs.Page.{Mark}
 use Rattle.tsc_cache.specs.declared.added.Added.{Added}
 use Rattle.tsc_cache.specs.declared.figures.Figures.{Figures}
 use Rattle.tsc_cache.specs.Counts.{up_to_end}
-use Rattle.tsc_cache.specs.Settings.{Settings, fits}
+use Rattle.tsc_cache.specs.ConfigView.{ConfigView, fits}
 use Rattle.tsc_cache.specs.Batch.{all_fit}
 use Rattle.tsc_stripe_table.specs.Stripes.{stripe_count}
 use Rattle.tsc_striped.specs.declared.answers.Receipt.{Receipt}
@@ -34,14 +34,14 @@ use Rattle.tsc_ffi_store.specs.declared.counts.Counts.{Counts}
 use Rattle.tsc_ffi_store.specs.declared.refusal.Refusal.{Refusal}
 use Rattle.tsc_ffi_store.specs.declared.refusal.Refusal.TheVariants as refusal
 use Rattle.tsc_ffi_store.specs.Decode.{AskedSpan, AskedAdd, AskedBatch, lookup_span}
-use Rattle.tsc_ffi_store.specs.Decode.{NamesAdd, NamesAddSpan, figures_told, RefusesEnds, RefusesNamed}
+use Rattle.tsc_ffi_store.specs.Decode.{NamesAdd, NamesAddSpan, figures_reported, RefusesEnds, RefusesNamed}
 use Rattle.tsc_ffi_store.specs.Marks.{NamesAddAll, RefusesBatch}
 use Rattle.tsc_ffi_store.specs.CacheCalls.{IsTooLarge, AreTooLarge}
 use Rattle.tsc_ffi_store.specs.Writes.{AskedWrite, AsksWriteOf, RefusesWrite}
 use Rattle.tsc_ffi_store.specs.Summaries.{AskedSummary, RefusesSummary}
 use Rattle.tsc_ffi_store.specs.declared.store.Slot.{Slot}
 use Rattle.tsc_ffi_store.specs.declared.store.Slot.TheVariants.{Shared, Seat}
-use Rattle.tsc_ffi_store.specs.Decode.{AskedConfig, NamesSettings, RefusesConfig}
+use Rattle.tsc_ffi_store.specs.Decode.{AskedConfig, NamesConfig, RefusesConfig}
 use Rattle.tsc_ffi_store.specs.Store.{RefusesHandles}
 use Rattle.tsc_ffi_store.specs.Owners.{OwnerView, handle_of, IsStriped}
 use Rattle.tsc_ffi_store.specs.declared.counts.CountedSeat.{CountedSeat}
@@ -87,31 +87,31 @@ IsOpenCode opening.NoMemory why = why ≡ refusal.NoMemory
 
 -- Why a cache with these settings and the bounds that are named was not opened: by the bounds
 -- themselves, or as a cache in stripes refuses them.
-pub record RefusesStripes (why : Refusal) (settings : Settings) (keys lens : List ℕ) : Type
+pub record RefusesStripes (why : Refusal) (config : ConfigView) (keys lens : List ℕ) : Type
     0 where
   pub bounds : List KeyBytes
   pub named : AreBounds keys lens bounds
-  pub told : IsOpenCode (open_fault settings bounds) why
+  pub reported : IsOpenCode (open_fault config bounds) why
 
 -- A cache in stripes is opened at the next handle, and its seats, which nobody has used, at the
 -- handles behind it, in their order. All that was given stays.
-pub record OpensAtBounds (old new : List Slot) (handle : ℕ) (settings : Settings) (count : ℕ)
+pub record OpensAtBounds (old new : List Slot) (handle : ℕ) (config : ConfigView) (count : ℕ)
     (bounds : List KeyBytes) : Type 0 where
   pub owner : OwnerView
   pub next : handle ≡ length old
   pub given : new ≡ old ++ Shared owner ∷
       map (λ s. Seat (unasked handle (handle_of owner.returns s))) (new_any_seats owner.cache 0
       count)
-  pub cache : IsStriped settings count bounds owner.cache
+  pub cache : IsStriped config count bounds owner.cache
   pub none_back : owner.back ≡ []
   pub none_missed : owner.missed ≡ []
 
 -- The same with the bounds that a call names.
-pub record OpensStriped (old new : List Slot) (handle : ℕ) (settings : Settings) (count : ℕ)
+pub record OpensStriped (old new : List Slot) (handle : ℕ) (config : ConfigView) (count : ℕ)
     (keys lens : List ℕ) : Type 0 where
   pub bounds : List KeyBytes
   pub named : AreBounds keys lens bounds
-  pub opens : OpensAtBounds old new handle settings count bounds
+  pub opens : OpensAtBounds old new handle config count bounds
 
 -- A cache in stripes has some seat.
 abbrev pub RefusesNoSeats : Refusal → ℕ → Type 0
@@ -123,26 +123,26 @@ RefusesNumbers why count keys lens = RefusesNoSeats why count ⊎ RefusesLengths
 
 -- There is some seat, the lengths use up the bytes, and there are handles for all. But the bounds
 -- were refused, or the cache.
-pub record RefusesStripesOf (why : Refusal) (old : List Slot) (settings : Settings) (count : ℕ)
+pub record RefusesStripesOf (why : Refusal) (old : List Slot) (config : ConfigView) (count : ℕ)
     (keys lens : List ℕ) : Type 0 where
   pub some : 0 < count
   pub use_up : UseUp keys lens
   pub handles : length old + (count + 1) ≤ 2 ^ 64 - 1
-  pub refused : RefusesBounds why lens ⊎ RefusesStripes why settings keys lens
+  pub refused : RefusesBounds why lens ⊎ RefusesStripes why config keys lens
 
 -- Why a cache in stripes with these settings was not opened.
-abbrev pub RefusesOpenStriped : Refusal → List Slot → Settings → ℕ → List ℕ → List ℕ → Type 0
-RefusesOpenStriped why old settings count keys lens =
+abbrev pub RefusesOpenStriped : Refusal → List Slot → ConfigView → ℕ → List ℕ → List ℕ → Type 0
+RefusesOpenStriped why old config count keys lens =
     RefusesNumbers why count keys lens ⊎ RefusesHandles why old (count + 1)
-    ⊎ RefusesStripesOf why old settings count keys lens
+    ⊎ RefusesStripesOf why old config count keys lens
 
 -- What a call does that opens a cache in stripes, at the next handle.
 pub record AnswersOpenStriped {A : Type 0} (asked : AskedConfig) (count : ℕ) (keys lens : List ℕ)
     (handle : ℕ) (old new : List Slot) (did : Result A Refusal) : Type 0 where
-  pub opened : IfOk did (λ _. (settings : Settings) × NamesSettings asked settings ×
-      OpensStriped old new handle settings count keys lens)
-  pub refused : IfErr did (λ why. RefusesConfig why asked ⊎ ((settings : Settings) ×
-      NamesSettings asked settings × RefusesOpenStriped why old settings count keys lens))
+  pub opened : IfOk did (λ _. (config : ConfigView) × NamesConfig asked config ×
+      OpensStriped old new handle config count keys lens)
+  pub refused : IfErr did (λ why. RefusesConfig why asked ⊎ ((config : ConfigView) ×
+      NamesConfig asked config × RefusesOpenStriped why old config count keys lens))
   pub unchanged : OnErr did (new ≡ old)
 
 -- ---- lookups
@@ -157,15 +157,15 @@ IsLocked why old new = (why ≡ refusal.Busy) × (new ≡ old)
 
 -- What a seat answers to the span that a call names, after all that it has seen then, which has
 -- `seen` Adds of its own.
-pub record StripedLooks (old new : SeatView) (asked : AskedSpan) (seen : ℕ) (v : OwnedTime) : Type
+pub record StripedLooks (old new : SeatView) (asked : AskedSpan) (seen : ℕ) (v : ValueView) : Type
     0 where
-  pub span : Interval
+  pub span : SpanView
   pub asked_for : lookup_span asked ≡ Some span
   pub looks : AnswersLookup old new span v
   pub counted : seen ≡ new.count
 
 -- What a lookup at a seat answers.
-pub record AnswersStripedLookup {A : Type 0} (asked : AskedSpan) (seen : ℕ) (v : OwnedTime)
+pub record AnswersStripedLookup {A : Type 0} (asked : AskedSpan) (seen : ℕ) (v : ValueView)
     (old new : SeatView) (did : Result A Refusal) : Type 0 where
   pub looked : IfOk did (λ _. StripedLooks old new asked seen v)
   pub refused : IfErr did (λ why. RefusesEnds why asked.ends ⊎ (why ≡ refusal.Busy))
@@ -220,19 +220,19 @@ ReadsAllFigures old new (suc stripe) sum = (next : SeatView) × (before : Figure
 
 -- The figures of all stripes together, which were read one after another. The seat may have seen
 -- more after that. Of the memory nothing is said.
-pub record TellsStripedFigures (old new : SeatView) (counts : Counts) (seen : ℕ)
+pub record ReportsStripedFigures (old new : SeatView) (counts : Counts) (seen : ℕ)
     (figures : TscFigures) : Type 0 where
   pub counted : Figures
   pub read : SeatView
   pub reads : ReadsAllFigures old read (stripe_count old.cache.terms.bounds) counted
   pub on : LooksOn read new
-  pub told : figures ≡ figures_told counted figures.memory counts
+  pub reported : figures ≡ figures_reported counted figures.memory counts
   pub own : seen ≡ new.count
 
 -- What a call answers that asks for them. It is refused where a lock was held at each try.
 pub record AnswersStripedFigures {A : Type 0} (counts : Counts) (seen : ℕ) (figures : TscFigures)
     (old new : SeatView) (did : Result A Refusal) : Type 0 where
-  pub tells : IfOk did (λ _. TellsStripedFigures old new counts seen figures)
+  pub reports : IfOk did (λ _. ReportsStripedFigures old new counts seen figures)
   pub refused : IfErr did (λ why. why ≡ refusal.Busy)
   pub looked : OnErr did (LooksOn old new)
 
@@ -271,7 +271,7 @@ IsStripedCode (tried.Refused fault.NoMemory) why = why ≡ refusal.NoMemory
 -- What an Add of the span that a call names makes of a seat, where the span fits a page.
 pub record StripedAdds (old new : SeatView) (asked : AskedAdd) (place : ℕ) (added : Added) : Type
     0 where
-  pub span : Interval
+  pub span : SpanView
   pub names : NamesAdd asked span
   pub fit : fits old.cache.terms.config span ≡ true
   pub accepted : StripedAccepts old new (record { span = span; value = asked.value } ∷ [])
@@ -288,10 +288,10 @@ pub record StripedAddsAll (old new : SeatView) (asked : AskedBatch) (place : ℕ
 -- All that a call says of an Add is right, and its span fits a page. It was refused for a reason
 -- that lies with the cache, or for memory.
 pub record FitsInStripes (why : Refusal) (old : SeatView) (asked : AskedAdd) : Type 0 where
-  pub span : Interval
+  pub span : SpanView
   pub names : NamesAdd asked span
   pub fit : fits old.cache.terms.config span ≡ true
-  pub told : RefusesInStripes why old
+  pub reported : RefusesInStripes why old
 
 -- Why an Add at a seat was refused.
 abbrev pub RefusesStripedAdd : Refusal → SeatView → AskedAdd → Type 0
@@ -304,7 +304,7 @@ pub record AllFitInStripes (why : Refusal) (old : SeatView) (asked : AskedBatch)
   pub marks : List Mark
   pub names : NamesAddAll asked marks
   pub fit : all_fit old.cache.terms.config marks ≡ true
-  pub told : RefusesInStripes why old
+  pub reported : RefusesInStripes why old
 
 -- Why an Add of several marks at a seat was refused.
 abbrev pub RefusesStripedAddAll : Refusal → SeatView → AskedBatch → Type 0
@@ -313,44 +313,44 @@ RefusesStripedAddAll why old asked = RefusesBatch why asked
 
 -- What an Add at a seat does that may be tried. Where it is refused the seat is as it was.
 pub record AnswersStripedTried {A : Type 0} (Adds : ℕ → Added → Type 0)
-    (Refuses : Refusal → Type 0) (place : ℕ) (told : Added) (old new : SeatView)
+    (Refuses : Refusal → Type 0) (place : ℕ) (reported : Added) (old new : SeatView)
     (did : Result A Refusal) : Type 0 where
-  pub added : IfOk did (λ _. Adds place told)
+  pub added : IfOk did (λ _. Adds place reported)
   pub refused : IfErr did (λ why. Refuses why)
   pub unchanged : OnErr did (new ≡ old)
 
 -- Without tries an Add is refused by name, before all else that it names is read.
 pub record AnswersStripedAdding {A : Type 0} (Adds : SeatView → SeatView → ℕ → Added → Type 0)
-    (Refuses : Refusal → Type 0) (tries place : ℕ) (told : Added) (old new : SeatView)
+    (Refuses : Refusal → Type 0) (tries place : ℕ) (reported : Added) (old new : SeatView)
     (did : Result A Refusal) : Type 0 where
   pub no_tries : tries ≡ 0 → (did ≡ Err refusal.Tries) × (new ≡ old)
-  pub tried : tries ≢ 0 → AnswersStripedTried (Adds old new) Refuses place told old new did
+  pub tried : tries ≢ 0 → AnswersStripedTried (Adds old new) Refuses place reported old new did
 
 abbrev pub AnswersStripedTriedAdd : {A : Type 0} → AskedAdd → ℕ → Added → SeatView → SeatView
     → Result A Refusal → Type 0
-AnswersStripedTriedAdd asked place told old new did =
+AnswersStripedTriedAdd asked place reported old new did =
     AnswersStripedTried (StripedAdds old new asked) (λ why. RefusesStripedAdd why old asked) place
-    told old new did
+    reported old new did
 
 abbrev pub AnswersStripedTriedAll : {A : Type 0} → AskedBatch → ℕ → Added → SeatView → SeatView
     → Result A Refusal → Type 0
-AnswersStripedTriedAll asked place told old new did =
+AnswersStripedTriedAll asked place reported old new did =
     AnswersStripedTried (StripedAddsAll old new asked) (λ why. RefusesStripedAddAll why old asked)
-    place told old new did
+    place reported old new did
 
 -- What an Add of a span at a seat does. It is refused for its tries just where they are 0.
 abbrev pub AnswersStripedAdd : {A : Type 0} → AskedAdd → ℕ → ℕ → Added → SeatView → SeatView
     → Result A Refusal → Type 0
-AnswersStripedAdd asked tries place told old new did =
+AnswersStripedAdd asked tries place reported old new did =
     AnswersStripedAdding (λ old new. StripedAdds old new asked)
-    (λ why. RefusesStripedAdd why old asked) tries place told old new did
+    (λ why. RefusesStripedAdd why old asked) tries place reported old new did
 
 -- What an Add of several marks does, in the same way.
 abbrev pub AnswersStripedAddAll : {A : Type 0} → AskedBatch → ℕ → ℕ → Added → SeatView → SeatView
     → Result A Refusal → Type 0
-AnswersStripedAddAll asked tries place told old new did =
+AnswersStripedAddAll asked tries place reported old new did =
     AnswersStripedAdding (λ old new. StripedAddsAll old new asked)
-    (λ why. RefusesStripedAddAll why old asked) tries place told old new did
+    (λ why. RefusesStripedAddAll why old asked) tries place reported old new did
 
 -- ---- writes
 
@@ -358,7 +358,7 @@ AnswersStripedAddAll asked tries place told old new did =
 -- of its own.
 pub record AnswersStripedWrite {A : Type 0} (asked : AskedWrite) (seen : ℕ) (at : Time)
     (old new : SeatView) (did : Result A Refusal) : Type 0 where
-  pub told : IfOk did (λ _. AsksWriteOf striped_seat old new asked (Some at))
+  pub reported : IfOk did (λ _. AsksWriteOf striped_seat old new asked (Some at))
   pub front : IfOk did (λ _. seen ≡ new.count)
   pub refused : IfErr did (λ why. (RefusesWrite why asked × (new ≡ old))
       ⊎ ((why ≡ refusal.NoTime) × AsksWriteOf striped_seat old new asked None)
@@ -368,14 +368,14 @@ pub record AnswersStripedWrite {A : Type 0} (asked : AskedWrite) (seen : ℕ) (a
 -- made at its time just where that very time is told.
 pub record AsksStripedMayWrite (old new : SeatView) (asked : AskedWrite) (may : Bool) : Type
     0 where
-  pub told : Option Time
-  pub asks : AsksWriteOf striped_seat old new asked told
-  pub value : IsTrue may ↔ (told ≡ Some asked.time)
+  pub reported : Option Time
+  pub asks : AsksWriteOf striped_seat old new asked reported
+  pub value : IsTrue may ↔ (reported ≡ Some asked.time)
 
 -- What a seat answers to the question whether a write may be made.
 pub record AnswersStripedMayWrite {A : Type 0} (asked : AskedWrite) (seen : ℕ) (may : Bool)
     (old new : SeatView) (did : Result A Refusal) : Type 0 where
-  pub told : IfOk did (λ _. AsksStripedMayWrite old new asked may)
+  pub reported : IfOk did (λ _. AsksStripedMayWrite old new asked may)
   pub front : IfOk did (λ _. seen ≡ new.count)
   pub refused : IfErr did (λ why. (RefusesWrite why asked × (new ≡ old))
       ⊎ ((why ≡ refusal.Busy) × LooksOn old new))
@@ -384,9 +384,9 @@ pub record AnswersStripedMayWrite {A : Type 0} (asked : AskedWrite) (seen : ℕ)
 
 -- Bytes tell what a seat is told of the reads of the span that a call names: of each stripe that
 -- the span touches, of one moment, as one summary. They are read back as that.
-pub record TellsStripedSummary (old new : SeatView) (asked : AskedSummary) (seen : ℕ)
+pub record ReportsStripedSummary (old new : SeatView) (asked : AskedSummary) (seen : ℕ)
     (bytes : List ℕ) : Type 0 where
-  pub span : Interval
+  pub span : SpanView
   pub names : NamesAddSpan asked.span span
   pub parts : List Summary
   pub summarizes : SummarizesInStripes old new span asked.most parts
@@ -397,6 +397,6 @@ pub record TellsStripedSummary (old new : SeatView) (asked : AskedSummary) (seen
 -- What a seat answers that is asked for a summary. It has no Add more of its own then, and goes on.
 pub record AnswersStripedSummary (asked : AskedSummary) (seen : ℕ) (old new : SeatView)
     (did : Result (List ℕ) Refusal) : Type 0 where
-  pub told : IfOk did (λ bytes. TellsStripedSummary old new asked seen bytes)
+  pub reported : IfOk did (λ bytes. ReportsStripedSummary old new asked seen bytes)
   pub refused : IfErr did (λ why. RefusesSummary why asked ⊎ (why ≡ refusal.Busy))
   pub looked : LooksOn old new

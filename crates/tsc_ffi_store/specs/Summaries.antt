@@ -1,9 +1,9 @@
 -- What was read of a span, told as bytes, and what such bytes make of a cache.
 use Rattle.std.specs.Prelude.{◌≡◌, ◌⊎◌, ℕ, List, length, true, false, Result, Ok, Err, IfOk, IfErr, OnErr}
 use Rattle.tsc_time.specs.Time.{Time, is_in_range}
-use Rattle.tsc_span.specs.Span.{Interval}
+use Rattle.tsc_span.specs.Span.{SpanView}
 use Rattle.tsc_cache.specs.declared.added.Added.{Added}
-use Rattle.tsc_cache.specs.Settings.{Settings}
+use Rattle.tsc_cache.specs.ConfigView.{ConfigView}
 use Rattle.tsc_cache.specs.State.{CacheState, step_all}
 use Rattle.tsc_cache.specs.Batch.{AddsAll, all_fit}
 use Rattle.tsc_cache.specs.CacheView.{CacheView, RepresentsState}
@@ -13,7 +13,7 @@ use Rattle.timestamp_cache.specs.declared.summary_fault.SummaryFault.{SummaryFau
 use Rattle.timestamp_cache.specs.declared.summary_fault.SummaryFault.TheVariants.{Version, Length}
 use Rattle.timestamp_cache.specs.declared.summary_fault.SummaryFault.TheVariants.{Checksum, Form}
 use Rattle.timestamp_cache.specs.declared.summary_fault.SummaryFault.TheVariants.{NoMemory}
-use Rattle.timestamp_cache.specs.HandOver.{Summary, Summarizes, marks_told, TakesOver}
+use Rattle.timestamp_cache.specs.HandOver.{Summary, Summarizes, marks_reported, TakesOver}
 use Rattle.timestamp_cache.specs.declared.hand_over.SeatSummary.{SeatSummary}
 use Rattle.timestamp_cache.specs.SeatSummaries.{SummarizesAt}
 use Rattle.timestamp_cache.specs.SummaryBytes.{summary_bytes}
@@ -51,13 +51,13 @@ abbrev pub asked_apply : ApplyArgs → AskedApply
 asked_apply args = apply_asked args.summary.now args.moment.now
 
 -- Bytes tell what was read in a cache of the span that a call names. They are read back as that.
-pub record TellsSummary (cache : CacheView) (asked : AskedSummary) (bytes : List ℕ) : Type 0 where
-  pub span : Interval
+pub record ReportsSummary (cache : CacheView) (asked : AskedSummary) (bytes : List ℕ) : Type 0 where
+  pub span : SpanView
   pub names : NamesAddSpan asked.span span
-  pub told : Summary
-  pub summarizes : Summarizes cache span asked.most told
-  pub written : bytes ≡ summary_bytes told
-  pub read_back : summary_of bytes ≡ Ok told
+  pub reported : Summary
+  pub summarizes : Summarizes cache span asked.most reported
+  pub written : bytes ≡ summary_bytes reported
+  pub read_back : summary_of bytes ≡ Ok reported
 
 -- Why no summary was told: for want of memory only where a span is named.
 abbrev pub RefusesSummary : Refusal → AskedSummary → Type 0
@@ -66,25 +66,25 @@ RefusesSummary why asked = RefusesCopy why asked.span
 -- What a cache answers that is asked for a summary.
 pub record AnswersSummary (asked : AskedSummary) (cache : CacheView) (did : Result (List ℕ) Refusal)
     : Type 0 where
-  pub told : IfOk did (λ bytes. TellsSummary cache asked bytes)
+  pub reported : IfOk did (λ bytes. ReportsSummary cache asked bytes)
   pub refused : IfErr did (λ why. RefusesSummary why asked)
 
 -- Bytes tell what a seat is told of the reads of the span that a call names. They are read back as
 -- that, and the seat has seen `seen` Adds then.
-pub record TellsSeatSummary (old new : SeatView) (asked : AskedSummary) (seen : ℕ) (bytes : List ℕ)
-    : Type 0 where
-  pub span : Interval
+pub record ReportsSeatSummary (old new : SeatView) (asked : AskedSummary) (seen : ℕ)
+    (bytes : List ℕ) : Type 0 where
+  pub span : SpanView
   pub names : NamesAddSpan asked.span span
-  pub told : SeatSummary
-  pub summarizes : SummarizesAt old new span asked.most told
+  pub reported : SeatSummary
+  pub summarizes : SummarizesAt old new span asked.most reported
   pub front : seen ≡ length new.seen
-  pub written : bytes ≡ summary_bytes told.summary
-  pub read_back : summary_of bytes ≡ Ok told.summary
+  pub written : bytes ≡ summary_bytes reported.summary
+  pub read_back : summary_of bytes ≡ Ok reported.summary
 
 -- What a seat answers that is asked for a summary. It has no Add more of its own then, and goes on.
 pub record AnswersSeatSummary (asked : AskedSummary) (seen : ℕ) (old new : SeatView)
     (did : Result (List ℕ) Refusal) : Type 0 where
-  pub told : IfOk did (λ bytes. TellsSeatSummary old new asked seen bytes)
+  pub reported : IfOk did (λ bytes. ReportsSeatSummary old new asked seen bytes)
   pub refused : IfErr did (λ why. RefusesSummary why asked)
   pub looked : (new ≡ old) ⊎ HasLookedOn old new
 
@@ -109,23 +109,24 @@ pub record PutsOrKeeps (Answers : Result (List ℕ) Refusal → Type 0) (Kept : 
   pub kept : OnErr did Kept
 
 -- All that a call says of a summary is right: its moment is in range, and the bytes are this one.
-pub record NamesSummary (asked : AskedApply) (told : Summary) : Type 0 where
+pub record NamesSummary (asked : AskedApply) (reported : Summary) : Type 0 where
   pub moment : is_in_range asked.moment ≡ true
-  pub read : summary_of asked.bytes ≡ Ok told
+  pub read : summary_of asked.bytes ≡ Ok reported
 
 -- Bytes are read as a summary whose spans fit a page, and what it tells is added to a cache: all of
 -- it, as one Add.
 pub record AppliesIn (cache after : CacheView) (asked : AskedApply) (added : Added) : Type 0 where
-  pub told : Summary
-  pub names : NamesSummary asked told
-  pub fit : all_fit cache.settings (marks_told told) ≡ true
-  pub adds : AddsAll cache after (marks_told told) asked.moment added
-  pub stands : (settings : Settings) (s : CacheState) → RepresentsState cache settings s
-      → RepresentsState after settings (step_all settings s (marks_told told) asked.moment).state
-  pub tells : (settings : Settings) (s : CacheState) → RepresentsState cache settings s
-      → added ≡ (step_all settings s (marks_told told) asked.moment).added
-  pub takes_over : (settings : Settings) (s : CacheState) → RepresentsState cache settings s
-      → TakesOver s (step_all settings s (marks_told told) asked.moment).state told
+  pub reported : Summary
+  pub names : NamesSummary asked reported
+  pub fit : all_fit cache.config (marks_reported reported) ≡ true
+  pub adds : AddsAll cache after (marks_reported reported) asked.moment added
+  pub stands : (config : ConfigView) (s : CacheState) → RepresentsState cache config s
+      → RepresentsState after config (step_all config s (marks_reported reported)
+      asked.moment).state
+  pub reports : (config : ConfigView) (s : CacheState) → RepresentsState cache config s
+      → added ≡ (step_all config s (marks_reported reported) asked.moment).added
+  pub takes_over : (config : ConfigView) (s : CacheState) → RepresentsState cache config s
+      → TakesOver s (step_all config s (marks_reported reported) asked.moment).state reported
 
 -- why bytes are no summary, and what C is told
 abbrev pub IsFaultOf : SummaryFault → Refusal → Type 0
@@ -139,7 +140,7 @@ IsFaultOf NoMemory why = why ≡ refusal.NoMemory
 pub record IsNoSummary (why : Refusal) (bytes : List ℕ) : Type 0 where
   pub fault : SummaryFault
   pub read : summary_of bytes ≡ Err fault
-  pub told : IsFaultOf fault why
+  pub reported : IsFaultOf fault why
 
 -- The moment is in range, and memory was refused. What the bytes are may not be known then.
 abbrev pub LacksMemoryToApply : Refusal → AskedApply → Type 0
@@ -153,21 +154,21 @@ RefusesBytes why asked = IsNoSummary why asked.bytes ⊎ RefusesTime why asked.m
 
 -- All that a call says of a summary is right, but a span of it costs more than the largest page may
 -- have.
-pub record IsSummaryTooLarge (why : Refusal) (settings : Settings) (asked : AskedApply) : Type
+pub record IsSummaryTooLarge (why : Refusal) (config : ConfigView) (asked : AskedApply) : Type
     0 where
   pub summary : Summary
   pub names : NamesSummary asked summary
-  pub too_large : all_fit settings (marks_told summary) ≡ false
-  pub told : why ≡ refusal.TooLarge
+  pub too_large : all_fit config (marks_reported summary) ≡ false
+  pub reported : why ≡ refusal.TooLarge
 
 -- Why a summary was not applied.
 abbrev pub RefusesApply : Refusal → CacheView → AskedApply → Type 0
 RefusesApply why cache asked =
-    RefusesBytes why asked ⊎ IsSummaryTooLarge why cache.settings asked
+    RefusesBytes why asked ⊎ IsSummaryTooLarge why cache.config asked
 
 -- What a call does that applies a summary.
-pub record AnswersApply {A : Type 0} (asked : AskedApply) (told : Added) (cache after : CacheView)
-    (did : Result A Refusal) : Type 0 where
-  pub added : IfOk did (λ _. AppliesIn cache after asked told)
+pub record AnswersApply {A : Type 0} (asked : AskedApply) (reported : Added)
+    (cache after : CacheView) (did : Result A Refusal) : Type 0 where
+  pub added : IfOk did (λ _. AppliesIn cache after asked reported)
   pub refused : IfErr did (λ why. RefusesApply why cache asked)
   pub unchanged : OnErr did (after ≡ cache)

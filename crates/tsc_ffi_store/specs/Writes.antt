@@ -3,14 +3,14 @@ use Rattle.std.specs.Prelude.{◌≡◌, ◌↔◌, ◌⊎◌, ℕ, List, [], �
 use Rattle.std.specs.Prelude.{None, Result, IfOk, IfErr, IfSome}
 use Rattle.std.specs.List.{Contains}
 use Rattle.tsc_time.specs.Time.{Time}
-use Rattle.tsc_time.specs.OwnedTime.{Owner}
-use Rattle.tsc_span.specs.Span.{KeyBytes, Interval}
-use Rattle.tsc_cache.specs.Settings.{Settings}
+use Rattle.tsc_time.specs.ValueView.{Owner}
+use Rattle.tsc_span.specs.Span.{KeyBytes, SpanView}
+use Rattle.tsc_cache.specs.ConfigView.{ConfigView}
 use Rattle.tsc_cache.specs.History.{History, state_of}
 use Rattle.tsc_cache.specs.CacheView.{CacheView, RepresentsState}
 use Rattle.tsc_shared.specs.Seats.{SeatView}
 use Rattle.timestamp_cache.specs.Clear.{IsClearOfAnswers, IsClearOfAllReads, AsksOfAllAt}
-use Rattle.timestamp_cache.specs.Earliest.{TellsEarliest}
+use Rattle.timestamp_cache.specs.Earliest.{ReportsEarliest}
 use Rattle.timestamp_cache.specs.SeatKinds.{SeatKind, shared_seat}
 use Rattle.tsc_ffi_store.specs.declared.ctypes.TscSpan.{TscSpan}
 use Rattle.tsc_ffi_store.specs.declared.ctypes.TscValue.{TscValue}
@@ -42,7 +42,7 @@ asked_write args = write_asked args.keys.now args.spans.now args.write.now
 
 -- A span is the one that some words ask for: both of its keys are parts of the bytes, and it is not
 -- inverted.
-pub record IsSpan (keys : List ℕ) (words : TscSpan) (s : Interval) : Type 0 where
+pub record IsSpan (keys : List ℕ) (words : TscSpan) (s : SpanView) : Type 0 where
   pub from : KeyBytes
   pub to : KeyBytes
   pub from_lies : part_of keys words.from_at words.from_len ≡ Some from
@@ -50,7 +50,7 @@ pub record IsSpan (keys : List ℕ) (words : TscSpan) (s : Interval) : Type 0 wh
   pub span : add_span (span_asked from to words.ends) ≡ Some s
 
 -- Spans are those that an array asks for: as many, in their order.
-abbrev pub AreSpans : List ℕ → List TscSpan → List Interval → Type 0
+abbrev pub AreSpans : List ℕ → List TscSpan → List SpanView → Type 0
 AreSpans keys [] [] = Unit {0}
 AreSpans keys [] (s ∷ ss) = ⊥
 AreSpans keys (w ∷ ws) [] = ⊥
@@ -58,7 +58,7 @@ AreSpans keys (w ∷ ws) (s ∷ ss) = IsSpan keys w s × AreSpans keys ws ss
 
 -- each of some words asks for a span
 abbrev pub AllSpans : List ℕ → List TscSpan → Type 0
-AllSpans keys words = (spans : List Interval) × AreSpans keys words spans
+AllSpans keys words = (spans : List SpanView) × AreSpans keys words spans
 
 -- Both keys of a span lie among the bytes, and they and its ends name no span to be written.
 pub record RefusesKeysAndEnds (why : Refusal) (keys : List ℕ) (words : TscSpan) : Type 0 where
@@ -80,19 +80,20 @@ RefusesSpans why keys ws = (w : TscSpan) × Contains ws w × RefusesSpan why key
 
 -- A cache tells from when on a write of some spans is clear of what it answers, and if it tells a
 -- time, the write is clear there of each read that was added.
-pub record TellsWrite (cache : CacheView) (asked : AskedWrite) (told : Option Time) : Type 0 where
-  pub spans : List Interval
-  pub asked_for : AreSpans asked.keys asked.spans spans
-  pub earliest : TellsEarliest (λ t. IsClearOfAnswers cache spans asked.by t) asked.time told
-  pub reads : IfSome told (λ t. (settings : Settings) (h : History)
-      → RepresentsState cache settings (state_of settings h) → IsClearOfAllReads h spans asked.by t)
+pub record ReportsWrite (cache : CacheView) (asked : AskedWrite) (reported : Option Time) : Type 0
+  where
+    pub spans : List SpanView
+    pub asked_for : AreSpans asked.keys asked.spans spans
+    pub earliest : ReportsEarliest (λ t. IsClearOfAnswers cache spans asked.by t) asked.time reported
+    pub reads : IfSome reported (λ t. (config : ConfigView) (h : History)
+        → RepresentsState cache config (state_of config h) → IsClearOfAllReads h spans asked.by t)
 
 -- A seat of some kind asks of some spans, one after another, from when on a write is clear.
 pub record AsksWriteOf {S : Type 0} (kind : SeatKind S) (old new : S) (asked : AskedWrite)
-    (told : Option Time) : Type 0 where
-  pub spans : List Interval
+    (reported : Option Time) : Type 0 where
+  pub spans : List SpanView
   pub asked_for : AreSpans asked.keys asked.spans spans
-  pub asks : AsksOfAllAt kind old new spans asked.by asked.time told
+  pub asks : AsksOfAllAt kind old new spans asked.by asked.time reported
 
 -- a seat of a shared cache asks so
 abbrev pub AsksWrite : SeatView → SeatView → AskedWrite → Option Time → Type 0
@@ -103,15 +104,16 @@ abbrev pub RefusesWrite : Refusal → AskedWrite → Type 0
 RefusesWrite why asked = RefusesTime why asked.time ⊎ RefusesSpans why asked.keys asked.spans
 
 -- What a call answers of a write: a time, or that there is none.
-abbrev pub TellsTime : {A : Type 0} → (Option Time → Type 0) → AskedWrite → Time → Result A Refusal
+abbrev pub ReportsTime : {A : Type 0} → (Option Time → Type 0) → AskedWrite → Time →
+    Result A Refusal
     → Type 0
-TellsTime Tells asked at did =
-    IfOk did (λ _. Tells (Some at))
-    × IfErr did (λ why. RefusesWrite why asked ⊎ ((why ≡ refusal.NoTime) × Tells None))
+ReportsTime Reports asked at did =
+    IfOk did (λ _. Reports (Some at))
+    × IfErr did (λ why. RefusesWrite why asked ⊎ ((why ≡ refusal.NoTime) × Reports None))
 
 -- What a cache answers to the question from when on a write may be made.
 abbrev pub AnswersWrite : {A : Type 0} → AskedWrite → Time → CacheView → Result A Refusal → Type 0
-AnswersWrite asked at cache did = TellsTime (TellsWrite cache asked) asked at did
+AnswersWrite asked at cache did = ReportsTime (ReportsWrite cache asked) asked at did
 
 -- A seat was asked about what is no write, or a write is clear at no time. Where it was no write,
 -- the seat is as it was.
@@ -123,37 +125,37 @@ RefusesSeatWrite why asked old new = (RefusesWrite why asked × (new ≡ old)) �
 -- Adds in the end.
 pub record AnswersSeatWrite {A : Type 0} (asked : AskedWrite) (seen : ℕ) (at : Time)
     (old new : SeatView) (did : Result A Refusal) : Type 0 where
-  pub told : IfOk did (λ _. AsksWrite old new asked (Some at))
+  pub reported : IfOk did (λ _. AsksWrite old new asked (Some at))
   pub front : IfOk did (λ _. seen ≡ length new.seen)
   pub refused : IfErr did (λ why. RefusesSeatWrite why asked old new)
 
 -- A cache tells whether a write of some spans may be made at its time: whether that is clear of
 -- what it answers to each. If it may, the write is clear of each read that was added.
-pub record TellsMayWrite (cache : CacheView) (asked : AskedWrite) (may : Bool) : Type 0 where
-  pub spans : List Interval
+pub record ReportsMayWrite (cache : CacheView) (asked : AskedWrite) (may : Bool) : Type 0 where
+  pub spans : List SpanView
   pub asked_for : AreSpans asked.keys asked.spans spans
   pub value : IsTrue may ↔ IsClearOfAnswers cache spans asked.by asked.time
-  pub reads : IsTrue may → (settings : Settings) (h : History)
-      → RepresentsState cache settings (state_of settings h)
+  pub reads : IsTrue may → (config : ConfigView) (h : History)
+      → RepresentsState cache config (state_of config h)
       → IsClearOfAllReads h spans asked.by asked.time
 
 -- What a cache answers to the question whether a write may be made.
 pub record AnswersMayWrite {A : Type 0} (asked : AskedWrite) (may : Bool) (cache : CacheView)
     (did : Result A Refusal) : Type 0 where
-  pub told : IfOk did (λ _. TellsMayWrite cache asked may)
+  pub reported : IfOk did (λ _. ReportsMayWrite cache asked may)
   pub refused : IfErr did (λ why. RefusesWrite why asked)
 
 -- A seat asks of some spans, one after another, from when on a write is clear. The write may be
 -- made at its time just where that very time is told.
 pub record AsksMayWrite (old new : SeatView) (asked : AskedWrite) (may : Bool) : Type 0 where
-  pub told : Option Time
-  pub asks : AsksWrite old new asked told
-  pub value : IsTrue may ↔ (told ≡ Some asked.time)
+  pub reported : Option Time
+  pub asks : AsksWrite old new asked reported
+  pub value : IsTrue may ↔ (reported ≡ Some asked.time)
 
 -- What a seat answers to the question whether a write may be made. The seat has seen `seen` Adds in
 -- the end.
 pub record AnswersSeatMayWrite {A : Type 0} (asked : AskedWrite) (seen : ℕ) (may : Bool)
     (old new : SeatView) (did : Result A Refusal) : Type 0 where
-  pub told : IfOk did (λ _. AsksMayWrite old new asked may)
+  pub reported : IfOk did (λ _. AsksMayWrite old new asked may)
   pub front : IfOk did (λ _. seen ≡ length new.seen)
   pub refused : IfErr did (λ why. RefusesWrite why asked × (new ≡ old))

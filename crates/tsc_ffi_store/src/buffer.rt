@@ -10,8 +10,8 @@ pub const REFUSED: u32 = 16;
 const SHORT: u32 = 17;
 
 /// Puts a text into a buffer that has room for it, and tells how long it is.
-pub fn put(told: u32, text: &[u8], out: &mut [u8], len: &mut usize) -> u32
-    ensures { Puts told text.now result out.old out.new len.new }
+pub fn put(reported: u32, text: &[u8], out: &mut [u8], len: &mut usize) -> u32
+    ensures { Puts reported text.now result out.old out.new len.new }
 {
     *len = text.len();
     if text.len() > out.len() {
@@ -19,5 +19,5 @@ pub fn put(told: u32, text: &[u8], out: &mut [u8], len: &mut usize) -> u32
     }
     let (start, _) = out.split_at_mut(text.len());
     start.copy_from_slice(text);
-    told
+    reported
 }

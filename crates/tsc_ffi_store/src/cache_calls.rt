@@ -1,7 +1,7 @@
 //! The requests for caches of one thread at a time.
 
 ghost use Rattle.std.specs.Prelude.{◌≡◌, ◌⊎◌, IfOk, IfErr, OnErr};
-ghost use Rattle.tsc_ffi_store.specs.CacheCalls.{Opens, StandsAt, TellsFigures, LacksMemoryForHandles, AnswersLookup, AnswersAdd, AnswersAddAll};
+ghost use Rattle.tsc_ffi_store.specs.CacheCalls.{Opens, StandsAt, ReportsFigures, LacksMemoryForHandles, AnswersLookup, AnswersAdd, AnswersAddAll};
 ghost use Rattle.tsc_ffi_store.specs.Counts.{CountsLookup, CountsAdd, add_counted};
 ghost use Rattle.tsc_ffi_store.specs.Decode.{time_of, value_of, added_of, asked_span, asked_add, asked_batch};
 ghost use Rattle.tsc_ffi_store.specs.Store.{cache_of, cache_at, LetsGo, AnswersClose, GivesNext, RefusesHandles};
@@ -14,7 +14,7 @@ use crate::decode::{
     words_of_figures, words_of_time,
 };
 use crate::marks::{check_marks, marks};
-use crate::places::{lay, place_of};
+use crate::places::{place_of, push_slot};
 use crate::refusal::Refusal;
 use crate::store::{Slot, Store};
 use std::alloc::Global;
@@ -59,7 +59,7 @@ impl Store {
         }
         let handle = self.next;
         let slot = Slot::Own(CountedCache::new(cache));
-        lay(&mut self.handles, &mut self.slots, &mut self.next, slot);
+        push_slot(&mut self.handles, &mut self.slots, &mut self.next, slot);
         Ok(handle)
     }
 
@@ -130,7 +130,7 @@ pub fn floor_in(held: &CountedCache, out: &mut TscTime)
 
 /// Writes what can be counted of a cache, and of what was asked of it.
 pub fn figures_in(held: &CountedCache, out: &mut TscFigures)
-    ensures { TellsFigures held.now out.new }
+    ensures { ReportsFigures held.now out.new }
 {
     *out = words_of_figures(held.cache.figures(), held.cache.memory(), held.counts);
 }

@@ -1,3 +1,4 @@
+//! The structs that C hands in and gets back, and what their numbers mean together.
 // What C and the library hand to each other. The header `include/tscache.h` declares it in C.
 
 /// A time: nanoseconds, and a count among those of one nanosecond.

@@ -2,8 +2,8 @@
 
 ghost use Rattle.std.specs.Prelude.{◌≡◌, ◌⊎◌, IfOk, IfErr, Some, true};
 ghost use Rattle.tsc_time.specs.Time.{is_in_range};
-ghost use Rattle.tsc_span.specs.Span.{Interval, range, is_inverted};
-ghost use Rattle.tsc_ffi_store.specs.Decode.{time_of, value_of, added_of, figures_told, form_of, asked_span, add_span, lookup_span, asked_config, IsShort, NamesRange, NamesAddSpan, NamesSettings, LacksRangeCopy, RefusesTime, RefusesEnds, RefusesKey, RefusesRange, RefusesAddSpan, RefusesCopy, RefusesSettings, RefusesConfig, RefusesWrittenSpan};
+ghost use Rattle.tsc_span.specs.Span.{SpanView, range, is_inverted};
+ghost use Rattle.tsc_ffi_store.specs.Decode.{time_of, value_of, added_of, figures_reported, form_of, asked_span, add_span, lookup_span, asked_config, IsShort, NamesRange, NamesAddSpan, NamesConfig, LacksRangeCopy, RefusesTime, RefusesEnds, RefusesKey, RefusesRange, RefusesAddSpan, RefusesCopy, RefusesConfigFault, RefusesConfig, RefusesWrittenSpan};
 ghost use Rattle.tsc_ffi_store.specs.declared.refusal.Refusal.TheVariants.{Inverted, NoMemory};
 
 use crate::counts::Counts;
@@ -86,7 +86,7 @@ pub fn words_of(value: Value) -> TscValue
 
 /// The words of figures, which leave the floor out, of how much memory they take, and of counts.
 pub fn words_of_figures(figures: Figures, memory: u64, counts: Counts) -> TscFigures
-    ensures { result ≡ figures_told figures memory counts }
+    ensures { result ≡ figures_reported figures memory counts }
 {
     TscFigures {
         pages: figures.pages,
@@ -242,7 +242,7 @@ fn copied_upright(
     to: &KeyRef<'_>,
     ends: Ends,
 ) -> Result<Span, Refusal>
-    requires { (span : Interval) ×
+    requires { (span : SpanView) ×
         (range from.now to.now ends.exclude_from ends.exclude_to ≡ Some span) }
     ensures value { IfOk result (λ span. range from.now to.now ends.exclude_from ends.exclude_to ≡
         Some span) }
@@ -298,7 +298,7 @@ fn written_range<'a>(from: &'a [u8], to: &'a [u8], ends: Ends) -> Result<SpanRef
 
 /// The configuration that a call names.
 pub fn config(args: &ConfigArgs<'_>) -> Result<Config, Refusal>
-    ensures names { IfOk result (λ config. NamesSettings (asked_config args.now) config) }
+    ensures names { IfOk result (λ config. NamesConfig (asked_config args.now) config) }
     ensures refused { IfErr result (λ why. RefusesConfig why (asked_config args.now)) }
 {
     let low_water = time(args.low_water)?;
@@ -316,7 +316,7 @@ pub fn config(args: &ConfigArgs<'_>) -> Result<Config, Refusal>
 
 /// Why a configuration was refused.
 fn of_config(fault: ConfigFault) -> Refusal
-    ensures { RefusesSettings result fault }
+    ensures { RefusesConfigFault result fault }
 {
     match fault {
         ConfigFault::PageSize => Refusal::PageSize,

@@ -2,7 +2,7 @@
 
 ghost use Rattle.std.specs.Prelude.{◌≡◌, ◌++◌, ◌∷◌, [], ◌<◌, ◌-◌, ◌+◌, ◌^◌};
 ghost use Rattle.std.specs.Vec.{vec_len, vec_capacity};
-ghost use Rattle.tsc_ffi_store.specs.OpenHandles.{Rises, IsPlaceOf, IsRoomLess, Lays};
+ghost use Rattle.tsc_ffi_store.specs.OpenHandles.{Rises, IsPlaceOf, IsRoomLess, PushesSlot};
 
 use crate::store::Slot;
 
@@ -33,7 +33,7 @@ fn give_next(handles: &mut Vec<u64>, next: &mut u64) -> u64
     requires room { vec_len handles.old < vec_capacity handles.old }
     requires left { next.old < 2 ^ 64 - 1 }
     ensures given { result ≡ next.old }
-    ensures laid { handles.new.items ≡ handles.old.items ++ next.old ∷ [] }
+    ensures pushed { handles.new.items ≡ handles.old.items ++ next.old ∷ [] }
     ensures next { next.new ≡ next.old + 1 }
     ensures room { IsRoomLess (vec_len handles.old) (vec_capacity handles.old)
         (vec_len handles.new) (vec_capacity handles.new) }
@@ -47,11 +47,11 @@ fn give_next(handles: &mut Vec<u64>, next: &mut u64) -> u64
 }
 
 /// Lays what the next handle names behind what there is, for which there is room.
-pub(crate) fn lay(handles: &mut Vec<u64>, slots: &mut Vec<Slot>, next: &mut u64, slot: Slot)
+pub(crate) fn push_slot(handles: &mut Vec<u64>, slots: &mut Vec<Slot>, next: &mut u64, slot: Slot)
     requires room { vec_len handles.old < vec_capacity handles.old }
     requires slots { vec_len slots.old < vec_capacity slots.old }
     requires left { next.old < 2 ^ 64 - 1 }
-    ensures laid { Lays slot handles.old.items slots.old.items next.old handles.new.items
+    ensures pushed { PushesSlot slot handles.old.items slots.old.items next.old handles.new.items
         slots.new.items next.new }
     ensures room { IsRoomLess (vec_len handles.old) (vec_capacity handles.old)
         (vec_len handles.new) (vec_capacity handles.new) }

@@ -1,3 +1,4 @@
+//! Why a call from C is refused, and the number that C knows the reason by.
 ghost use Rattle.std.specs.Prelude.{◌≡◌, ◌≢◌};
 ghost use Rattle.tsc_ffi_store.specs.Codes.{code_of, code_for};
 

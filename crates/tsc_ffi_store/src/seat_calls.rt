@@ -23,7 +23,7 @@ use crate::decode::{
     words_of_figures, words_of_time,
 };
 use crate::marks::{check_marks, marks};
-use crate::places::{lay, place_of};
+use crate::places::{place_of, push_slot};
 use crate::refusal::Refusal;
 use crate::seats::{Owner, SeatHandle, SlotToken};
 use crate::store::{Slot, Store};
@@ -235,7 +235,7 @@ impl Store {
     }
 
     /// Hands in all seats, and lets all else go.
-    pub fn hand_in(&mut self) {
+    pub fn close_seats(&mut self) {
         self.handles.clear();
         let alloc = *self.slots.allocator();
         for slot in replace(&mut self.slots, Vec::new(alloc)) {
@@ -270,7 +270,7 @@ impl Store {
             return Err(Refusal::Closed);
         };
         *other_handle = other.next;
-        lay(&mut other.handles, &mut other.slots, &mut other.next, slot);
+        push_slot(&mut other.handles, &mut other.slots, &mut other.next, slot);
         self.forget(handle);
         Ok(())
     }
@@ -285,20 +285,20 @@ fn put(
     owner: Owner,
     seats: Vec<SeatHandle>,
 )
-    requires laid { AreOpen handles.old.items slots.old.items next.old }
+    requires are_open { AreOpen handles.old.items slots.old.items next.old }
     requires room { vec_len handles.old + 1 + length seats.items ≤ vec_capacity handles.old }
     requires slots { vec_len slots.old + 1 + length seats.items ≤ vec_capacity slots.old }
     requires left { next.old + 1 + length seats.items ≤ 2 ^ 64 - 1 }
-    ensures laid { AreOpen handles.new.items slots.new.items next.new }
+    ensures are_open { AreOpen handles.new.items slots.new.items next.new }
     ensures named { named_by handles.new.items slots.new.items next.new ≡
         named_by handles.old.items slots.old.items next.old ++ kinds.Shared owner ∷
         map (λ s. kinds.Seat (unasked next.old s)) seats.items }
 {
     let opened_at = *next;
-    lay(handles, slots, next, Slot::Shared(owner));
+    push_slot(handles, slots, next, Slot::Shared(owner));
     for seat in seats {
         let held = CountedSeat::new(seat, opened_at);
-        lay(handles, slots, next, Slot::Seat(held));
+        push_slot(handles, slots, next, Slot::Seat(held));
     }
 }
 

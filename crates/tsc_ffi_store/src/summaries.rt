@@ -4,11 +4,11 @@
 ghost use Rattle.std.specs.Prelude.{◌≡◌, ◌⊎◌, IfOk, IfErr, OnErr, Ok};
 ghost use Rattle.tsc_ffi_store.specs.Decode.{added_of};
 ghost use Rattle.timestamp_cache.specs.SummaryReading.{summary_of};
-ghost use Rattle.tsc_ffi_store.specs.Summaries.{asked_summary, asked_apply, TellsSummary, RefusesSummary, AnswersSummary, PutsOr, PutsOrKeeps, AnswersSeatSummary, RefusesBytes, AnswersApply};
+ghost use Rattle.tsc_ffi_store.specs.Summaries.{asked_summary, asked_apply, ReportsSummary, RefusesSummary, AnswersSummary, PutsOr, PutsOrKeeps, AnswersSeatSummary, RefusesBytes, AnswersApply};
 ghost use Rattle.tsc_ffi_store.specs.Counts.{CountsAdd, CountsNothing};
 ghost use Rattle.tsc_ffi_store.specs.Kinds.{ByKind};
 ghost use Rattle.tsc_ffi_store.specs.StripedCalls.{AnswersStripedSummary};
-ghost use Rattle.tsc_ffi_store.specs.SummarySteps.{TellsBytes, TellsStripedBytes};
+ghost use Rattle.tsc_ffi_store.specs.SummarySteps.{ReportsBytes, ReportsStripedBytes};
 
 use crate::buffer::put;
 use crate::cache_calls::{count, of_cache_fault};
@@ -55,9 +55,9 @@ pub fn put_at(
         (seen.new ≡ seen.old) result out.old out.new len.old len.new }
 {
     match bytes_at(&mut held.seat, alloc, args) {
-        Ok(told) => {
-            *seen = told.front;
-            put(OK, told.bytes.as_slice(), out, len)
+        Ok(reported) => {
+            *seen = reported.front;
+            put(OK, reported.bytes.as_slice(), out, len)
         }
         Err(why) => why.code(),
     }
@@ -76,16 +76,16 @@ fn bytes_at(
     alloc: Global,
     args: &SummaryArgs<'_>,
 ) -> Result<SeatBytes, Refusal>
-    ensures answers { ByKind (TellsBytes (asked_summary args.now))
-        (TellsStripedBytes (asked_summary args.now)) seat.old.seat seat.new.seat result }
+    ensures answers { ByKind (ReportsBytes (asked_summary args.now))
+        (ReportsStripedBytes (asked_summary args.now)) seat.old.seat seat.new.seat result }
     ensures same { seat.new.returns ≡ seat.old.returns }
 {
     let span = copied_span(alloc, &args.span)?;
-    let told = seat.summary(alloc, &span, args.most)?;
-    match told.summary.to_bytes() {
+    let reported = seat.summary(alloc, &span, args.most)?;
+    match reported.summary.to_bytes() {
         Ok(bytes) => Ok(SeatBytes {
             bytes,
-            front: told.front,
+            front: reported.front,
         }),
         Err(_) => Err(Refusal::NoMemory),
     }
@@ -93,15 +93,15 @@ fn bytes_at(
 
 /// The bytes of a summary of a cache.
 fn bytes_in(cache: &Cache, alloc: Global, args: &SummaryArgs<'_>) -> Result<Vec<u8>, Refusal>
-    ensures told { IfOk result (λ bytes. TellsSummary cache.now (asked_summary args.now)
+    ensures reported { IfOk result (λ bytes. ReportsSummary cache.now (asked_summary args.now)
         bytes.items) }
     ensures refused { IfErr result (λ why. RefusesSummary why (asked_summary args.now)) }
 {
     let span = copied_span(alloc, &args.span)?;
-    let Ok(told) = summary(alloc, cache, &span, args.most) else {
+    let Ok(reported) = summary(alloc, cache, &span, args.most) else {
         return Err(Refusal::NoMemory);
     };
-    match told.to_bytes() {
+    match reported.to_bytes() {
         Ok(bytes) => Ok(bytes),
         Err(_) => Err(Refusal::NoMemory),
     }
@@ -134,9 +134,9 @@ fn apply_to(
         result }
     ensures kept { OnErr result (out.new ≡ out.old) }
 {
-    let told = told_by(alloc, args)?;
+    let reported = reported_by(alloc, args)?;
     let moment = time(args.moment)?;
-    match apply(cache, &told, moment) {
+    match apply(cache, &reported, moment) {
         Ok(added) => {
             *out = words_of_added(added);
             Ok(())
@@ -147,12 +147,12 @@ fn apply_to(
 
 /// The summary that the bytes of a call are. Where there is no memory for it, the moment is looked
 /// at first.
-fn told_by(alloc: Global, args: &ApplyArgs<'_>) -> Result<ReadSummary, Refusal>
-    ensures told { IfOk result (λ told. summary_of args.now.summary.now ≡ Ok told) }
+fn reported_by(alloc: Global, args: &ApplyArgs<'_>) -> Result<ReadSummary, Refusal>
+    ensures reported { IfOk result (λ reported. summary_of args.now.summary.now ≡ Ok reported) }
     ensures refused { IfErr result (λ why. RefusesBytes why (asked_apply args.now)) }
 {
     match ReadSummary::from_bytes(alloc, args.summary) {
-        Ok(told) => Ok(told),
+        Ok(reported) => Ok(reported),
         Err(SummaryFault::Version) => Err(Refusal::SummaryVersion),
         Err(SummaryFault::Length) => Err(Refusal::SummaryLength),
         Err(SummaryFault::Checksum) => Err(Refusal::SummaryChecksum),

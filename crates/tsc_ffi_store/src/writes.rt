@@ -3,8 +3,8 @@
 ghost use Rattle.std.specs.Prelude.{◌≡◌, ◌↔◌, IfOk, IfErr, OnErr, IsTrue, Some};
 ghost use Rattle.tsc_ffi_store.specs.Decode.{time_of};
 ghost use Rattle.tsc_ffi_store.specs.Counts.{CountsLookup, CountsSeatLookup};
-ghost use Rattle.tsc_ffi_store.specs.Writes.{asked_write, IsSpan, AllSpans, RefusesSpan, RefusesSpans, RefusesWrite, TellsWrite, AnswersWrite, AnswersSeatWrite, AnswersMayWrite, AnswersSeatMayWrite};
-ghost use Rattle.tsc_ffi_store.specs.WriteSteps.{TellsLater, AsksLater, AsksLaterStriped, AsksOfWrite, AsksOfWriteStriped};
+ghost use Rattle.tsc_ffi_store.specs.Writes.{asked_write, IsSpan, AllSpans, RefusesSpan, RefusesSpans, RefusesWrite, ReportsWrite, AnswersWrite, AnswersSeatWrite, AnswersMayWrite, AnswersSeatMayWrite};
+ghost use Rattle.tsc_ffi_store.specs.WriteSteps.{ReportsLater, AsksLater, AsksLaterStriped, AsksOfWrite, AsksOfWriteStriped};
 ghost use Rattle.tsc_ffi_store.specs.Kinds.{ByKind};
 ghost use Rattle.tsc_ffi_store.specs.StripedCalls.{AnswersStripedWrite, AnswersStripedMayWrite};
 
@@ -109,7 +109,8 @@ fn is_at(earliest: Option<Timestamp>, at: Timestamp) -> bool
 
 /// The earliest time at which a write is clear of what a cache answers to each of some spans.
 fn earliest_in(cache: &Cache, args: &WriteArgs<'_>) -> Result<Option<Timestamp>, Refusal>
-    ensures told { IfOk result (λ told. TellsWrite cache.now (asked_write args.now) told) }
+    ensures reported { IfOk result (λ reported. ReportsWrite cache.now (asked_write args.now)
+        reported) }
     ensures refused { IfErr result (λ why. RefusesWrite why (asked_write args.now)) }
 {
     let mut time = Some(value_time(args.write)?);
@@ -143,7 +144,7 @@ fn earliest_at(seat: &mut SeatHandle, args: &WriteArgs<'_>) -> Result<Option<Tim
 
 /// Whether each of some words is a span that may be written.
 fn check_spans(keys: &[u8], spans: &[TscSpan]) -> Result<(), Refusal>
-    ensures told { IfOk result (λ _. AllSpans keys.now spans.now) }
+    ensures reported { IfOk result (λ _. AllSpans keys.now spans.now) }
     ensures refused { IfErr result (λ why. RefusesSpans why keys.now spans.now) }
 {
     for words in spans {
@@ -159,7 +160,7 @@ fn later_in(
     time: Option<Timestamp>,
     by: Uuid,
 ) -> Option<Timestamp>
-    ensures { TellsLater cache.now span.now by time result }
+    ensures { ReportsLater cache.now span.now by time result }
 {
     match time {
         Some(time) => earliest_clear_of(cache.get_max_ref(span), time, by),
@@ -174,7 +175,7 @@ fn later_at(
     time: Option<Timestamp>,
     by: Uuid,
 ) -> Result<Option<Timestamp>, Refusal>
-    ensures told { ByKind (AsksLater span.now by time) (AsksLaterStriped span.now by time)
+    ensures reported { ByKind (AsksLater span.now by time) (AsksLaterStriped span.now by time)
         seat.old.seat seat.new.seat result }
     ensures same { seat.new.returns ≡ seat.old.returns }
 {

@@ -12,7 +12,7 @@ use Rattle.tsc_left_right.specs.declared.table.Slot.{Slot}
 use Rattle.tsc_left_right.specs.declared.table.Slot.TheVariants.{Empty, Writer, Handle}
 use Rattle.tsc_left_right.specs.declared.table.SeatState.{SeatState}
 use Rattle.tsc_left_right.specs.declared.table.Knowledge.{Knowledge}
-use Rattle.tsc_left_right.specs.Rule.{LaidState, LeftRightRule, one_if}
+use Rattle.tsc_left_right.specs.Rule.{StoredState, LeftRightRule, one_if}
 use Rattle.tsc_left_right.specs.Rule.{states_of, holders}
 use Rattle.tsc_left_right.specs.Closing.{IsEnd}
 use Rattle.tsc_left_right.proofs.Totals.{part, two_parts}
@@ -50,7 +50,7 @@ module _ {E : Type 0} where
   )
 
 module _ {C O : Type 0} where
-  abbrev pub state_or : LaidState C O → Slot C O → LaidState C O
+  abbrev pub state_or : StoredState C O → Slot C O → StoredState C O
   state_or d Empty = d
   state_or d (Writer state) = state
   state_or d (Handle handle) = d
@@ -119,7 +119,7 @@ module _ {P C O S E : Type 0} (R : Ghosts P C O S E) where
       → (slots : List (Slot C O)) → ((i : ℕ) (y : Slot C O)
       → get_elem? s.homes i ≡ maybe.some (maybe.some y) → get_elem? slots i ≡ maybe.some y)
       → (x : Slot C O) → get_elem? slots 0 ≡ maybe.some x
-      → (state : LaidState C O) × (x ≡ Writer state) × IsEnd R key v.states state.value
+      → (state : StoredState C O) × (x ≡ Writer state) × IsEnd R key v.states state.value
   home_at key s k id v at none long slots get x is =
       let free : k.g.word ≡ 0 = nobody_holds key s k id v at none long in
       let here = k.free free in
@@ -140,8 +140,8 @@ module _ {P C O S E : Type 0} (R : Ghosts P C O S E) where
       )
 
   pub end_of : (key : Setup S) (ps : List (SeatState E)) (x : Slot C O)
-      (state other : LaidState C O)
+      (state other : StoredState C O)
       → x ≡ Writer state → IsEnd R key ps state.value → x ≡ Writer other
       → IsEnd R key ps other.value
-  end_of key ps x state other is end_ also = subst (λ (d : LaidState C O). IsEnd R key ps d.value)
+  end_of key ps x state other is end_ also = subst (λ (d : StoredState C O). IsEnd R key ps d.value)
       (ap (state_or state) (sym is ∙ also)) end_

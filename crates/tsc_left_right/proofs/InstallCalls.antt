@@ -12,22 +12,23 @@ use Rattle.tsc_left_right.specs.Steps.{At, state_in}
 use Rattle.tsc_left_right.specs.Steps.{Filled, Anything, IsHandleOn}
 use Rattle.tsc_left_right.specs.Participating.{IsWriting, HasInstalled}
 use Rattle.tsc_left_right.specs.Participating.{cleared_in}
-use Rattle.tsc_left_right.specs.Writing.{LaidAs}
+use Rattle.tsc_left_right.specs.Writing.{IsHandleIf}
 use Rattle.tsc_left_right.proofs.Hands.{Hand, filled_le, filled_push, filled_weaker}
 use Rattle.tsc_left_right.proofs.Calls.{first_in}
 
 module _ {C O : Type 0} where
   -- If one handle is missing, not all are there.
-  fewer : (all laid : Bool) (cache : C) (adds : ℕ) (x : Slot C O) → LaidAs all cache adds x
-      → LaidAs (all && laid) cache adds x
+  fewer : (all made : Bool) (cache : C) (adds : ℕ) (x : Slot C O) → IsHandleIf all cache adds x
+      → IsHandleIf (all && made) cache adds x
   fewer true true cache adds x on = on
   fewer true false cache adds x on = tt
-  fewer false laid cache adds x on = tt
+  fewer false made cache adds x on = tt
 
-  fewer_then : (all laid : Bool) (cache : C) (adds : ℕ) (x : Slot C O) → LaidAs laid cache adds x
-      → LaidAs (all && laid) cache adds x
-  fewer_then true laid cache adds x on = on
-  fewer_then false laid cache adds x on = tt
+  fewer_then : (all made : Bool) (cache : C) (adds : ℕ) (x : Slot C O) →
+      IsHandleIf made cache adds x
+      → IsHandleIf (all && made) cache adds x
+  fewer_then true made cache adds x on = on
+  fewer_then false made cache adds x on = tt
 
 module _ {C O S E : Type 0} where
   -- So many handles are installed, and the other slots are still to come.
@@ -40,7 +41,7 @@ module _ {C O S E : Type 0} where
       todo ++ (0, Empty) ∷ done,
     )
     pub left : Filled Anything (standby_side (state_in v).head) seat todo seats
-    pub so_far : Filled (LaidAs all cache adds) (standby_side (state_in v).head) 0 done seat
+    pub so_far : Filled (IsHandleIf all cache adds) (standby_side (state_in v).head) 0 done seat
     pub holds : (state_in v).holds ≡ true
     pub unpinned : (state_in v).stage ≡ 0
 
@@ -60,12 +61,12 @@ module _ {C O S E : Type 0} where
   -- A handle is installed, and goes behind the others.
   pub installs_more : (v : Knowledge S E) (cache : C) (me me₁ me₂ : At C O S E)
       (adds seat seats slot : ℕ)
-      (all laid all' : Bool) (y : Slot C O) → Installs v me cache adds seat seats all
+      (all made all' : Bool) (y : Slot C O) → Installs v me cache adds seat seats all
       → seat < seats → slot ≡ side_slot seat (standby_side (state_in v).head)
-      → LaidAs laid cache adds y → all' ≡ (all && laid)
+      → IsHandleIf made cache adds y → all' ≡ (all && made)
       → me₁ ≡ (me.0, (slot, y) ∷ rest me.1) → me₂ ≡ (me₁.0, turned me₁.1)
       → Installs v me₂ cache adds (seat + 1) seats all'
-  installs_more v cache me me₁ me₂ adds seat seats slot all laid all' y h low at on both laid_is
+  installs_more v cache me me₁ me₂ adds seat seats slot all made all' y h low at on both made_is
       turned_is = by_todo h.todo h.is h.left
     where
       side : ℕ
@@ -83,18 +84,18 @@ module _ {C O S E : Type 0} where
       by_todo (x ∷ todo) is left = record {
         todo = todo;
         done = h.done ++ (side_slot seat side, y) ∷ [];
-        is = turned_is ∙ (λ i. ((laid_is i).0, turned (laid_is i).1))
+        is = turned_is ∙ (λ i. ((made_is i).0, turned (made_is i).1))
             ∙ (λ i. ((is i).0, rest (is i).1 ++ (at i, y) ∷ []))
             ∙ ap (λ (l : Hand C O). (cleared_in v seats, l))
             (append_assoc todo ((0, Empty) ∷ h.done) ((side_slot seat side, y) ∷ []));
         left = subst (λ (n : ℕ). Filled Anything side n todo seats) more left.2;
-        so_far = subst (λ (b : Bool). Filled (LaidAs b cache adds) side 0
+        so_far = subst (λ (b : Bool). Filled (IsHandleIf b cache adds) side 0
             (h.done ++ (side_slot seat side, y) ∷ []) (seat + 1)) (sym both)
-            (subst (λ (n : ℕ). Filled (LaidAs (all && laid) cache adds) side 0
+            (subst (λ (n : ℕ). Filled (IsHandleIf (all && made) cache adds) side 0
             (h.done ++ (side_slot seat side, y) ∷ []) n) more
-            (filled_push (LaidAs (all && laid) cache adds) side 0 h.done seat y
-            (filled_weaker (LaidAs all cache adds) side (LaidAs (all && laid) cache adds)
-            (fewer all laid cache adds) 0 h.done seat h.so_far) (fewer_then all laid cache adds y
+            (filled_push (IsHandleIf (all && made) cache adds) side 0 h.done seat y
+            (filled_weaker (IsHandleIf all cache adds) side (IsHandleIf (all && made) cache adds)
+            (fewer all made cache adds) 0 h.done seat h.so_far) (fewer_then all made cache adds y
             on)));
         holds = h.holds;
         unpinned = h.unpinned;
@@ -133,8 +134,8 @@ module _ {C O S E : Type 0} where
       by_todo [] is left = record {
         slots = h.done;
         is = is;
-        filled = filled_weaker (LaidAs all cache adds) (standby_side (state_in v).head) Anything
-            (λ x _. tt) 0 h.done seats (subst (λ (n : ℕ). Filled (LaidAs all cache adds)
+        filled = filled_weaker (IsHandleIf all cache adds) (standby_side (state_in v).head) Anything
+            (λ x _. tt) 0 h.done seats (subst (λ (n : ℕ). Filled (IsHandleIf all cache adds)
             (standby_side (state_in v).head) 0 h.done n) left h.so_far);
         holds = h.holds;
         unpinned = h.unpinned;
@@ -162,7 +163,7 @@ module _ {C O S E : Type 0} where
         slots = h.done;
         is = is;
         filled = subst (λ (n : ℕ). Filled (IsHandleOn cache adds) (standby_side (state_in v).head) 0
-            h.done n) left (subst (λ (b : Bool). Filled (LaidAs b cache adds)
+            h.done n) left (subst (λ (b : Bool). Filled (IsHandleIf b cache adds)
             (standby_side (state_in v).head) 0 h.done seat) is_all h.so_far);
         holds = h.holds;
         unpinned = h.unpinned;

@@ -6,7 +6,7 @@ pub mod Frames
 pub mod Prefixes
 pub mod Moves
 pub mod Openings
-pub mod Laying
+pub mod FirstSlots
 pub mod Acquiring
 pub mod Pinning
 pub mod Clearing

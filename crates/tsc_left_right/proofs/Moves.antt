@@ -17,7 +17,7 @@ use Rattle.tsc_left_right.specs.declared.table.Slot.{Slot}
 use Rattle.tsc_left_right.specs.declared.table.Slot.TheVariants.{Writer}
 use Rattle.tsc_left_right.specs.declared.table.SeatState.{SeatState}
 use Rattle.tsc_left_right.specs.declared.table.Knowledge.{Knowledge}
-use Rattle.tsc_left_right.specs.Rule.{LaidState, keeping, one_if, SharedState, LeftRightRule, HasNoted}
+use Rattle.tsc_left_right.specs.Rule.{StoredState, keeping, one_if, SharedState, LeftRightRule, HasNoted}
 use Rattle.tsc_left_right.specs.Rule.{active_side, standby_side, epoch_word, side_slot}
 use Rattle.tsc_left_right.specs.Rule.{SeatFits, KnowledgeFits, WriterFits}
 use Rattle.tsc_left_right.specs.Rule.{StateFits, IsAfter, states_of, holders}
@@ -77,7 +77,7 @@ module _ {P C O S E : Type 0} (R : Ghosts P C O S E) where
   pub record Moved (setup : Setup S) (s : Board C O S E) (k : LeftRightRule R setup s) (id : ℕ)
       (v w : Knowledge S E) (g : SharedState E) (words : List ℕ) (homes : Homes C O) : Type 0 where
     pub at : get_elem? s.views id ≡ maybe.some v
-    pub legal : IsLegal R setup.settings setup.seats g.history
+    pub legal : IsLegal R setup.config setup.seats g.history
     pub limit : length g.history ≤ setup.limit
     pub shape : HasShape setup.seats g.word g.head words homes
     pub seats : (seat : ℕ) → seat < setup.seats → SeatFits R setup g words homes seat
@@ -87,7 +87,7 @@ module _ {P C O S E : Type 0} (R : Ghosts P C O S E) where
     pub each : (number : ℕ) → states_of number w ≡ states_of number v
     pub one : sum_by holders s.views + holders w ≡ one_if (nat_lt 0 g.word) + holders v
     pub idle : g.word ≡ 0 → g.cleared ≡ 0
-    pub free : g.word ≡ 0 → (state : LaidState C O)
+    pub free : g.word ≡ 0 → (state : StoredState C O)
         × (get_elem? homes 0 ≡ maybe.some (maybe.some (Writer state)))
         × IsAfter R setup g.history g.head state.value
         × HasNoted setup.seats g.noted state.value

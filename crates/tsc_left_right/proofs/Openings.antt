@@ -15,7 +15,7 @@ use Rattle.tsc_left_right.specs.declared.table.Slot.TheVariants.{Writer}
 use Rattle.tsc_left_right.specs.declared.table.SeatState.{SeatState}
 use Rattle.tsc_left_right.specs.declared.table.Knowledge.{Knowledge}
 use Rattle.atomic_table.proofs.Lists.{at_map}
-use Rattle.tsc_left_right.specs.Rule.{LaidState, at_rest, IsAfter, Shows, epoch_word, side_slot}
+use Rattle.tsc_left_right.specs.Rule.{StoredState, at_rest, IsAfter, Shows, epoch_word, side_slot}
 use Rattle.tsc_left_right.specs.Rule.{one_if, SharedState}
 use Rattle.tsc_left_right.specs.Rule.{LeftRightRule, KnowledgeFits, StateFits, states_of, holders}
 use Rattle.tsc_left_right.specs.Rule.{first_knowledge, fresh_states}
@@ -98,7 +98,7 @@ module _ {P C O S E : Type 0} (R : Ghosts P C O S E) where
   -- The slots at the opening: the writer's, and of each seat a handle that shows the empty history
   -- on
   -- side 0, and something on side 1.
-  pub record IsOpening (setup : Setup S) (state : LaidState C O) (slots : List
+  pub record IsOpening (setup : Setup S) (state : StoredState C O) (slots : List
       (Slot C O)) : Type 0 where
     pub deep : length slots ≡ slot_count setup.seats
     pub writer : get_elem? slots 0 ≡ maybe.some (Writer state)
@@ -117,25 +117,25 @@ module _ {P C O S E : Type 0} (R : Ghosts P C O S E) where
     noted = noted;
   }
 
-  pub opening_kept : (setup : Setup S) (state : LaidState C O) (slots : List (Slot C O))
+  pub opening_kept : (setup : Setup S) (state : StoredState C O) (slots : List (Slot C O))
       → IsAfter R setup [] 0 state.value → length state.value.noted.items ≡ setup.seats
       → IsOpening setup state slots
       → LeftRightRule R setup (opening (replicate (word_count setup.seats) 0) slots
       (first_knowledge setup))
   unfolding first_shared
-  opening_kept setup state slots after noted laid =
+  opening_kept setup state slots after noted has_slots =
       let blank : (i : ℕ) → slice_index (replicate (word_count setup.seats) 0) i ≡ 0 =
       blank_at (word_count setup.seats) in record {
         g = first_shared state.value.noted.items;
-        legal = legal_empty R setup.settings setup.seats;
+        legal = legal_empty R setup.config setup.seats;
         limit = omega arith;
         shape = record {
           wide = length-replicate (word_count setup.seats) 0;
-          deep = length-map slots (λ (x : Slot C O). maybe.some x) ∙ laid.deep;
+          deep = length-map slots (λ (x : Slot C O). maybe.some x) ∙ has_slots.deep;
           word_is = blank 0;
           head_is = blank 16;
         };
-        seats = λ r low. let x = laid.active r low in let y = laid.standby r low in record {
+        seats = λ r low. let x = has_slots.active r low in let y = has_slots.standby r low in record {
           unpinned = λ _. ap (λ (e : ℕ). e % 2) (blank (epoch_word r));
           pinned = λ z. absurd (omega (arith, z));
           active = λ _. (x.0, at_map maybe.some slots (side_slot r 0) x.0 x.1, x.2);
@@ -155,7 +155,7 @@ module _ {P C O S E : Type 0} (R : Ghosts P C O S E) where
           nobody_fresh 0 setup.seats,
         );
         idle = λ _. refl;
-        free = λ _. (state, at_map maybe.some slots 0 (Writer state) laid.writer, after, record { is = refl; long = noted });
+        free = λ _. (state, at_map maybe.some slots 0 (Writer state) has_slots.writer, after, record { is = refl; long = noted });
       }
     where
       at : (id : ℕ) (v : Knowledge S E) → get_elem? (first_knowledge setup ∷ []) id ≡ maybe.some v

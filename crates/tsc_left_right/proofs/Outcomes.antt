@@ -109,7 +109,7 @@ module _ {P C O S E : Type 0} (R : Ghosts P C O S E) where
       record {
         writing = writing_self me.0 me₁ cleared w;
         noted = noted_new me me₁ cleared state n w;
-        legal = subst (λ (u : Knowledge S E). IsLegal R u.setup.settings u.setup.seats (seen_of u))
+        legal = subst (λ (u : Knowledge S E). IsLegal R u.setup.config u.setup.seats (seen_of u))
             (sym is) n.legal;
         own = subst (λ (u : Knowledge S E). own_count R (number_of u) (seen_of u) ≡ count_of u)
             (sym is) n.own;
@@ -123,7 +123,7 @@ module _ {P C O S E : Type 0} (R : Ghosts P C O S E) where
   pub may_take : (me : At C O S E) (seats : ℕ) (state : WriterState C O) (op : O) (number : ℕ)
       → MayPrepare R seats me state op → IsNumber me.0 number → MayTake R state.copies op
   may_take me seats state op number m low = record {
-    settings = me.0.setup.settings;
+    config = me.0.setup.config;
     seats = me.0.setup.seats;
     history = seen_of me.0;
     legal = m.legal;
@@ -156,9 +156,9 @@ module _ {P C O S E : Type 0} (R : Ghosts P C O S E) where
           is_after = subst (λ (u : Knowledge S E). IsAfter R u.setup (seen_of u) (state_in u).head
               state₂) (sym same) (record {
                 stand = record {
-                  active = subst (λ (c : Arc C Global). R.stands t.settings (seen_of me.0)
+                  active = subst (λ (c : Arc C Global). R.stands t.config (seen_of me.0)
                       (arc_value c)) (sym active) after.stand.active;
-                  behind = subst (HandleLags R t.settings (seen_of me.0) state₂.copies.lagging)
+                  behind = subst (HandleLags R t.config (seen_of me.0) state₂.copies.lagging)
                       (sym none) tt;
                 };
                 length = long ∙ after.length;
@@ -261,7 +261,7 @@ module _ {P C O S E : Type 0} (R : Ghosts P C O S E) where
           before = h;
           after = is;
           begins = begins_itself h;
-          legal = legal_push R t.settings t.seats h e n.legal (can h (number_of v) (count_of v)
+          legal = legal_push R t.config t.seats h e n.legal (can h (number_of v) (count_of v)
               (subst (λ (r : ℕ). r < t.seats) low.0 low.1) n.own);
           own = n.own;
           below = p.below;

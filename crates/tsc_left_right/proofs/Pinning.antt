@@ -241,7 +241,7 @@ module _ {P C O S E : Type 0} (R : Ghosts P C O S E) where
           → Allows (LeftRightRule R setup) slots id (v, (side_slot p.number side, x) ∷ hand)
           (epoch_word p.number) (λ n. (n + 1) % 2 ^ 64)
           (unpins st (v, (side_slot p.number side, x) ∷ hand))
-      unpin_allowed has small_side laid s k deep at small =
+      unpin_allowed has small_side there s k deep at small =
           let g : SharedState E = k.g in
           let h : List E = g.history in
           let n : ℕ = p.number in
@@ -293,7 +293,7 @@ module _ {P C O S E : Type 0} (R : Ghosts P C O S E) where
                       back (active_side g.head) z,
                       subst (λ (u : Setup S). Shows R u h x) same
                           (subst (λ (c : List E). Shows R t c x)
-                          (mine.sees (has ∙ ap (λ (b : ℕ). b + 2) (sym z))) laid),
+                          (mine.sees (has ∙ ap (λ (b : ℕ). b + 2) (sym z))) there),
                     ))
                     (λ z. let u = ok.active (λ d. z (omega (arith, d, is))) in
                     (u.0, beside (active_side g.head) z ∙ u.1, u.2));

@@ -86,14 +86,14 @@ module _ {E : Type 0} where
 
 module _ {P C O S E : Type 0} (R : Ghosts P C O S E) where
   -- a beginning of a legal history is legal
-  pub legal_beginning : (settings : S) (seats : ℕ) (h g : List E) → IsLegal R settings seats h
-      → BeginsWith h g → IsLegal R settings seats g
-  legal_beginning settings seats h g legal b before e c =
+  pub legal_beginning : (config : S) (seats : ℕ) (h g : List E) → IsLegal R config seats h
+      → BeginsWith h g → IsLegal R config seats g
+  legal_beginning config seats h g legal b before e c =
       legal before e (begins_on h g (before ++ e ∷ []) b c)
 
   -- a history without entries is legal
-  pub legal_empty : (settings : S) (seats : ℕ) → IsLegal R settings seats []
-  legal_empty settings seats before e c =
+  pub legal_empty : (config : S) (seats : ℕ) → IsLegal R config seats []
+  legal_empty config seats before e c =
       absurd (omega (
         arith,
         ap length c.1,
@@ -102,15 +102,15 @@ module _ {P C O S E : Type 0} (R : Ghosts P C O S E) where
       ))
 
   -- and a legal history with the next entry is
-  pub legal_push : (settings : S) (seats : ℕ) (h : List E) (e : E)
-      → IsLegal R settings seats h → R.is_next settings seats h e
-      → IsLegal R settings seats (h ++ e ∷ [])
-  legal_push settings seats h e legal next before f c =
+  pub legal_push : (config : S) (seats : ℕ) (h : List E) (e : E)
+      → IsLegal R config seats h → R.is_next config seats h e
+      → IsLegal R config seats (h ++ e ∷ [])
+  legal_push config seats h e legal next before f c =
       elim (begins_push h (before ++ f ∷ []) e c) [
         | inl b ↦ legal before f b
         | inr same ↦ let s = same_from_push before h f e same in
-            subst (λ (g : List E). R.is_next settings seats g f) (sym s.0)
-            (subst (R.is_next settings seats h) (sym s.1) next)
+            subst (λ (g : List E). R.is_next config seats g f) (sym s.0)
+            (subst (R.is_next config seats h) (sym s.1) next)
       ]
 
   -- counts add up

@@ -10,7 +10,7 @@ use Rattle.tsc_left_right.specs.declared.table.Slot.{Slot}
 use Rattle.tsc_left_right.specs.declared.table.Slot.TheVariants.{Empty, Writer, Handle}
 use Rattle.tsc_left_right.specs.declared.table.SeatState.{SeatState}
 use Rattle.tsc_left_right.specs.declared.table.Knowledge.{Knowledge}
-use Rattle.tsc_left_right.specs.Rule.{keeping, LaidState, SharedState, LeftRightRule, one_if}
+use Rattle.tsc_left_right.specs.Rule.{keeping, StoredState, SharedState, LeftRightRule, one_if}
 use Rattle.tsc_left_right.specs.Rule.{IsAfter, Shows}
 use Rattle.tsc_left_right.specs.Rule.{head_word, side_slot, active_side, standby_side}
 use Rattle.tsc_left_right.specs.Steps.{publishes, lagging_in, behind_handles, published, counted}
@@ -31,7 +31,7 @@ use Rattle.tsc_left_right.proofs.Prefixes.{begins_itself, begins_on}
 
 module _ {C O : Type 0} where
   -- what the hand says of the writer's Add, and what stays in the hand
-  pub lagging_there : (cache : C) (adds side from to : ℕ) (xs : Hand C O) (state : LaidState C O)
+  pub lagging_there : (cache : C) (adds side from to : ℕ) (xs : Hand C O) (state : StoredState C O)
       → Filled (IsHandleOn cache adds) side from xs to
       → lagging_in (xs ++ (0, Writer state) ∷ []) ≡ state.value.copies.lagging
   lagging_there cache adds side from to [] state f = refl
@@ -40,7 +40,7 @@ module _ {C O : Type 0} where
   lagging_there cache adds side from to ((k, Handle c) ∷ xs) state f =
       lagging_there cache adds side (suc from) to xs state f.2
 
-  pub left_there : (cache : C) (adds side from to : ℕ) (xs : Hand C O) (state : LaidState C O)
+  pub left_there : (cache : C) (adds side from to : ℕ) (xs : Hand C O) (state : StoredState C O)
       → Filled (IsHandleOn cache adds) side from xs to
       → behind_handles (xs ++ (0, Writer state) ∷ []) ≡ (0, Writer state) ∷ []
   left_there cache adds side from to [] state f = refl
@@ -53,12 +53,12 @@ module _ {P C O S E : Type 0} (R : Ghosts P C O S E) where
   -- the history with the writer's Add
   record Grows (setup : Setup S) (p : SeatState E) (add : Option O) : Type 0 where
     pub begins : BeginsWith (published R p add) p.seen
-    pub legal : IsLegal R setup.settings setup.seats (published R p add)
+    pub legal : IsLegal R setup.config setup.seats (published R p add)
     pub others : (r : ℕ) → r ≢ p.number → own_count R r (published R p add) ≡ own_count R r p.seen
     pub own : own_count R p.number (published R p add) ≡ counted R p add
 
   grows : (setup : Setup S) (p : SeatState E) (add : Option O)
-      → own_count R p.number p.seen ≡ p.count → IsLegal R setup.settings setup.seats p.seen
+      → own_count R p.number p.seen ≡ p.count → IsLegal R setup.config setup.seats p.seen
       → p.number < setup.seats → CanAdd R setup add → Grows setup p add
   grows setup p None own is_legal low can = record {
     begins = begins_itself p.seen;
@@ -69,7 +69,7 @@ module _ {P C O S E : Type 0} (R : Ghosts P C O S E) where
   grows setup p (Some add) own is_legal low can =
       let e = R.entry_of p.number p.count add in record {
         begins = begins_more p.seen (e ∷ []);
-        legal = legal_push R setup.settings setup.seats p.seen e is_legal
+        legal = legal_push R setup.config setup.seats p.seen e is_legal
             (can p.seen p.number p.count low own);
         others = λ r apart. omega (
           arith,
@@ -86,7 +86,7 @@ module _ {P C O S E : Type 0} (R : Ghosts P C O S E) where
       }
 
   module _ (setup : Setup S) (slots : ℕ) (st : Step (Slot C O)) (id : ℕ) (t : Setup S)
-      (p : SeatState E) (state : LaidState C O) (sides : Hand C O) where
+      (p : SeatState E) (state : StoredState C O) (sides : Hand C O) where
     abbrev v : Knowledge S E
     v = keeping t (p ∷ [])
 
@@ -100,14 +100,14 @@ module _ {P C O S E : Type 0} (R : Ghosts P C O S E) where
     abbrev h' : List E
     h' = published R p add
 
-    handle_shows : (x : Slot C O) → R.stands setup.settings h'
+    handle_shows : (x : Slot C O) → R.stands setup.config h'
         (arc_value state.value.copies.active) → state.value.length
         ≡ length h' → IsHandleOn (arc_value state.value.copies.active) state.value.length x
         → Shows R setup h' x
     handle_shows Empty stands long on = absurd on
     handle_shows (Writer d) stands long on = absurd on
     handle_shows (Handle handle) stands long on = (
-      subst (R.stands setup.settings h') (sym on.0) stands,
+      subst (R.stands setup.config h') (sym on.0) stands,
       on.1 ∙ long,
     )
 
@@ -145,13 +145,13 @@ module _ {P C O S E : Type 0} (R : Ghosts P C O S E) where
           full,
           ap (λ (x : Setup S). x.seats) all.same,
         ) in
-        let is_legal : IsLegal R setup.settings setup.seats p.seen =
-        subst (IsLegal R setup.settings setup.seats) (sym all.all) k.legal in
+        let is_legal : IsLegal R setup.config setup.seats p.seen =
+        subst (IsLegal R setup.config setup.seats) (sym all.all) k.legal in
         let more : Grows setup p add = grows setup p add all.mine.own_seen is_legal all.low
         (subst (λ (x : Setup S). CanAdd R x add) all.same can) in
         let begins : BeginsWith h' g.history = subst (BeginsWith h') all.all more.begins in
-        let stands : R.stands setup.settings h' (arc_value state.value.copies.active) =
-        subst (λ (x : Setup S). R.stands x.settings h'
+        let stands : R.stands setup.config h' (arc_value state.value.copies.active) =
+        subst (λ (x : Setup S). R.stands x.config h'
         (arc_value state.value.copies.active)) all.same
         after.stand.active in
         let its : (p.number == p.number) ≡ true = same_number p.number p.number refl in

@@ -13,7 +13,7 @@ use Rattle.tsc_left_right.specs.declared.table.Setup.{Setup}
 use Rattle.tsc_left_right.specs.declared.table.Slot.TheVariants.{Writer}
 use Rattle.tsc_left_right.specs.declared.table.SeatState.{SeatState}
 use Rattle.tsc_left_right.specs.declared.table.Knowledge.{Knowledge}
-use Rattle.tsc_left_right.specs.Rule.{keeping, one_if, LaidState, SharedState, LeftRightRule}
+use Rattle.tsc_left_right.specs.Rule.{keeping, one_if, StoredState, SharedState, LeftRightRule}
 use Rattle.tsc_left_right.specs.Rule.{IsAfter, HasNoted}
 use Rattle.tsc_left_right.specs.Rule.{side_slot, active_side, standby_side}
 use Rattle.tsc_left_right.specs.Steps.{Filled, Anything, released}
@@ -27,7 +27,7 @@ use Rattle.tsc_left_right.specs.declared.replicated.Replicated.{Ghosts}
 
 module _ {P C O S E : Type 0} (R : Ghosts P C O S E) where
   module _ (setup : Setup S) (slots : ℕ) (id : ℕ) (t : Setup S) (p : SeatState E)
-      (state : LaidState C O) (sides : Hand C O) where
+      (state : StoredState C O) (sides : Hand C O) where
     abbrev releaser : Knowledge S E
     releaser = keeping t (p ∷ [])
 

@@ -236,8 +236,8 @@ module _ {P C O S E : Type 0} (R : Ghosts P C O S E) where
       let same : t ≡ setup = fits.settled refl in
       let h : List E = k.g.history in
       let long = longer_begins h p.seen seen mine.begins fits.front in
-      let is_legal : IsLegal R setup.settings setup.seats (longer p.seen seen) =
-      legal_beginning R setup.settings setup.seats h (longer p.seen seen) k.legal long.2 in
+      let is_legal : IsLegal R setup.config setup.seats (longer p.seen seen) =
+      legal_beginning R setup.config setup.seats h (longer p.seen seen) k.legal long.2 in
       let own : own_count R p.number (longer p.seen seen)
       ≡ p.count = own_between R p.number p.count h
       (longer p.seen seen) p.seen long.2 long.0 mine.own mine.own_seen in

@@ -12,7 +12,7 @@ use Rattle.tsc_left_right.specs.declared.table.Slot.TheVariants.{Empty, Writer}
 use Rattle.tsc_left_right.specs.declared.table.WriterState.{WriterState}
 use Rattle.tsc_left_right.specs.declared.table.SeatState.{SeatState}
 use Rattle.tsc_left_right.specs.declared.table.Knowledge.{Knowledge}
-use Rattle.tsc_left_right.specs.Rule.{LeftRightRule, LaidState, IsAfter, HasNoted, standby_side}
+use Rattle.tsc_left_right.specs.Rule.{LeftRightRule, StoredState, IsAfter, HasNoted, standby_side}
 use Rattle.tsc_left_right.specs.Steps.{At, state_in, with_state, clearing, seen_of}
 use Rattle.tsc_left_right.specs.Steps.{Filled, Anything, IsHandleOn, publishes, published, flipped}
 use Rattle.tsc_left_right.specs.Steps.{lagging_in, behind_handles, releases, released}
@@ -26,12 +26,12 @@ use Rattle.tsc_left_right.specs.declared.replicated.Replicated.{Ghosts}
 
 module _ {C O S E : Type 0} where
   -- what a writer has in hand that has laid its state back
-  pub laid_back : (v : Knowledge S E) (me me₁ me₂ : At C O S E) (slots : Hand C O)
-      (state : LaidState C O)
+  pub state_back : (v : Knowledge S E) (me me₁ me₂ : At C O S E) (slots : Hand C O)
+      (state : StoredState C O)
       → me ≡ (v, (0, Empty) ∷ slots) → me₁ ≡ (me.0, (0, Writer state) ∷ rest me.1)
       → me₂ ≡ (me₁.0, turned me₁.1) → me₂ ≡ (v, slots ++ (0, Writer state) ∷ [])
-  laid_back v me me₁ me₂ slots state is laid turned_is =
-      turned_is ∙ (λ i. ((laid i).0, turned (laid i).1))
+  state_back v me me₁ me₂ slots state is put turned_is =
+      turned_is ∙ (λ i. ((put i).0, turned (put i).1))
       ∙ (λ i. ((is i).0, turned ((0, Writer state) ∷ rest (is i).1)))
 
   -- what it is once it has released the lock
@@ -74,8 +74,8 @@ module _ {P C O S E : Type 0} (R : Ghosts P C O S E) where
   -- A writer of v, with these handles in hand, can publish by laying this state into its slot,
   -- which
   -- is as the old one, but for what HEAD is to be (n).
-  pub record IsLaid (v : Knowledge S E) (me : At C O S E) (old : WriterState C O) (n : ℕ)
-      (state : LaidState C O)
+  pub record IsPutBack (v : Knowledge S E) (me : At C O S E) (old : WriterState C O) (n : ℕ)
+      (state : StoredState C O)
       : Type 0 where
     pub sides : Hand C O
     pub holds : (state_in v).holds ≡ true
@@ -84,12 +84,13 @@ module _ {P C O S E : Type 0} (R : Ghosts P C O S E) where
     pub same : state.value ≡ record old { head = n }
     pub hand : me ≡ (cleared_in v v.setup.seats, sides ++ (0, Writer state) ∷ [])
 
-  pub is_laid : (me me₁ me₂ : At C O S E) (old : WriterState C O) (n : ℕ) (state : LaidState C O)
+  pub is_put_back : (me me₁ me₂ : At C O S E) (old : WriterState C O) (n : ℕ)
+      (state : StoredState C O)
       → HasInstalled me.0 me (arc_value old.copies.active) old.length me.0.setup.seats
       → IsReady R me.0 old → n ≡ standby_side old.head → state.value ≡ record old { head = n }
       → me₁ ≡ (me.0, (0, Writer state) ∷ rest me.1) → me₂ ≡ (me₁.0, turned me₁.1)
-      → IsLaid me.0 me₂ old n state
-  is_laid me me₁ me₂ old n state h ready n_is same laid turned_is =
+      → IsPutBack me.0 me₂ old n state
+  is_put_back me me₁ me₂ old n state h ready n_is same put turned_is =
       let head_is : n ≡ standby_side (state_in me.0).head =
       n_is ∙ ap standby_side ready.is_after.head_is in record {
         sides = h.slots;
@@ -97,13 +98,13 @@ module _ {P C O S E : Type 0} (R : Ghosts P C O S E) where
         head_is = head_is;
         can = can_publish me.0 old n state.value h.slots ready h.filled head_is same;
         same = same;
-        hand = laid_back (cleared_in me.0 me.0.setup.seats) me me₁ me₂ h.slots state h.is laid
+        hand = state_back (cleared_in me.0 me.0.setup.seats) me me₁ me₂ h.slots state h.is put
             turned_is;
       }
 
   pub publish_at : (key : Setup S) (slots : ℕ) (st : Step (Slot C O)) (id : ℕ) (v : Knowledge S E)
       (me : At C O S E)
-      (old : WriterState C O) (n : ℕ) (state : LaidState C O) → IsLaid v me old n state
+      (old : WriterState C O) (n : ℕ) (state : StoredState C O) → IsPutBack v me old n state
       → Allows (LeftRightRule R key) slots id me 16 (λ _. n) (publishes R st me)
   publish_at key slots st id v me old n state q =
       subst (λ (k : ℕ). Allows (LeftRightRule R key) slots id me 16 (λ _. k) (publishes R st me))
@@ -115,7 +116,7 @@ module _ {P C O S E : Type 0} (R : Ghosts P C O S E) where
   -- what it knows and has in hand then
   pub published_then : (st : Step (Slot C O)) (found : ℕ) (v : Knowledge S E)
       (me me' : At C O S E) (old : WriterState C O)
-      (n : ℕ) (state : LaidState C O) → IsLaid v me old n state → publishes R st me found me'
+      (n : ℕ) (state : StoredState C O) → IsPutBack v me old n state → publishes R st me found me'
       → me' ≡ (published_in R v old.copies.lagging, (0, Writer state) ∷ [])
   published_then st found v me me' old n state q done =
       let p : SeatState E = clearing (state_in v) v.setup.seats in
@@ -132,7 +133,7 @@ module _ {P C O S E : Type 0} (R : Ghosts P C O S E) where
 
   pub release_at : (key : Setup S) (slots : ℕ) (st : Step (Slot C O)) (id : ℕ) (v : Knowledge S E)
       (me : At C O S E)
-      (cleared : ℕ) (handles : Hand C O) (state : LaidState C O)
+      (cleared : ℕ) (handles : Hand C O) (state : StoredState C O)
       → me ≡ (cleared_in v cleared, handles ++ (0, Writer state) ∷ [])
       → (state_in v).holds ≡ true
       → Filled Anything (standby_side (state_in v).head) 0 handles cleared
@@ -146,7 +147,7 @@ module _ {P C O S E : Type 0} (R : Ghosts P C O S E) where
       holds filled after noted)
 
   -- Its slot has its state then.
-  pub state_there : (v : Knowledge S E) (me : At C O S E) (x : Slot C O) (state : LaidState C O)
+  pub state_there : (v : Knowledge S E) (me : At C O S E) (x : Slot C O) (state : StoredState C O)
       → me ≡ (v, (0, Writer state) ∷ []) → me.1 ≡ (0, x) ∷ rest me.1 → x ≡ Writer state
   state_there v me x state is has = ap first_slot (sym has ∙ ap (λ (m : At C O S E). m.1) is)
     where
@@ -156,7 +157,7 @@ module _ {P C O S E : Type 0} (R : Ghosts P C O S E) where
 
   -- what the writer works with then
   pub flipped_then : (v : Knowledge S E) (me₁ me₂ me₃ : At C O S E) (old : WriterState C O) (n : ℕ)
-      (state taken : LaidState C O) (x : Slot C O) → IsLaid v me₁ old n state
+      (state taken : StoredState C O) (x : Slot C O) → IsPutBack v me₁ old n state
       → (state_in v).stage ≡ 0
       → me₂ ≡ (published_in R v old.copies.lagging, (0, Writer state) ∷ [])
       → me₂.1 ≡ (0, x) ∷ rest me₂.1 → me₃ ≡ (me₂.0, (0, Empty) ∷ rest me₂.1) → x ≡ Writer taken
@@ -165,7 +166,7 @@ module _ {P C O S E : Type 0} (R : Ghosts P C O S E) where
       let w : Knowledge S E = published_in R v old.copies.lagging in
       let same : state ≡ taken =
       ap (state_or state) (sym (state_there w me₂ x state is has) ∙ took) in
-      subst (λ (d : LaidState C O). HasFlipped R v old me₃ d.value) same (record {
+      subst (λ (d : StoredState C O). HasFlipped R v old me₃ d.value) same (record {
         is = emptied ∙ (λ i. ((is i).0, (0, Empty) ∷ rest (is i).1));
         holds = q.holds;
         unpinned = unpinned;

@@ -24,7 +24,7 @@ module _ {P C O S E : Type 0} (R : Ghosts P C O S E) where
         → sum_by (λ (p : SeatState E). one_if (p.number == number)) states ≡ 1
     pub history : List E
     pub head : ℕ
-    pub legal : IsLegal R setup.settings setup.seats history
+    pub legal : IsLegal R setup.config setup.seats history
     pub is_after : IsAfter R setup history head state
     pub fits : (i : ℕ) (p : SeatState E) → get_elem? states i ≡ maybe.some p
         → EndFits history p

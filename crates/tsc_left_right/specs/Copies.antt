@@ -13,47 +13,47 @@ module _ {P C O S E : Type 0} (R : Ghosts P C O S E) where
   abbrev pub CanBe : Setup S → O → Type 0
   CanBe setup op = (before : List E) (number count : ℕ) → number < setup.seats
       → own_count R number before ≡ count
-      → R.is_next setup.settings setup.seats before (R.entry_of number count op)
+      → R.is_next setup.config setup.seats before (R.entry_of number count op)
 
   -- A copy lacks an operation, if there is one: it stands for what a history makes of the value
   -- without its last entry, which is of that operation.
   abbrev pub LagsBy : S → List E → Option O → C → Type 0
-  LagsBy settings h None copy = R.stands settings h copy
-  LagsBy settings h (Some op) copy = (before : List E) × (number : ℕ) × (count : ℕ)
-      × (h ≡ before ++ R.entry_of number count op ∷ []) × R.stands settings before copy
+  LagsBy config h None copy = R.stands config h copy
+  LagsBy config h (Some op) copy = (before : List E) × (number : ℕ) × (count : ℕ)
+      × (h ≡ before ++ R.entry_of number count op ∷ []) × R.stands config before copy
 
   -- The copy of a handle lacks the operation that lags, where there is a handle.
   abbrev pub HandleLags : S → List E → Option O → Option (Arc C Global) → Type 0
-  HandleLags settings h lagging None = Unit {0}
-  HandleLags settings h lagging (Some handle) = LagsBy settings h lagging (arc_value handle)
+  HandleLags config h lagging None = Unit {0}
+  HandleLags config h lagging (Some handle) = LagsBy config h lagging (arc_value handle)
 
   -- The active copy stands for what a history makes of the value, and the standby copy may lag.
-  pub record Stand (settings : S) (h : List E) (copies : Copies C O) : Type 0 where
-    pub active : R.stands settings h (arc_value copies.active)
-    pub behind : HandleLags settings h copies.lagging copies.standby
+  pub record Stand (config : S) (h : List E) (copies : Copies C O) : Type 0 where
+    pub active : R.stands config h (arc_value copies.active)
+    pub behind : HandleLags config h copies.lagging copies.standby
 
   -- The copies stand for what a legal history makes of the value, and this operation may come next
   -- behind it.
   pub record MayTake (copies : Copies C O) (op : O) : Type 0 where
-    pub settings : S
+    pub config : S
     pub seats : ℕ
     pub history : List E
-    pub legal : IsLegal R settings seats history
-    pub stand : Stand settings history copies
+    pub legal : IsLegal R config seats history
+    pub stand : Stand config history copies
     pub number : ℕ
     pub count : ℕ
-    pub next : R.is_next settings seats history (R.entry_of number count op)
+    pub next : R.is_next config seats history (R.entry_of number count op)
 
   -- A copy is the next one after an operation, and this is what that answered, whatever history the
   -- copies stood for.
   pub record IsNextCopy {A : Type 0} (answers : S → List E → O → A) (copies : Copies C O) (op : O)
       (next : C) (answer : A) : Type 0 where
-    pub stands : (settings : S) (h : List E) (number count : ℕ) → Stand settings h copies
-        → R.stands settings (h ++ R.entry_of number count op ∷ []) next
-    pub told : (settings : S) (h : List E) → Stand settings h copies
-        → answer ≡ answers settings h op
+    pub stands : (config : S) (h : List E) (number count : ℕ) → Stand config h copies
+        → R.stands config (h ++ R.entry_of number count op ∷ []) next
+    pub reported : (config : S) (h : List E) → Stand config h copies
+        → answer ≡ answers config h op
 
   -- The active copy is as it was, and the copies stand for what they stood for.
   pub record StillStand (old new : Copies C O) : Type 0 where
     pub active : new.active ≡ old.active
-    pub stand : (settings : S) (h : List E) → Stand settings h old → Stand settings h new
+    pub stand : (config : S) (h : List E) → Stand config h old → Stand config h new

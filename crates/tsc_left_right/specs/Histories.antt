@@ -14,5 +14,5 @@ module _ {P C O S E : Type 0} (R : Ghosts P C O S E) where
   -- A history is legal under some settings for a number of seats where each of its entries may come
   -- next after those before it.
   abbrev pub IsLegal : S → ℕ → List E → Type 0
-  IsLegal settings seats h = (before : List E) (e : E) → BeginsWith h (before ++ e ∷ []) →
-      R.is_next settings seats before e
+  IsLegal config seats h = (before : List E) (e : E) → BeginsWith h (before ++ e ∷ []) →
+      R.is_next config seats before e

@@ -8,7 +8,7 @@ use Rattle.tsc_left_right.specs.declared.table.Slot.{Slot}
 use Rattle.tsc_left_right.specs.declared.table.Slot.TheVariants.{Empty, Writer}
 use Rattle.tsc_left_right.specs.declared.table.Setup.{Setup}
 use Rattle.tsc_left_right.specs.declared.table.WriterState.{WriterState}
-use Rattle.tsc_left_right.specs.Rule.{LaidState, IsAfter, side_slot, slot_count}
+use Rattle.tsc_left_right.specs.Rule.{StoredState, IsAfter, side_slot, slot_count}
 use Rattle.tsc_left_right.specs.Steps.{IsHandleOn}
 
 module _ {C O : Type 0} where
@@ -18,14 +18,15 @@ module _ {C O : Type 0} where
 
   -- The writer's slot has this, and each seat has a handle on the active copy on side 0, and
   -- nothing on side 1.
-  pub record IsLaidOut (state : LaidState C O) (seats : ℕ) (slots : List (Slot C O)) : Type 0 where
-    pub deep : length slots ≡ slot_count seats
-    pub writer : get_elem? slots 0 ≡ maybe.some (Writer state)
-    pub active : (seat : ℕ) → seat < seats → (x : Slot C O)
-        × (get_elem? slots (side_slot seat 0) ≡ maybe.some x)
-        × IsHandleOn (arc_value state.value.copies.active) 0 x
-    pub standby : (seat : ℕ) → seat < seats
-        → get_elem? slots (side_slot seat 1) ≡ maybe.some Empty
+  pub record HasFirstSlots (state : StoredState C O) (seats : ℕ) (slots : List (Slot C O)) : Type 0
+    where
+      pub deep : length slots ≡ slot_count seats
+      pub writer : get_elem? slots 0 ≡ maybe.some (Writer state)
+      pub active : (seat : ℕ) → seat < seats → (x : Slot C O)
+          × (get_elem? slots (side_slot seat 0) ≡ maybe.some x)
+          × IsHandleOn (arc_value state.value.copies.active) 0 x
+      pub standby : (seat : ℕ) → seat < seats
+          → get_elem? slots (side_slot seat 1) ≡ maybe.some Empty
 
 -- the writer's state before the first operation
 pub record IsFirst {P C O S E : Type 0} (R : Ghosts P C O S E) (setup : Setup S)

@@ -193,10 +193,10 @@ module _ {P C O S E : Type 0} (R : Ghosts P C O S E) where
     pub history : List E
     pub after : me ≡ (seated v.setup (number_of v) history (count_of v), [])
     pub begins : BeginsWith history (seen_of v)
-    pub legal : IsLegal R v.setup.settings v.setup.seats history
+    pub legal : IsLegal R v.setup.config v.setup.seats history
     pub own : own_count R (number_of v) history ≡ count_of v
     pub limit : length history ≤ v.setup.limit
-    pub stands : R.stands v.setup.settings history copy
+    pub stands : R.stands v.setup.config history copy
     pub long : found ≡ length history
 
   -- A seat at rest has seen the whole history, so long, which begins with what it and another had
@@ -206,7 +206,7 @@ module _ {P C O S E : Type 0} (R : Ghosts P C O S E) where
     pub after : me' ≡ (seated me.0.setup (number_of me.0) history (count_of me.0), [])
     pub begins : BeginsWith history (seen_of me.0)
     pub begins_other : BeginsWith history other
-    pub legal : IsLegal R me.0.setup.settings me.0.setup.seats history
+    pub legal : IsLegal R me.0.setup.config me.0.setup.seats history
     pub own : own_count R (number_of me.0) history ≡ count_of me.0
     pub limit : length history ≤ me.0.setup.limit
     pub long : found ≡ length history

@@ -65,7 +65,7 @@ module _ {P C O S E : Type 0} (R : Ghosts P C O S E) where
           head state.noted.items),
       (0, Empty) ∷ [],
     )
-    pub legal : IsLegal R me.0.setup.settings me.0.setup.seats (seen_of me.0)
+    pub legal : IsLegal R me.0.setup.config me.0.setup.seats (seen_of me.0)
     pub own : own_count R (number_of me.0) (seen_of me.0) ≡ count_of me.0
     pub limit : length (seen_of me.0) ≤ me.0.setup.limit
     pub is_after : IsAfter R me.0.setup (seen_of me.0) head state
@@ -76,7 +76,7 @@ module _ {P C O S E : Type 0} (R : Ghosts P C O S E) where
     where
       pub writing : IsWriting me.0 me seats
       pub noted : HasNoted me.0.setup.seats (state_in me.0).noted state
-      pub legal : IsLegal R me.0.setup.settings me.0.setup.seats (seen_of me.0)
+      pub legal : IsLegal R me.0.setup.config me.0.setup.seats (seen_of me.0)
       pub own : own_count R (number_of me.0) (seen_of me.0) ≡ count_of me.0
       pub is_after : IsAfter R me.0.setup (seen_of me.0) (state_in me.0).head state
       pub can : CanBe R me.0.setup op
@@ -107,7 +107,7 @@ module _ {P C O S E : Type 0} (R : Ghosts P C O S E) where
     pub history : List E
     pub after : me ≡ (seated v.setup (number_of v) history (count_of v), [])
     pub begins : BeginsWith history (seen_of v)
-    pub legal : IsLegal R v.setup.settings v.setup.seats history
+    pub legal : IsLegal R v.setup.config v.setup.seats history
     pub own : own_count R (number_of v) history ≡ count_of v
     pub limit : length history ≤ v.setup.limit
     pub long : seen ≡ length history
@@ -121,7 +121,7 @@ module _ {P C O S E : Type 0} (R : Ghosts P C O S E) where
       pub lagging : state.copies.lagging ≡ Some op
       pub same : released_in me.0 ≡ released_in v
       pub below : length (seen_of v) < v.setup.limit
-      pub answer_is : answer ≡ answers v.setup.settings (seen_of v) op
+      pub answer_is : answer ≡ answers v.setup.config (seen_of v) op
 
     -- An operation of the seat of v was applied at this place, after a history that begins with all
     -- that it had seen. The seat is at rest.
@@ -134,12 +134,12 @@ module _ {P C O S E : Type 0} (R : Ghosts P C O S E) where
         [],
       )
       pub begins : BeginsWith before (seen_of v)
-      pub legal : IsLegal R v.setup.settings v.setup.seats
+      pub legal : IsLegal R v.setup.config v.setup.seats
           (before ++ R.entry_of (number_of v) (count_of v) op ∷ [])
       pub own : own_count R (number_of v) before ≡ count_of v
       pub below : length before < v.setup.limit
       pub place_is : place ≡ length before
-      pub answer_is : answer ≡ answers v.setup.settings before op
+      pub answer_is : answer ≡ answers v.setup.config before op
 
     -- What became of a seat's operation, which is as asked for.
     abbrev pub IsOutcome : Option ℕ → (O → Type 0) → Knowledge S E → At C O S E → Outcome A
@@ -152,7 +152,7 @@ module _ {P C O S E : Type 0} (R : Ghosts P C O S E) where
     -- What became of it, and whether the gate was told of it: once if it was applied, and then the
     -- gate has heard it.
     pub record HasOutcome (tries : Option ℕ) (Asked : O → Type 0) (v : Knowledge S E)
-        (me : At C O S E) (told : Bool) (HasHeard : Type 0) (o : Outcome A) : Type 0 where
+        (me : At C O S E) (reported : Bool) (HasHeard : Type 0) (o : Outcome A) : Type 0 where
       pub is : IsOutcome tries Asked v me o
       pub gate : is_applied o ≡ true → HasHeard
-      pub told_is : told ≡ is_applied o
+      pub reported_is : reported ≡ is_applied o

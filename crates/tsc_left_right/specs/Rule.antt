@@ -116,8 +116,8 @@ abbrev pub IsHome : {X : Type 0} → List (maybe.Option X) → ℕ → (X → Ty
 IsHome {X} homes i P = (x : X) × (get_elem? homes i ≡ maybe.some (maybe.some x)) × P x
 
 -- what the writer's slot has
-abbrev pub LaidState : Type 0 → Type 0 → Type 0
-LaidState C O = Box (WriterState C O) Global
+abbrev pub StoredState : Type 0 → Type 0 → Type 0
+StoredState C O = Box (WriterState C O) Global
 
 -- What the writer works with has the epochs that were noted, of as many seats.
 pub record HasNoted {C O : Type 0} (seats : ℕ) (noted : List ℕ) (state : WriterState C O) : Type 0
@@ -130,7 +130,7 @@ module _ {P C O S E : Type 0} (R : Ghosts P C O S E) where
   abbrev pub Shows : Setup S → List E → Slot C O → Type 0
   Shows setup h Empty = ⊥
   Shows setup h (Writer state) = ⊥
-  Shows setup h (Handle handle) = R.stands setup.settings h (arc_value handle.copy)
+  Shows setup h (Handle handle) = R.stands setup.config h (arc_value handle.copy)
       × (handle.length ≡ length h)
 
   -- What a seat's state says fits. The seat has seen a beginning of the history, which has all its
@@ -170,7 +170,7 @@ module _ {P C O S E : Type 0} (R : Ghosts P C O S E) where
   -- What the writer works with is after a history, and says what HEAD is.
   pub record IsAfter (setup : Setup S) (h : List E) (head : ℕ) (state : WriterState C O) : Type 0
     where
-      pub stand : Stand R setup.settings h state.copies
+      pub stand : Stand R setup.config h state.copies
       pub length : state.length ≡ length h
       pub head_is : state.head ≡ head
 
@@ -180,7 +180,7 @@ module _ {P C O S E : Type 0} (R : Ghosts P C O S E) where
   -- seat holds the lock.
   pub record LeftRightRule (setup : Setup S) (s : State (Slot C O) (Knowledge S E)) : Type 0 where
     pub g : SharedState E
-    pub legal : IsLegal R setup.settings setup.seats g.history
+    pub legal : IsLegal R setup.config setup.seats g.history
     pub limit : length g.history ≤ setup.limit
     pub shape : HasShape setup.seats g.word g.head s.words s.homes
     pub seats : (seat : ℕ) → seat < setup.seats → SeatFits setup g s.words s.homes seat
@@ -190,6 +190,6 @@ module _ {P C O S E : Type 0} (R : Ghosts P C O S E) where
         → sum_by (states_of number) s.views ≡ one_if (nat_lt number setup.seats)
     pub one : sum_by holders s.views ≡ one_if (nat_lt 0 g.word)
     pub idle : g.word ≡ 0 → g.cleared ≡ 0
-    pub free : g.word ≡ 0 → (state : LaidState C O)
+    pub free : g.word ≡ 0 → (state : StoredState C O)
         × (get_elem? s.homes 0 ≡ maybe.some (maybe.some (Writer state)))
         × IsAfter setup g.history g.head state.value × HasNoted setup.seats g.noted state.value

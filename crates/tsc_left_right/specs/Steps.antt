@@ -15,7 +15,7 @@ use Rattle.tsc_left_right.specs.declared.table.Slot.TheVariants.{Empty, Writer, 
 use Rattle.tsc_left_right.specs.Histories.{own_count, BeginsWith, IsLegal}
 use Rattle.tsc_left_right.specs.Rule.{at_rest, keeping, side_slot}
 use Rattle.tsc_left_right.specs.Rule.{active_side, standby_side, Shows}
-use Rattle.tsc_left_right.specs.Rule.{LaidState, IsAfter}
+use Rattle.tsc_left_right.specs.Rule.{StoredState, IsAfter}
 
 -- what a participant knows, and what it has in hand
 abbrev pub At : Type 0 → Type 0 → Type 0 → Type 0 → Type 0
@@ -91,7 +91,7 @@ module _ {S E : Type 0} where
   abbrev pub spent : S → Knowledge S E
   spent unsettled = record {
     live = false;
-    setup = record { settings = unsettled; seats = 0; limit = 0 };
+    setup = record { config = unsettled; seats = 0; limit = 0 };
     states = [];
     front = [];
   }
@@ -172,7 +172,7 @@ module _ {P C O S E : Type 0} (R : Ghosts P C O S E) where
     pub head : ℕ
     pub after : w ≡ with_state v (acquired (state_in v) history head state.noted.items)
     pub begins : BeginsWith history (state_in v).seen
-    pub legal : IsLegal R v.setup.settings v.setup.seats history
+    pub legal : IsLegal R v.setup.config v.setup.seats history
     pub own : own_count R (state_in v).number history ≡ (state_in v).count
     pub limit : length history ≤ v.setup.limit
     pub is_after : IsAfter R v.setup history head state
@@ -181,7 +181,7 @@ module _ {P C O S E : Type 0} (R : Ghosts P C O S E) where
   -- The lock is acquired where it was free, with what lies there. Else nothing changes.
   abbrev pub acquires : Step (Slot C O) → At C O S E → ℕ → At C O S E → Type 0
   acquires st me found me' =
-      (found ≡ 0 → (state : LaidState C O) × Acquires me.0 me'.0 state.value
+      (found ≡ 0 → (state : StoredState C O) × Acquires me.0 me'.0 state.value
       × (me'.1 ≡ (0, Writer state) ∷ [])) × (found ≢ 0 → me' ≡ me)
 
   -- the history once the writer has published its operation, if it has one, and how many of these
@@ -218,7 +218,7 @@ module _ {P C O S E : Type 0} (R : Ghosts P C O S E) where
     pub after : w ≡ with_state v
         (record (state_in v) { seen = history; stage = active_side found + 2 })
     pub begins : BeginsWith history (state_in v).seen
-    pub legal : IsLegal R v.setup.settings v.setup.seats history
+    pub legal : IsLegal R v.setup.config v.setup.seats history
     pub own : own_count R (state_in v).number history ≡ (state_in v).count
     pub limit : length history ≤ v.setup.limit
     pub shows : Shows R v.setup history x
@@ -236,7 +236,7 @@ module _ {P C O S E : Type 0} (R : Ghosts P C O S E) where
     pub after : me' ≡ (with_state me.0 (record (state_in me.0) { seen = history }), [])
     pub begins : BeginsWith history (state_in me.0).seen
     pub begins_other : BeginsWith history other
-    pub legal : IsLegal R me.0.setup.settings me.0.setup.seats history
+    pub legal : IsLegal R me.0.setup.config me.0.setup.seats history
     pub own : own_count R (state_in me.0).number history ≡ (state_in me.0).count
     pub limit : length history ≤ me.0.setup.limit
 

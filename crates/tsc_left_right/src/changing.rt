@@ -23,7 +23,7 @@ pub trait Replicate: Replicated {
     type Answer: Drop;
 
     /// What the operation answers behind this history.
-    ghost answer: { Self.Settings → List Self.Entry → Self.Operation → Self.Answer };
+    ghost answer: { Self.ConfigView → List Self.Entry → Self.Operation → Self.Answer };
 
     /// The copy after the operation, made of the standby copy or of the active one. What is refused
     /// is memory alone: the copies stand for what they stood for then, and a copy that was spoiled

@@ -9,6 +9,6 @@ use std::alloc::Global;
 pub struct Context<'c, P: Replicated> {
     pub alloc: Global,
     pub shared: &'c SharedReplicas<P>,
-    pub setup: &'c Setup<P::Settings>,
+    pub setup: &'c Setup<P::ConfigView>,
     pub number: u32,
 }

@@ -1,3 +1,5 @@
+//! Gates: a caller's code that is called at set moments of a call, such as right before an Add can
+//! be seen.
 ghost use Rattle.std.specs.Prelude.{◌≡◌, ℕ, true, false};
 
 /// Is told where the calls of threads, and the Adds of seats, stand. Tests hold threads up with it.
@@ -8,7 +10,7 @@ ghost use Rattle.std.specs.Prelude.{◌≡◌, ℕ, true, false};
 /// told if it called `publish`.
 pub trait Gate {
     /// An Add of this seat was told.
-    ghost HasTold: { Self → ℕ → Type 0 };
+    ghost HasReported: { Self → ℕ → Type 0 };
 
     /// The thread is about to make this call.
     fn start(&self, thread: u32, call: u32);
@@ -19,7 +21,7 @@ pub trait Gate {
     /// The Add of this seat is about to be published: nothing can refuse it now, and nobody
     /// has seen it yet. A refused Add is not told.
     fn publish(&self, seat: u32)
-        ensures { HasTold self.now seat };
+        ensures { HasReported self.now seat };
 }
 
 /// A gate that holds nobody up.
@@ -27,7 +29,7 @@ pub trait Gate {
 pub struct NoGate;
 
 impl Gate for NoGate {
-    ghost HasTold = { λ _ _. Unit {0} };
+    ghost HasReported = { λ _ _. Unit {0} };
 
     fn start(&self, _thread: u32, _call: u32) {}
 
@@ -40,25 +42,28 @@ impl Gate for NoGate {
 #[derive(Drop)]
 pub struct Notice<'g, G> {
     gate: &'g G,
-    told: bool,
+    reported: bool,
 }
 
 impl<'g, G: Gate> Notice<'g, G> {
     /// A gate that was told nothing yet.
     pub fn due(gate: &'g G) -> Notice<'g, G>
-        ensures told { result.told ≡ false }
+        ensures reported { result.reported ≡ false }
         ensures gate { result.gate.now ≡ gate.now }
     {
-        Notice { gate, told: false }
+        Notice {
+            gate,
+            reported: false,
+        }
     }
 
     /// Tells the gate of the Add of this seat.
     pub fn give(&mut self, seat: u32)
-        requires once { self.old.told ≡ false }
-        ensures told { self.new.told ≡ true }
-        ensures gate { G.HasTold self.old.gate.now seat }
+        requires once { self.old.reported ≡ false }
+        ensures reported { self.new.reported ≡ true }
+        ensures gate { G.HasReported self.old.gate.now seat }
     {
         self.gate.publish(seat);
-        self.told = true;
+        self.reported = true;
     }
 }

@@ -4,7 +4,7 @@ ghost use Rattle.std.specs.Prelude.{◌≡◌, [], ◌+◌, ◌%◌, length, IfS
 ghost use Rattle.std.specs.Arc.{arc_value};
 ghost use Rattle.tsc_left_right.specs.Rule.{standby_side};
 ghost use Rattle.tsc_left_right.specs.Steps.{state_in, number_of, seen_of};
-ghost use Rattle.tsc_left_right.specs.Writing.{LaidAs};
+ghost use Rattle.tsc_left_right.specs.Writing.{IsHandleIf};
 ghost use Rattle.tsc_left_right.specs.Participating.{IsOf, IsFree, IsNext, IsWriting};
 ghost use Rattle.tsc_left_right.specs.Participating.{HasAcquired, HasInstalled, IsReady};
 ghost use Rattle.tsc_left_right.specs.Participating.{HasFlipped, MayNote, MayRelease};
@@ -117,7 +117,7 @@ pub(crate) fn pass<P: Replicated>(
 /// Whether there is memory for one more handle on this copy, which has had `length` operations,
 /// and that handle.
 fn handle_on<C, O>(active: &Arc<C>, length: u64) -> (bool, Slot<C, O>)
-    ensures { LaidAs result.0 (arc_value active.now) length result.1 }
+    ensures { IsHandleIf result.0 (arc_value active.now) length result.1 }
 {
     match Arc::try_clone(active) {
         Ok(copy) => (true, Slot::Handle(ReadHandle { copy, length })),
@@ -146,10 +146,10 @@ pub(crate) fn install_handles<P: Replicated>(
     who.turn();
     let mut all = true;
     for seat in 0..seats {
-        let (laid, handle) = handle_on(active, length);
+        let (made, handle) = handle_on(active, length);
         shared.exchange(who, side_slot(seat, standby), handle);
         who.turn();
-        all &= laid;
+        all &= made;
     }
     all
 }

@@ -4,7 +4,7 @@ ghost use Rattle.std.specs.Prelude.{replicate};
 ghost use Rattle.std.specs.Arc.{arc_value};
 ghost use Rattle.tsc_left_right.specs.Rule.{first_knowledge, keeping, word_count};
 ghost use Rattle.tsc_left_right.specs.Steps.{other_states};
-ghost use Rattle.tsc_left_right.specs.Opening.{IsLaidOut, IsFirst, line_of};
+ghost use Rattle.tsc_left_right.specs.Opening.{HasFirstSlots, IsFirst, line_of};
 ghost use Rattle.tsc_left_right.specs.Participating.{IsOf, IsSized, KeepsStates, IsFirstOf};
 
 use crate::places::{slot_count, word_count};
@@ -25,7 +25,10 @@ fn blank_words(alloc: Global, seats: u32) -> Result<Vec<u64>, AllocError>
 }
 
 /// Lays one more, and seven empty slots behind it: what is laid next lies 128 bytes above.
-fn lay<C: Drop, O: Drop>(slots: &mut Vec<Slot<C, O>>, slot: Slot<C, O>) -> Result<(), AllocError>
+fn push_line<C: Drop, O: Drop>(
+    slots: &mut Vec<Slot<C, O>>,
+    slot: Slot<C, O>,
+) -> Result<(), AllocError>
     ensures { OnOk result (slots.new.items ≡ slots.old.items ++ line_of slot) }
 {
     slots.push(slot)?;
@@ -42,15 +45,15 @@ fn first_slots<C: Drop, O: Drop>(
     state: Box<WriterState<C, O>>,
     seats: u32,
 ) -> Result<Vec<Slot<C, O>>, AllocError>
-    ensures { IfOk result (λ slots. IsLaidOut state seats slots.items) }
+    ensures { IfOk result (λ slots. HasFirstSlots state seats slots.items) }
 {
     let active = Arc::try_clone(&state.copies.active)?;
     let mut slots = Vec::with_capacity(alloc, slot_count(seats))?;
-    lay(&mut slots, Slot::Writer(state))?;
+    push_line(&mut slots, Slot::Writer(state))?;
     for seat in 0..seats {
         let copy = Arc::try_clone(&active)?;
-        lay(&mut slots, Slot::Handle(ReadHandle { copy, length: 0 }))?;
-        lay(&mut slots, Slot::Empty)?;
+        push_line(&mut slots, Slot::Handle(ReadHandle { copy, length: 0 }))?;
+        push_line(&mut slots, Slot::Empty)?;
     }
     Ok(slots)
 }
@@ -58,12 +61,12 @@ fn first_slots<C: Drop, O: Drop>(
 /// What the writer works with at the opening: two copies to which nothing was applied.
 fn new_state<P: Replicated>(
     alloc: Global,
-    setup: &Setup<P::Settings>,
+    setup: &Setup<P::ConfigView>,
     active: Arc<P::Value>,
     standby: Arc<P::Value>,
 ) -> Result<Box<WriterState<P::Value, P::Operation>>, AllocError>
-    requires active { P.stands setup.now.settings [] (arc_value active) }
-    requires standby { P.stands setup.now.settings [] (arc_value standby) }
+    requires active { P.stands setup.now.config [] (arc_value active) }
+    requires standby { P.stands setup.now.config [] (arc_value standby) }
     ensures { IfOk result (λ state. IsFirst P.Replicated setup.now state.value) }
 {
     let copies = Copies {
@@ -84,12 +87,12 @@ fn new_state<P: Replicated>(
 /// the states of all seats.
 pub fn new_replicas<P: Replicated>(
     alloc: Global,
-    setup: &Setup<P::Settings>,
+    setup: &Setup<P::ConfigView>,
     active: Arc<P::Value>,
     standby: Arc<P::Value>,
 ) -> Result<(Replicas<P>, Participant<P>), AllocError>
-    requires active { P.stands setup.now.settings [] (arc_value active) }
-    requires standby { P.stands setup.now.settings [] (arc_value standby) }
+    requires active { P.stands setup.now.config [] (arc_value active) }
+    requires standby { P.stands setup.now.config [] (arc_value standby) }
     ensures replicas { IfOk result (λ made. IsSized made.0.shared.table_id setup.now.seats
         × (made.0.shared.key ≡ setup.now)) }
     ensures all { IfOk result (λ made. (made.1.table_id ≡ made.0.shared.table_id)

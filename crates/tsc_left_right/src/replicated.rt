@@ -11,16 +11,16 @@ pub trait Replicated {
     type Operation: Drop;
 
     /// How it is set up.
-    type Settings;
+    type ConfigView;
 
     /// What a history has of an operation.
     type Entry;
 
     /// The copy stands for what this history makes of the value.
-    ghost stands: { Self.Settings → List Self.Entry → Self.Value → Type 0 };
+    ghost stands: { Self.ConfigView → List Self.Entry → Self.Value → Type 0 };
 
     /// The entry may come next behind this history, for so many seats.
-    ghost is_next: { Self.Settings → ℕ → List Self.Entry → Self.Entry → Type 0 };
+    ghost is_next: { Self.ConfigView → ℕ → List Self.Entry → Self.Entry → Type 0 };
 
     /// The seat whose operation the entry is.
     ghost seat_of: { Self.Entry → ℕ };
@@ -33,5 +33,5 @@ pub trait Replicated {
         → seat_of (entry_of number count op) ≡ number };
 
     /// Settings for a participant that knows of no table any more.
-    ghost unsettled: { Self.Settings };
+    ghost unsettled: { Self.ConfigView };
 }

@@ -37,11 +37,11 @@ fn apply_locked<P: Replicate, W: WaitPolicy, Q: Ask<P::Operation>, G: Gate>(
     requires writer { IsSeatOf context.now.shared.now.table_id context.now.setup.now
         context.now.number who.old × IsNewWriter P.Replicated who.old.me state.value }
     requires make { (op : _) → Q.is asked.now op → CanBe P.Replicated context.now.setup.now op }
-    requires untold { notice.old.told ≡ false }
+    requires unreported { notice.old.reported ≡ false }
     ensures table { who.new.table_id ≡ who.old.table_id }
     ensures outcome { HasOutcome P.Replicated P.answer (W.tries policy.now) (Q.is asked.now)
-        who.old.me.0 who.new.me notice.new.told
-        (G.HasTold notice.old.gate.now context.now.number) result }
+        who.old.me.0 who.new.me notice.new.reported
+        (G.HasReported notice.old.gate.now context.now.number) result }
     ensures answers { IsBusy result → ⊥ }
 {
     let place = state.length;
@@ -82,11 +82,11 @@ pub fn apply_by<P: Replicate, W: WaitPolicy, Q: Ask<P::Operation>, G: Gate>(
     requires seat { IsSeatOf context.now.shared.now.table_id context.now.setup.now
         context.now.number who.old × IsAtRest who.old.me }
     requires make { (op : _) → Q.is asked.now op → CanBe P.Replicated context.now.setup.now op }
-    requires untold { notice.old.told ≡ false }
+    requires unreported { notice.old.reported ≡ false }
     ensures table { who.new.table_id ≡ who.old.table_id }
     ensures outcome { HasOutcome P.Replicated P.answer (W.tries policy.now) (Q.is asked.now)
-        who.old.me.0 who.new.me notice.new.told
-        (G.HasTold notice.old.gate.now context.now.number) result }
+        who.old.me.0 who.new.me notice.new.reported
+        (G.HasReported notice.old.gate.now context.now.number) result }
     ensures no_tries { W.tries policy.now ≡ Some 0 → IsBusy result }
 {
     match policy.acquire(context.shared, who, context.number) {

@@ -9,7 +9,7 @@ pub(crate) struct Acquire<P> {
     replicated: PhantomData<P>,
 }
 
-impl<P: Replicated> Play<Slot<P::Value, P::Operation>, Knowledge<P::Settings, P::Entry>>
+impl<P: Replicated> Play<Slot<P::Value, P::Operation>, Knowledge<P::ConfigView, P::Entry>>
     for Acquire<P> {
     ghost use Rattle.tsc_left_right.specs.Steps.{acquires};
 
@@ -66,7 +66,7 @@ pub(crate) struct Publish<P> {
     replicated: PhantomData<P>,
 }
 
-impl<P: Replicated> Play<Slot<P::Value, P::Operation>, Knowledge<P::Settings, P::Entry>>
+impl<P: Replicated> Play<Slot<P::Value, P::Operation>, Knowledge<P::ConfigView, P::Entry>>
     for Publish<P> {
     ghost use Rattle.tsc_left_right.specs.Steps.{publishes};
 
@@ -87,7 +87,7 @@ pub(crate) struct ReadHead<P> {
     replicated: PhantomData<P>,
 }
 
-impl<P: Replicated> Play<Slot<P::Value, P::Operation>, Knowledge<P::Settings, P::Entry>>
+impl<P: Replicated> Play<Slot<P::Value, P::Operation>, Knowledge<P::ConfigView, P::Entry>>
     for ReadHead<P> {
     ghost use Rattle.tsc_left_right.specs.Steps.{reads_head};
 
@@ -108,7 +108,7 @@ pub(crate) struct CatchUp<P> {
     replicated: PhantomData<P>,
 }
 
-impl<P: Replicated> Play<Slot<P::Value, P::Operation>, Knowledge<P::Settings, P::Entry>>
+impl<P: Replicated> Play<Slot<P::Value, P::Operation>, Knowledge<P::ConfigView, P::Entry>>
     for CatchUp<P> {
     ghost use Rattle.tsc_left_right.specs.Steps.{catches_up};
 
@@ -144,7 +144,7 @@ pub(crate) struct Merge<P> {
     replicated: PhantomData<P>,
 }
 
-impl<P: Replicated> Join<Knowledge<P::Settings, P::Entry>> for Merge<P> {
+impl<P: Replicated> Join<Knowledge<P::ConfigView, P::Entry>> for Merge<P> {
     ghost use Rattle.std.specs.Prelude.{◌++◌};
     ghost use Rattle.tsc_left_right.specs.Rule.{keeping};
     ghost use Rattle.tsc_left_right.specs.Steps.{spent};
@@ -159,7 +159,7 @@ pub(crate) struct JoinFront<P> {
     replicated: PhantomData<P>,
 }
 
-impl<P: Replicated> Join<Knowledge<P::Settings, P::Entry>> for JoinFront<P> {
+impl<P: Replicated> Join<Knowledge<P::ConfigView, P::Entry>> for JoinFront<P> {
     ghost use Rattle.tsc_left_right.specs.Steps.{spent};
 
     ghost both = { λ v w. record v { front = w.front } };

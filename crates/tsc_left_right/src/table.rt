@@ -10,7 +10,7 @@ use std::sync::Arc;
 #[derive(Clone, Copy)]
 pub struct Setup<S> {
     /// The settings of what is replicated.
-    pub settings: S,
+    pub config: S,
     /// How many seats there are.
     pub seats: u32,
     /// How many operations there may be.
@@ -89,8 +89,8 @@ pub struct LeftRight<P> {
 
 impl<P: Replicated> TableRule<
     Slot<P::Value, P::Operation>,
-    Knowledge<P::Settings, P::Entry>,
-    Setup<P::Settings>,
+    Knowledge<P::ConfigView, P::Entry>,
+    Setup<P::ConfigView>,
 > for LeftRight<P> {
     ghost use Rattle.tsc_left_right.specs.Rule.{LeftRightRule, first_knowledge};
 
@@ -109,8 +109,8 @@ impl<P: Replicated> TableRule<
 /// words, or eight slots of sixteen bytes or more (`places.rt`).
 pub type Replicas<P> = Table<
     Slot<<P as Replicated>::Value, <P as Replicated>::Operation>,
-    Knowledge<<P as Replicated>::Settings, <P as Replicated>::Entry>,
-    Setup<<P as Replicated>::Settings>,
+    Knowledge<<P as Replicated>::ConfigView, <P as Replicated>::Entry>,
+    Setup<<P as Replicated>::ConfigView>,
     LeftRight<P>,
     Global,
 >;
@@ -118,13 +118,13 @@ pub type Replicas<P> = Table<
 /// The replicas as threads share them.
 pub type SharedReplicas<P> = Shared<
     Slot<<P as Replicated>::Value, <P as Replicated>::Operation>,
-    Knowledge<<P as Replicated>::Settings, <P as Replicated>::Entry>,
-    Setup<<P as Replicated>::Settings>,
+    Knowledge<<P as Replicated>::ConfigView, <P as Replicated>::Entry>,
+    Setup<<P as Replicated>::ConfigView>,
     LeftRight<P>,
 >;
 
 /// One that takes part: a seat of the table.
 pub type Participant<P> = TableSeat<
     Slot<<P as Replicated>::Value, <P as Replicated>::Operation>,
-    Knowledge<<P as Replicated>::Settings, <P as Replicated>::Entry>,
+    Knowledge<<P as Replicated>::ConfigView, <P as Replicated>::Entry>,
 >;

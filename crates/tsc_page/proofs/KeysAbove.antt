@@ -6,20 +6,20 @@ use Rattle.std.specs.Str.{bytes_eq}
 use Rattle.std.proofs.lemmas.Bool.{cases_Bool}
 use Rattle.std.proofs.lemmas.Slice.Eq.{bytes_eq-Decides}
 use Rattle.tsc_span.specs.Span.{KeyBytes, Cut, before, after, is_below}
-use Rattle.tsc_page_nodes.specs.PageView.{is_in}
+use Rattle.tsc_page_model.specs.PageView.{is_in}
 use Rattle.tsc_page_nodes.specs.Nodes.{Node, IsSorted, node_keys}
-use Rattle.tsc_page_nodes.specs.KeysAbove.{lies_above, first_above, IsLeastAbove}
-use Rattle.tsc_page_nodes.proofs.CutOrder.{Lt, Le-from_Lt, Le-itself, Lt-chain, before-after}
+use Rattle.tsc_page_model.specs.KeysAbove.{lies_above, first_above, IsLeastAbove}
+use Rattle.tsc_span.proofs.CutOrder.{Lt, Le-from_Lt, Le-itself, Lt-chain, before-after}
 
 -- lists with the same keys have the same least one above a cut
 pub least_among_same : (c : Cut) (ks ls : List KeyBytes) →
     ((k : KeyBytes) → is_in k ks ≡ is_in k ls) → (r : Option KeyBytes) → IsLeastAbove c ks r →
     IsLeastAbove c ls r
 least_among_same c ks ls same None none = λ k h. none k (same k ∙ h)
-least_among_same c ks ls same (Some m) told = record {
-  member = sym (same m) ∙ told.member;
-  above = told.above;
-  least = λ k h a. told.least k (same k ∙ h) a;
+least_among_same c ks ls same (Some m) reported = record {
+  member = sym (same m) ∙ reported.member;
+  above = reported.above;
+  least = λ k h a. reported.least k (same k ∙ h) a;
 }
 
 -- a key is in a list behind another one where it isn't that
@@ -35,14 +35,14 @@ one_below c m ks low None none = λ k h. elim (cases_Bool (bytes_eq k m)) [
       (rw low refl)
   | inr e ↦ none k (in_rest k m ks e h)
 ]
-one_below c m ks low (Some first) told = record {
-  member = rw told.member (or_true (bytes_eq first m));
-  above = told.above;
+one_below c m ks low (Some first) reported = record {
+  member = rw reported.member (or_true (bytes_eq first m));
+  above = reported.above;
   least = λ k h a. elim (cases_Bool (bytes_eq k m)) [
     | inl e ↦ absurd (true≢false (sym a ∙
         subst (λ (q : KeyBytes). lies_above c q ≡ false) (sym ((bytes_eq-Decides k m).0 e))
         (rw low refl)))
-    | inr e ↦ told.least k (in_rest k m ks e h) a
+    | inr e ↦ reported.least k (in_rest k m ks e h) a
   ];
 }
   where

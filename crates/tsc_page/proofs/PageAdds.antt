@@ -3,25 +3,26 @@ use Rattle.std.proofs.Common.{◌≡◌, ◌∙◌, sym, ap, refl, subst, ◌++�
 use Rattle.std.specs.Prelude.{Option, Some, None}
 use Rattle.std.proofs.lemmas.Bool.{le-leb, lt-leb}
 use Rattle.tsc_time.specs.Time.{Time, later}
-use Rattle.tsc_time.specs.OwnedTime.{OwnedTime}
-use Rattle.tsc_span.specs.Span.{Interval, between, end_keys, key_cost}
-use Rattle.tsc_page_nodes.specs.Page.{with_mark, cost_distinct}
-use Rattle.tsc_page_nodes.specs.PageView.{PageView, Represents, NoAnswerAboveTop, is_in, has_room_for}
-use Rattle.tsc_page_nodes.specs.PageAdds.{AddsMark, IsMarkedTold}
+use Rattle.tsc_time.specs.ValueView.{ValueView}
+use Rattle.tsc_span.specs.Span.{SpanView, between, end_keys, key_cost}
+use Rattle.tsc_page_model.specs.Page.{with_mark, cost_distinct}
+use Rattle.tsc_page_model.specs.PageView.{PageView, Represents, NoAnswerAboveTop, is_in, has_room_for}
+use Rattle.tsc_page_model.specs.PageAdds.{AddsMark, IsMarkedReported}
 use Rattle.tsc_page_nodes.specs.Insertions.{InsertionView}
 use Rattle.tsc_page_nodes.specs.Nodes.{Node, answer_of, node_keys, nodes_cost, page_of}
-use Rattle.tsc_page.specs.Roots.{TreeView, Inserts, IsFullFor, IsMarkTried}
+use Rattle.tsc_page_tree.specs.Roots.{TreeView, Inserts, IsFullFor}
+use Rattle.tsc_page.specs.Tries.{IsMarkTried}
 use Rattle.tsc_page_nodes.proofs.Costs.{cost-raised}
 use Rattle.tsc_page_nodes.proofs.Standing.{split_weight, added_keys, added_answers, added_covers, added_stands}
 
 -- a tree that is full has no room for the span
 pub no_room : (size : ℕ) (t : Time) (tree : TreeView) (a : InsertionView) (v : PageView)
-    (s : Interval) →
+    (s : SpanView) →
     between a.from a.to ≡ s → page_of size t tree.nodes tree.sizes ≡ v → IsFullFor tree a size →
     has_room_for v s ≡ false
 no_room size t tree a v s span view full =
     subst (λ (w : PageView). has_room_for w s ≡ false) view
-    (subst (λ (x : Interval). has_room_for (page_of size t tree.nodes tree.sizes) x ≡ false)
+    (subst (λ (x : SpanView). has_room_for (page_of size t tree.nodes tree.sizes) x ≡ false)
     span (lt-leb (cost_distinct (node_keys tree.nodes ++ end_keys (between a.from a.to)))
     size full))
 
@@ -61,24 +62,42 @@ module _ (size : ℕ) (t u : Time) (old new : TreeView) (a : InsertionView)
       (added_covers old.nodes inserts.adds.mid a.from a.to inserts.order a.value inserts.adds.split
       old.sizes new.sizes size t u covers is)
 
--- what a call tells that may leave the page as it is, by its answer
-pub was_marked : (E : Type 0) (d : Bool) (old new : PageView) (s : Interval) (v : OwnedTime) →
-    d ≡ true → IsMarkTried {E = E} old new s v (Ok d) → AddsMark old new s v
-was_marked E d old new s v is told =
-    subst (λ (b : Bool). IsMarkTried {E = E} old new s v (Ok b)) is told
+-- a page that takes over the top and the tree of one that was made of it has that one's size
+pub same_size : (n m : ℕ) (t u : Time) (old new : TreeView) (before made : PageView)
+    (s : SpanView) (v : ValueView) → page_of n t old.nodes old.sizes ≡ before →
+    page_of m u new.nodes new.sizes ≡ made → AddsMark before made s v → m ≡ n
+same_size n m t u old new before made s v before_is made_is adds =
+    ap (λ (w : PageView). w.size) made_is ∙ adds.size ∙ sym (ap (λ (w : PageView). w.size) before_is)
 
-pub was_unmarked : (E : Type 0) (d : Bool) (old new : PageView) (s : Interval) (v : OwnedTime) →
+-- so it is then as that one
+pub taken_over : (n m : ℕ) (t u : Time) (old new : TreeView) (before made : PageView)
+    (s : SpanView) (v : ValueView) → page_of n t old.nodes old.sizes ≡ before →
+    page_of m u new.nodes new.sizes ≡ made → AddsMark before made s v →
+    AddsMark before (page_of n u new.nodes new.sizes) s v
+taken_over n m t u old new before made s v before_is made_is adds =
+    subst (λ (k : ℕ). AddsMark before (page_of k u new.nodes new.sizes) s v)
+    (same_size n m t u old new before made s v before_is made_is adds)
+    (subst (λ (w : PageView). AddsMark before w s v) (sym made_is) adds)
+
+-- what a call tells that may leave the page as it is, by its answer
+pub was_marked : (E : Type 0) (d : Bool) (old new : PageView) (s : SpanView) (v : ValueView) →
+    d ≡ true → IsMarkTried {E = E} old new s v (Ok d) → AddsMark old new s v
+was_marked E d old new s v is reported =
+    subst (λ (b : Bool). IsMarkTried {E = E} old new s v (Ok b)) is reported
+
+pub was_unmarked : (E : Type 0) (d : Bool) (old new : PageView) (s : SpanView) (v : ValueView) →
     d ≡ false → IsMarkTried {E = E} old new s v (Ok d) → new ≡ old
-was_unmarked E d old new s v is told =
-    subst (λ (b : Bool). IsMarkTried {E = E} old new s v (Ok b)) is told
+was_unmarked E d old new s v is reported =
+    subst (λ (b : Bool). IsMarkTried {E = E} old new s v (Ok b)) is reported
 
 -- what one tells that makes another page
-pub was_made_beside : (E : Type 0) (d : Option PageView) (old new : PageView) (s : Interval)
-    (v : OwnedTime) → d ≡ Some new → IsMarkedTold {E = E} old s v (Ok d) → AddsMark old new s v
-was_made_beside E d old new s v is told =
-    subst (λ (o : Option PageView). IsMarkedTold {E = E} old s v (Ok o)) is told
+pub was_made_beside : (E : Type 0) (d : Option PageView) (old new : PageView) (s : SpanView)
+    (v : ValueView) → d ≡ Some new → IsMarkedReported {E = E} old s v (Ok d) → AddsMark old new s v
+was_made_beside E d old new s v is reported =
+    subst (λ (o : Option PageView). IsMarkedReported {E = E} old s v (Ok o)) is reported
 
-pub was_full_beside : (E : Type 0) (d : Option PageView) (old : PageView) (s : Interval)
-    (v : OwnedTime) → d ≡ None → IsMarkedTold {E = E} old s v (Ok d) → has_room_for old s ≡ false
-was_full_beside E d old s v is told =
-    subst (λ (o : Option PageView). IsMarkedTold {E = E} old s v (Ok o)) is told
+pub was_full_beside : (E : Type 0) (d : Option PageView) (old : PageView) (s : SpanView)
+    (v : ValueView) → d ≡ None → IsMarkedReported {E = E} old s v (Ok d) →
+    has_room_for old s ≡ false
+was_full_beside E d old s v is reported =
+    subst (λ (o : Option PageView). IsMarkedReported {E = E} old s v (Ok o)) is reported

@@ -1,10 +1,10 @@
-pub mod Roots
+pub mod Tries
 pub use Rattle.tsc_time.specs.Time
 pub use Rattle.tsc_time.specs.Joint
 pub use Rattle.tsc_span.specs.Span
-pub use Rattle.tsc_page_nodes.specs.Limits
-pub use Rattle.tsc_page_nodes.specs.Page
-pub use Rattle.tsc_page_nodes.specs.PageView
+pub use Rattle.tsc_page_model.specs.Limits
+pub use Rattle.tsc_page_model.specs.Page
+pub use Rattle.tsc_page_model.specs.PageView
 pub use Rattle.tsc_page_nodes.specs.Nodes
 pub use Rattle.tsc_page_nodes.specs.Prefixes
-pub use Rattle.tsc_page_nodes.specs.KeysAbove
+pub use Rattle.tsc_page_model.specs.KeysAbove

@@ -1,12 +1,8 @@
 //! One page of a timestamp cache.
 //!
-//! A [`Page`] keeps what the spans that were added to it come to, as one sorted list of nodes.
-//! These stand in leaves of 1 to 64, all equally deep in a tree of branches of 1 to 64 subtrees. A
-//! leaf and a branch know where their nodes begin, the joint value of all of these, and a value
-//! that is still to be ratcheted into all of them. So a span that covers a subtree is neither
-//! looked up nor raised node by node. Copies of a page share leaves and branches, and one that is
-//! shared is copied before it changes: of a leaf its values, and its list of keys too where a new
-//! one comes.
+//! A [`Page`] keeps what the spans that were added to it come to, as one sorted list of nodes in a
+//! tree, which is that of `tsc_page_tree`. Beside the tree stand the page's size and its top, which
+//! no answer exceeds. Copies of a page share leaves and branches of their trees.
 //!
 //! A node is an end key of such a span. It has the value that holds at its key, and the value that
 //! holds in the open gap between its key and that of the next node. Below the first node nothing
@@ -25,13 +21,7 @@
 //! A [`PlainPage`] is a page that keeps the list of what was added: slow, and easy to believe.
 #![tactic(auto)]
 
-mod branches;
-mod insertion;
 mod page;
-mod plain;
-mod root;
-mod tree;
 
 pub use page::Page;
-pub use plain::PlainPage;
-pub use tsc_page_nodes::{IntervalPage, LEAST_SIZE, MOST_SIZE};
+pub use tsc_page_model::{IntervalPage, LEAST_SIZE, MOST_SIZE, PlainPage};

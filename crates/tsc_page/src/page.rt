@@ -1,20 +1,21 @@
+//! A page as a tree of sorted nodes. An Add is tried in place first, and goes to a copy else.
 ghost use Rattle.std.specs.Prelude.{sum, slice_get, option_map, ◌≡◌, true, false, IfOk};
 ghost use Rattle.tsc_time.specs.Joint.{joint_above};
 ghost use Rattle.tsc_time.specs.Time.{zero_time, is_before};
 ghost use Rattle.tsc_span.specs.Span.{is_empty_span, end_keys, point};
 ghost use Rattle.tsc_span.specs.Cuts.{cut_of};
-ghost use Rattle.tsc_page_nodes.specs.Limits.{least_size, most_size};
-ghost use Rattle.tsc_page_nodes.specs.Page.{PageMarks, top, values_on, marked_keys, count_distinct, has_room};
-ghost use Rattle.tsc_page_nodes.specs.KeysAbove.{IsLeastAbove};
-ghost use Rattle.tsc_page_nodes.specs.PageAdds.{IsMarkTold, IsMarkedTold, TellsMade};
-ghost use Rattle.tsc_page_nodes.specs.PageView.{AreLeafSizes, Represents, answer};
-ghost use Rattle.tsc_page.specs.Roots.{IsMarkTried};
+ghost use Rattle.tsc_page_model.specs.Limits.{least_size, most_size};
+ghost use Rattle.tsc_page_model.specs.Page.{PageMarks, top, values_on, marked_keys, count_distinct, has_room};
+ghost use Rattle.tsc_page_model.specs.KeysAbove.{IsLeastAbove};
+ghost use Rattle.tsc_page_model.specs.PageAdds.{IsMarkReported, IsMarkedReported, ReportsMade};
+ghost use Rattle.tsc_page_model.specs.PageView.{AreLeafSizes, Represents, answer};
+ghost use Rattle.tsc_page.specs.Tries.{IsMarkTried};
 
-use crate::insertion::Insertion;
-use crate::tree::Tree;
 use std::alloc::Global;
 use std::marker::Model;
-use tsc_page_nodes::{IntervalPage, KeyInsertion};
+use tsc_page_model::IntervalPage;
+use tsc_page_nodes::KeyInsertion;
+use tsc_page_tree::{Insertion, Tree};
 use tsc_span::{AddSpan, Cut, Key, KeyRef, Span, SpanRef};
 use tsc_time::{NoMemory, Timestamp, Value};
 
@@ -22,19 +23,28 @@ use tsc_time::{NoMemory, Timestamp, Value};
 ///
 /// A page holds end keys that cost no more than its size, and answers a lookup by its nodes alone.
 /// So its cost does not depend on how many spans were added.
+///
+/// A page stands in a block of its own, behind an `Arc`. The block begins with the 8 bytes of the
+/// count of handles, and then has these fields in their order. `before` and `after` have 64 bytes
+/// each, which nothing uses. So a line of 64 bytes that has some of `size`, `top` or `tree` has
+/// nothing of another block, nor the count, which each clone and drop of a handle writes. The line
+/// of the count has nothing of these fields of any page.
 #[derive(Debug, Drop)]
+#[repr(C)]
 pub struct Page {
+    before: [u64; 8],
     size: u32,
     top: Timestamp,
     tree: Tree,
+    after: [u64; 8],
 }
 
 impl Model for Page {
     ghost use Rattle.std.specs.Prelude.{◌≡◌, ◌≤◌};
-    ghost use Rattle.tsc_page_nodes.specs.Limits.{least_size, most_size};
-    ghost use Rattle.tsc_page_nodes.specs.PageView.{PageView, NoAnswerAboveTop};
+    ghost use Rattle.tsc_page_model.specs.Limits.{least_size, most_size};
+    ghost use Rattle.tsc_page_model.specs.PageView.{PageView, NoAnswerAboveTop};
     ghost use Rattle.tsc_page_nodes.specs.Nodes.{page_of};
-    ghost use Rattle.tsc_page.specs.Roots.{IsKnown};
+    ghost use Rattle.tsc_page_tree.specs.Roots.{IsKnown};
 
     ghost Value = { PageView };
 
@@ -50,9 +60,11 @@ impl IntervalPage for Page {
 
     fn new(alloc: Global, size: u32, base: Timestamp) -> Result<Page, NoMemory> {
         Ok(Page {
+            before: [0; 8],
             size,
             top: base,
             tree: Tree::new(alloc),
+            after: [0; 8],
         })
     }
 
@@ -121,9 +133,11 @@ impl IntervalPage for Page {
     /// tree.
     fn try_copy(&self) -> Result<Page, NoMemory> {
         Ok(Page {
+            before: [0; 8],
             size: self.size,
             top: self.top,
             tree: self.tree.try_copy()?,
+            after: [0; 8],
         })
     }
 }
@@ -136,7 +150,7 @@ impl Page {
     /// the list at the top and the way to each leaf that changes, and shares all else.
     pub fn added(&self, span: &Span, value: Value) -> Result<Option<Page>, NoMemory>
         requires not_empty { is_empty_span span.now ≡ false }
-        ensures told { TellsMade self.now (record { span = span.now; value = value }) result }
+        ensures reported { ReportsMade self.now (record { span = span.now; value = value }) result }
     {
         self.added_span(&span.for_add(), value)
     }
@@ -146,14 +160,15 @@ impl Page {
     /// new one is copied once, and once more where a leaf is cut or shared.
     pub fn add_span(&mut self, span: &AddSpan<'_>, value: Value) -> Result<bool, NoMemory>
         requires not_empty { is_empty_span span.now ≡ false }
-        ensures told { IsMarkTold self.old self.new span.now value result }
+        ensures reported { IsMarkReported self.old self.new span.now value result }
     {
         if self.add_in_place(span, value)? {
             return Ok(true);
         }
         match self.added_span(span, value)? {
             Some(page) => {
-                *self = page;
+                self.top = page.top;
+                self.tree = page.tree;
                 Ok(true)
             }
             None => Ok(false),
@@ -182,7 +197,7 @@ impl Page {
     /// As [`added`](Page::added), over keys that lie elsewhere.
     pub fn added_span(&self, span: &AddSpan<'_>, value: Value) -> Result<Option<Page>, NoMemory>
         requires not_empty { is_empty_span span.now ≡ false }
-        ensures told { IsMarkedTold self.now span.now value result }
+        ensures reported { IsMarkedReported self.now span.now value result }
     {
         let Some(add) = Insertion::new(span, value) else {
             unreachable!()
@@ -191,9 +206,11 @@ impl Page {
             return Ok(None);
         };
         Ok(Some(Page {
+            before: [0; 8],
             size: self.size,
             top: self.top.max(value.time()),
             tree,
+            after: [0; 8],
         }))
     }
 

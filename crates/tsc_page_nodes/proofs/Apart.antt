@@ -1,13 +1,13 @@
 -- Nodes whose keys and values stand in two lists.
 use Rattle.std.proofs.Common.{◌≡◌, ◌∙◌, refl, sym, ap, subst, ℕ, zero, suc, ◌+◌, ◌<◌, ◌≤◌, List, [], ◌∷◌, length, take, drop, get_or, set, arith}
 use Rattle.std.specs.List.{insert, AllZip}
-use Rattle.tsc_time.specs.OwnedTime.{OwnedTime}
+use Rattle.tsc_time.specs.ValueView.{ValueView}
 use Rattle.tsc_time.specs.Joint.{joint}
 use Rattle.tsc_span.specs.Span.{KeyBytes}
 use Rattle.tsc_page_nodes.specs.declared.nodes.Values.{Values}
 use Rattle.tsc_page_nodes.specs.Nodes.{Node, paired, node_keys}
-use Rattle.tsc_page_nodes.proofs.Places.{some_node}
-use Rattle.tsc_page_nodes.proofs.RaisedNodes.{ChangesPlaces, key_raised, gap_raised, one_changed}
+use Rattle.tsc_page_nodes.proofs.Indices.{some_node}
+use Rattle.tsc_page_nodes.proofs.RaisedNodes.{ChangesIndices, key_raised, gap_raised, one_changed}
 
 -- a node of a key with its values
 abbrev pub with_values : KeyBytes → Values → Node
@@ -123,13 +123,13 @@ cloned_keys (k ∷ ks) (m ∷ ms) each = ap (λ (q : KeyBytes). q ∷ ms) each.0
     ap (λ (qs : List KeyBytes). k ∷ qs) (cloned_keys ks ms each.1)
 
 -- the value of one more key is raised
-pub key_changed : (v : OwnedTime) (old : List Node) (ks : List KeyBytes) (vs : List Values)
+pub key_changed : (v : ValueView) (old : List Node) (ks : List KeyBytes) (vs : List Values)
     (first i : ℕ) (n w : Values) → length ks ≡ length vs → first ≤ i → i < length vs →
     n ≡ record { value = joint (get_or vs i w).value (v ∷ []); gap = (get_or vs i w).gap }
-    → ChangesPlaces (key_raised v) old (paired ks vs) first i →
-    ChangesPlaces (key_raised v) old (paired ks (set vs i n)) first (i + 1)
+    → ChangesIndices (key_raised v) old (paired ks vs) first i →
+    ChangesIndices (key_raised v) old (paired ks (set vs i n)) first (i + 1)
 key_changed v old ks vs first i n w same low within is so_far =
-    subst (λ (ns : List Node). ChangesPlaces (key_raised v) old ns first (i + 1))
+    subst (λ (ns : List Node). ChangesIndices (key_raised v) old ns first (i + 1))
     (sym (paired-set ks vs same i [] n))
     (one_changed (key_raised v) old (paired ks vs) first i (with_values (get_or ks i []) n)
     some_node low (omega (arith, within, so_far.as_long, paired-length ks vs same))
@@ -137,13 +137,13 @@ key_changed v old ks vs first i n w same low within is so_far =
     ap (key_raised v) (sym (paired-at ks vs same i some_node [] w within))) so_far)
 
 -- and that of one more gap
-pub gap_changed : (v : OwnedTime) (old : List Node) (ks : List KeyBytes) (vs : List Values)
+pub gap_changed : (v : ValueView) (old : List Node) (ks : List KeyBytes) (vs : List Values)
     (first i : ℕ) (n w : Values) → length ks ≡ length vs → first ≤ i → i < length vs →
     n ≡ record { value = (get_or vs i w).value; gap = joint (get_or vs i w).gap (v ∷ []) }
-    → ChangesPlaces (gap_raised v) old (paired ks vs) first i →
-    ChangesPlaces (gap_raised v) old (paired ks (set vs i n)) first (i + 1)
+    → ChangesIndices (gap_raised v) old (paired ks vs) first i →
+    ChangesIndices (gap_raised v) old (paired ks (set vs i n)) first (i + 1)
 gap_changed v old ks vs first i n w same low within is so_far =
-    subst (λ (ns : List Node). ChangesPlaces (gap_raised v) old ns first (i + 1))
+    subst (λ (ns : List Node). ChangesIndices (gap_raised v) old ns first (i + 1))
     (sym (paired-set ks vs same i [] n))
     (one_changed (gap_raised v) old (paired ks vs) first i (with_values (get_or ks i []) n)
     some_node low (omega (arith, within, so_far.as_long, paired-length ks vs same))

@@ -5,8 +5,8 @@ use Rattle.std.specs.List.{insert}
 use Rattle.std.proofs.lemmas.List.{map-append}
 use Rattle.std.proofs.lemmas.List.Sums.{sum_by-cons, sum_by-append, sum_by-insert}
 use Rattle.tsc_time.specs.Time.{zero_time}
-use Rattle.tsc_time.specs.OwnedTime.{OwnedTime, unowned}
-use Rattle.tsc_span.specs.Span.{KeyBytes, Interval, key_cost, cost_of}
+use Rattle.tsc_time.specs.ValueView.{ValueView, unowned}
+use Rattle.tsc_span.specs.Span.{KeyBytes, SpanView, key_cost, cost_of}
 use Rattle.tsc_page_nodes.specs.Nodes.{Node, node_keys, nodes_cost, found_cost, new_cost, with_new, node_in_gap, gap_value, raise_nodes}
 use Rattle.tsc_page_nodes.proofs.Edits.{raise_nodes-keys}
 
@@ -15,7 +15,7 @@ pub node_costs : (ns : List Node) → 32 * length ns ≤ nodes_cost ns
 node_costs [] = omega arith
 node_costs (n ∷ ns) = omega (arith, node_costs ns, sum_by-cons key_cost n.key (node_keys ns))
 
-pub cost-raised : (s : Interval) (v : OwnedTime) (ns : List Node) →
+pub cost-raised : (s : SpanView) (v : ValueView) (ns : List Node) →
     nodes_cost (raise_nodes s v ns) ≡ nodes_cost ns
 cost-raised s v ns = ap cost_of (raise_nodes-keys s v ns)
 

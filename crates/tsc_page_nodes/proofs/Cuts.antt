@@ -4,13 +4,13 @@ use mathlib.Core.Bool.{true≢false}
 use Rattle.std.specs.Str.{bytes_eq}
 use Rattle.std.proofs.lemmas.Slice.Eq.{bytes_eq-Decides}
 use Rattle.tsc_time.specs.Time.{zero_time}
-use Rattle.tsc_time.specs.OwnedTime.{OwnedTime, unowned}
+use Rattle.tsc_time.specs.ValueView.{ValueView, unowned}
 use Rattle.tsc_time.specs.Joint.{joint, joint_above}
 use Rattle.std.proofs.lemmas.Bool.{cases_Bool}
-use Rattle.tsc_span.specs.Span.{KeyBytes, Cut, before, after, last, Interval, between, overlaps}
-use Rattle.tsc_page_nodes.specs.PageView.{is_in}
+use Rattle.tsc_span.specs.Span.{KeyBytes, Cut, before, after, last, SpanView, between, overlaps}
+use Rattle.tsc_page_model.specs.PageView.{is_in}
 use Rattle.tsc_page_nodes.specs.Nodes.{Node, Stretch, next_cut, node_stretches, stretches, below_nodes, node_keys, IsSorted, raised, raise, raise_nodes, answer_of}
-use Rattle.tsc_page_nodes.proofs.CutOrder.{Le, Lt-not_Le, Le-chain, Le-from_Lt, Le-itself, before-after, overlaps-tells}
+use Rattle.tsc_span.proofs.CutOrder.{Le, Lt-not_Le, Le-chain, Le-from_Lt, Le-itself, before-after, overlaps-reports}
 use Rattle.tsc_page_nodes.proofs.Answers.{values_over-is, answer_over}
 use Rattle.tsc_page_nodes.proofs.Raises.{Parts, last_parts, raise_answers}
 
@@ -76,12 +76,12 @@ cuts_of_key k (n ∷ ns) h = by (cases_Bool (bytes_eq k n.key)) (λ g. cuts_of_k
     by (inr e) rest = let r = rest (rw e at h) in (inr (inr r.0), inr (inr r.1))
 
 -- raising moves no cut of the nodes: they begin where they did
-pub raise_nodes-start : (m : Interval) (v : OwnedTime) (ns : List Node) →
+pub raise_nodes-start : (m : SpanView) (v : ValueView) (ns : List Node) →
     next_cut (node_stretches (raise_nodes m v ns)) ≡ next_cut (node_stretches ns)
 raise_nodes-start m v [] = refl
 raise_nodes-start m v (n ∷ ns) = refl
 
-raise_nodes-stretches : (m : Interval) (v : OwnedTime) (ns : List Node) →
+raise_nodes-stretches : (m : SpanView) (v : ValueView) (ns : List Node) →
     raise m v (node_stretches ns) ≡ node_stretches (raise_nodes m v ns)
 raise_nodes-stretches m v [] = refl
 raise_nodes-stretches m v (n ∷ ns) =
@@ -97,18 +97,18 @@ raise_nodes-stretches m v (n ∷ ns) =
 
 -- A value added to a span whose cuts are nodes' joins the answer to each span that overlaps it, and
 -- changes no other.
-pub raise_nodes_answers : (f t : Cut) (v : OwnedTime) (ns : List Node) → IsSorted ns →
-    HasCut f (node_stretches ns) → (t ≡ last) ⊎ HasCut t (node_stretches ns) → (s : Interval)
+pub raise_nodes_answers : (f t : Cut) (v : ValueView) (ns : List Node) → IsSorted ns →
+    HasCut f (node_stretches ns) → (t ≡ last) ⊎ HasCut t (node_stretches ns) → (s : SpanView)
     → answer_of (raise_nodes (between f t) v ns) s ≡ cond (overlaps (between f t) s)
     (joint (answer_of ns s) (v ∷ [])) (answer_of ns s)
 raise_nodes_answers f t v ns sorted at_start at_end s =
     ap (joint_above zero_time) (sym (values_over-is s (stretches (raise_nodes m v ns))))
     ∙ ap (answer_over s) (sym all)
     ∙ raise_answers f t v below_nodes (node_stretches ns) (parts f at_start) end_parts (lowest f) s
-    ∙ ap (λ (w : OwnedTime). cond (overlaps (between f t) s) (joint w (v ∷ [])) w)
+    ∙ ap (λ (w : ValueView). cond (overlaps (between f t) s) (joint w (v ∷ [])) w)
     (ap (joint_above zero_time) (values_over-is s (stretches ns)))
   where
-    m : Interval
+    m : SpanView
     m = between f t
 
     up : Rising (node_stretches ns)
@@ -131,12 +131,12 @@ raise_nodes_answers f t v ns sorted at_start at_end s =
     kept : raised m v below_nodes (next_cut (node_stretches ns)) ≡ unowned zero_time
     kept = elim (cases_Bool (overlaps (between (before []) (next_cut (node_stretches ns))) m)) [
       | inl h ↦ absurd (Lt-not_Le f (next_cut (node_stretches ns))
-          (overlaps-tells (before []) (next_cut (node_stretches ns)) f t h).2
+          (overlaps-reports (before []) (next_cut (node_stretches ns)) f t h).2
           (first_low f (node_stretches ns) up at_start))
       | inr h ↦ rw h refl
     ]
 
     all : raise m v (stretches ns) ≡ stretches (raise_nodes m v ns)
-    all = ap (λ (w : OwnedTime). record { from = before []; value = w } ∷
+    all = ap (λ (w : ValueView). record { from = before []; value = w } ∷
         raise m v (node_stretches ns)) kept ∙
         ap (λ (xs : List Stretch). below_nodes ∷ xs) (raise_nodes-stretches m v ns)

@@ -3,27 +3,27 @@ use Rattle.std.proofs.Common.{◌≡◌, inl, inr, ◌∙◌, refl, sym, ap, sub
 use Rattle.std.specs.List.{insert}
 use Rattle.std.specs.Str.{bytes_eq}
 use Rattle.std.proofs.lemmas.Slice.Eq.{bytes_eq-Decides}
-use Rattle.tsc_time.specs.OwnedTime.{OwnedTime}
+use Rattle.tsc_time.specs.ValueView.{ValueView}
 use Rattle.std.proofs.lemmas.Bool.{cases_Bool}
-use Rattle.tsc_span.specs.Span.{KeyBytes, Cut, before, after, Interval}
-use Rattle.tsc_page_nodes.specs.PageView.{is_in}
+use Rattle.tsc_span.specs.Span.{KeyBytes, Cut, before, after, SpanView}
+use Rattle.tsc_page_model.specs.PageView.{is_in}
 use Rattle.tsc_page_nodes.specs.Nodes.{Node, next_cut, node_stretches, node_keys, IsSorted, FitsAt, node_in_gap, gap_value, raise_nodes}
 use Rattle.tsc_page_nodes.proofs.Cuts.{first_low, rising_nodes, cuts_of_key}
-use Rattle.tsc_page_nodes.proofs.CutOrder.{Lt, Le, Lt-from_Le_sides, before-after, Lt-chain, Le-chain, Le-from_Lt, Lt-not_Le}
+use Rattle.tsc_span.proofs.CutOrder.{Lt, Le, Lt-from_Le_sides, before-after, Lt-chain, Le-chain, Le-from_Lt, Lt-not_Le}
 
 -- raising keeps the keys
-pub raise_nodes-keys : (m : Interval) (v : OwnedTime) (ns : List Node) →
+pub raise_nodes-keys : (m : SpanView) (v : ValueView) (ns : List Node) →
     node_keys (raise_nodes m v ns) ≡ node_keys ns
 raise_nodes-keys m v [] = refl
 raise_nodes-keys m v (n ∷ ns) = ap (λ ks. n.key ∷ ks) (raise_nodes-keys m v ns)
 
-pub raise_nodes-length : (m : Interval) (v : OwnedTime) (ns : List Node) →
+pub raise_nodes-length : (m : SpanView) (v : ValueView) (ns : List Node) →
     length (raise_nodes m v ns) ≡ length ns
 raise_nodes-length m v [] = refl
 raise_nodes-length m v (n ∷ ns) = ap suc (raise_nodes-length m v ns)
 
 -- and their order
-pub raise_nodes-sorted : (m : Interval) (v : OwnedTime) (ns : List Node) → IsSorted ns →
+pub raise_nodes-sorted : (m : SpanView) (v : ValueView) (ns : List Node) → IsSorted ns →
     IsSorted (raise_nodes m v ns)
 raise_nodes-sorted m v [] sorted = tt
 raise_nodes-sorted m v (n ∷ []) sorted = sorted
@@ -57,7 +57,7 @@ past q n (o ∷ os) (suc i) sorted fits =
 
 -- of two new keys the smaller one still fits in its place once the greater has a node, and the
 -- greater one's place was no lower
-pub FitsAt-below : (k m : KeyBytes) (v : OwnedTime) (low : Cut) (ns : List Node) (i j : ℕ) →
+pub FitsAt-below : (k m : KeyBytes) (v : ValueView) (low : Cut) (ns : List Node) (i j : ℕ) →
     Lt (after k) (before m) → IsSorted ns → FitsAt k low ns i → FitsAt m low ns j →
     FitsAt k low (insert ns j (node_in_gap m v)) i
 FitsAt-below k m v low ns zero zero up sorted fits other = (fits.0, up)
@@ -113,7 +113,7 @@ insert-keys q n (o ∷ ns) (suc i) = ap (λ b. bytes_eq q o.key || b) (insert-ke
     swapped false b c = refl
 
 -- the gap before a place is that of the node before it
-pub gap_value-at : (v : OwnedTime) (ns : List Node) (i : ℕ) (d : Node) → 1 ≤ i → i ≤ length ns →
+pub gap_value-at : (v : ValueView) (ns : List Node) (i : ℕ) (d : Node) → 1 ≤ i → i ≤ length ns →
     gap_value v ns i ≡ (get_or ns (i - 1) d).gap
 gap_value-at v ns zero d h g = absurd (omega arith)
 gap_value-at v [] (suc i) d h g = absurd (omega arith)

@@ -11,11 +11,11 @@ use Rattle.std.proofs.Math.Bool.{or-true}
 use Rattle.std.proofs.lemmas.Map.Text.{is_eq-slice_cmp}
 use Rattle.std.proofs.lemmas.Slice.Eq.{bytes_eq-Decides}
 use Rattle.std.proofs.lemmas.Bool.{cases_Bool}
-use Rattle.tsc_span.specs.Span.{KeyBytes, key_cmp, Cut, before, after, last, Interval, nothing, between, key_of_cut, different_keys, end_keys, is_below}
-use Rattle.tsc_page_nodes.specs.PageView.{is_in}
+use Rattle.tsc_span.specs.Span.{KeyBytes, key_cmp, Cut, before, after, last, between, different_keys, end_keys, is_below}
+use Rattle.tsc_page_model.specs.PageView.{is_in}
 use Rattle.tsc_page_nodes.specs.Nodes.{Node, node_keys, node_stretches, IsInOrder}
-use Rattle.tsc_page_nodes.proofs.CutOrder.{Lt, after-before}
-use Rattle.tsc_page_nodes.proofs.DistinctKeys.{bytes_eq-itself, has_no_repeats}
+use Rattle.tsc_span.proofs.CutOrder.{Lt, after-before}
+use Rattle.tsc_page_model.proofs.DistinctKeys.{bytes_eq-itself}
 use Rattle.tsc_page_nodes.proofs.Cuts.{HasCut, cuts_of_key}
 
 -- a span's first end key is one of them, and so is the second
@@ -115,15 +115,3 @@ ends_in_order last t (Some k) (Some m) up same = absurd (none t up)
     none (before q) h = true≢false (sym h)
     none (after q) h = true≢false (sym h)
     none last h = true≢false (sym h)
-
-different_once : (o p : Option KeyBytes) → has_no_repeats (different_keys o p) ≡ true
-different_once None None = refl
-different_once None (Some m) = refl
-different_once (Some k) None = refl
-different_once (Some k) (Some m) =
-    elim (cases_Bool (bytes_eq k m)) [ inl h ↦ rw h refl | inr h ↦ rw h (rw h refl) ]
-
--- a span's end keys have no repeats
-pub end_keys_once : (s : Interval) → has_no_repeats (end_keys s) ≡ true
-end_keys_once nothing = refl
-end_keys_once (between f t) = different_once (key_of_cut f) (key_of_cut t)

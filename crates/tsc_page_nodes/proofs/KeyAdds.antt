@@ -1,24 +1,24 @@
 -- A value that is added at a single key.
 use Rattle.std.proofs.Common.{◌≡◌, ◌∙◌, refl, sym, ap, subst, ℕ, zero, suc, ◌+◌, ◌<◌, ◌≤◌, List, [], ◌∷◌, length, get_or, set, arith}
 use Rattle.std.specs.Prelude.{Some, None, Ok}
-use Rattle.tsc_time.specs.OwnedTime.{OwnedTime}
+use Rattle.tsc_time.specs.ValueView.{ValueView}
 use Rattle.tsc_time.specs.Joint.{joint}
 use Rattle.tsc_span.specs.Span.{KeyBytes, before, after, point, key_cost}
 use Rattle.tsc_page_nodes.specs.declared.nodes.Values.{Values}
 use Rattle.tsc_page_nodes.specs.declared.nodes.Growth.{Growth}
 use Rattle.tsc_page_nodes.specs.Nodes.{Node, next_cut, node_stretches, paired, IsSorted, StandsAt, FallsAt, with_new, raise_nodes, nodes_cost}
 use Rattle.tsc_page_nodes.specs.KeyAdds.{AddsAtKey}
-use Rattle.tsc_page_nodes.proofs.CutOrder.{Lt, Le, Le-itself, Le-from_Lt, Lt-chain, before-after}
-use Rattle.tsc_page_nodes.proofs.Places.{places_found, sorted_at}
+use Rattle.tsc_span.proofs.CutOrder.{Lt, Le, Le-itself, Le-from_Lt, Lt-chain, before-after}
+use Rattle.tsc_page_nodes.proofs.Indices.{indices_found, sorted_at}
 use Rattle.tsc_page_nodes.proofs.Apart.{key_changed}
-use Rattle.tsc_page_nodes.proofs.RaisedNodes.{ChangesPlaces, key_raised, gap_raised, none_changed, both_changed}
+use Rattle.tsc_page_nodes.proofs.RaisedNodes.{ChangesIndices, key_raised, gap_raised, none_changed, both_changed}
 use Rattle.tsc_page_nodes.proofs.Edits.{raise_nodes-length}
 use Rattle.tsc_page_nodes.proofs.Costs.{cost-raised, cost-new}
 use Rattle.tsc_page_nodes.proofs.NewKeys.{new_fits, with_new-length}
 use Rattle.tsc_page_nodes.proofs.Searches.{known_at, new_at}
 
 -- where a key stands its value alone is raised
-pub raised_there : (ks : List KeyBytes) (vs : List Values) (k : KeyBytes) (i : ℕ) (v : OwnedTime)
+pub raised_there : (ks : List KeyBytes) (vs : List Values) (k : KeyBytes) (i : ℕ) (v : ValueView)
     (n d : Values) → length ks ≡ length vs → IsSorted (paired ks vs) → StandsAt (paired ks vs) k i →
     i < length vs
     → n ≡ record { value = joint (get_or vs i d).value (v ∷ []); gap = (get_or vs i d).gap } →
@@ -26,13 +26,13 @@ pub raised_there : (ks : List KeyBytes) (vs : List Values) (k : KeyBytes) (i : �
 raised_there ks vs k i v n d same sorted at within is =
     let ns : List Node = paired ks vs in
     let new : List Node = paired ks (set vs i n) in
-    let found = places_found ns sorted (before k) (after k) (before-after k) (Ok i) (Ok i) at at in
-    let changed : ChangesPlaces (key_raised v) ns new i (i + 1) =
+    let found = indices_found ns sorted (before k) (after k) (before-after k) (Ok i) (Ok i) at at in
+    let changed : ChangesIndices (key_raised v) ns new i (i + 1) =
     key_changed v ns ks vs i i n d same (omega arith) within is
     (none_changed (key_raised v) ns i) in
     let next : i + 1 ≡ suc i = omega arith in
     both_changed (point k) v ns new new i (suc i) i i found.0 found.1
-    (subst (ChangesPlaces (key_raised v) ns new i) next changed)
+    (subst (ChangesIndices (key_raised v) ns new i) next changed)
     (none_changed (gap_raised v) new i)
 
 -- a key that stands among nodes isn't below them
@@ -59,7 +59,7 @@ falls_low (n ∷ ns) k i some falls =
     (falls.low.below zero n (omega (arith, some))))
 
 -- a key that has a node
-pub known_added : (ns new : List Node) (k : KeyBytes) (v : OwnedTime) (i : ℕ) (room : Growth) →
+pub known_added : (ns new : List Node) (k : KeyBytes) (v : ValueView) (i : ℕ) (room : Growth) →
     IsSorted ns → StandsAt ns k i → new ≡ raise_nodes (point k) v ns →
     AddsAtKey ns new (record { key = k; value = v }) room (record { nodes = 0; bytes = 0 })
 known_added ns new k v i room sorted at is = record {
@@ -84,7 +84,7 @@ known_added ns new k v i room sorted at is = record {
 }
 
 -- and one that gets one
-pub new_added : (ns new : List Node) (k : KeyBytes) (v : OwnedTime) (i cost : ℕ) (room : Growth) →
+pub new_added : (ns new : List Node) (k : KeyBytes) (v : ValueView) (i cost : ℕ) (room : Growth) →
     1 ≤ i → FallsAt ns k i → cost ≡ key_cost k → 1 ≤ room.nodes → cost ≤ room.bytes →
     new ≡ raise_nodes (point k) v (with_new ns (Some (i, k)))
     → AddsAtKey ns new (record { key = k; value = v }) room (record { nodes = 1; bytes = cost })

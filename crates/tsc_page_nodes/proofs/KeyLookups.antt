@@ -2,12 +2,12 @@
 use Rattle.std.proofs.Common.{◌≡◌, ◌⊎◌, refl, subst, ℕ, suc, ◌+◌, ◌-◌, ◌≤◌, List, [], ◌∷◌, get_or, Ok, Err, arith}
 use Rattle.std.proofs.lemmas.Slice.Eq.{bytes_eq-Decides}
 use Rattle.tsc_time.specs.Time.{zero_time}
-use Rattle.tsc_time.specs.OwnedTime.{OwnedTime, unowned}
+use Rattle.tsc_time.specs.ValueView.{ValueView, unowned}
 use Rattle.tsc_time.specs.Joint.{joint}
 use Rattle.tsc_span.specs.Span.{KeyBytes, before, after, point, end_keys}
 use Rattle.tsc_page_nodes.specs.Nodes.{Node, IsSorted, StandsAt, FallsAt, HoldsGapsOn, answer_of}
-use Rattle.tsc_page_nodes.proofs.CutOrder.{before-after}
-use Rattle.tsc_page_nodes.proofs.Places.{places_found}
+use Rattle.tsc_span.proofs.CutOrder.{before-after}
+use Rattle.tsc_page_nodes.proofs.Indices.{indices_found}
 use Rattle.tsc_page_nodes.proofs.Seen.{IsJointOf, KeySeen, KeyMet, GapSeen, none_seen, key_seen, gap_seen, keys_met, all_seen}
 
 -- a single key is the one end key
@@ -23,8 +23,8 @@ pub value_there : (ns : List Node) (k : KeyBytes) (i : ℕ) (d : Node) → IsSor
     StandsAt ns k i → joint (unowned zero_time) ((get_or ns i d).value ∷ []) ≡
     answer_of ns (point k)
 value_there ns k i d sorted at =
-    let found = places_found ns sorted (before k) (after k) (before-after k) (Ok i) (Ok i) at at in
-    let best : OwnedTime = joint (unowned zero_time) ((get_or ns i d).value ∷ []) in
+    let found = indices_found ns sorted (before k) (after k) (before-after k) (Ok i) (Ok i) at at in
+    let best : ValueView = joint (unowned zero_time) ((get_or ns i d).value ∷ []) in
     let next : i + 1 ≡ suc i = omega arith in
     let seen = subst (λ (j : ℕ). IsJointOf (KeySeen ns i j) best) next
     (key_seen ns i i d (unowned zero_time) (omega arith) at.bound (none_at ns i)) in
@@ -35,9 +35,9 @@ pub value_between : (ns : List Node) (k : KeyBytes) (i : ℕ) (d : Node) → IsS
     FallsAt ns k i → joint (unowned zero_time) ((get_or ns (i - 1) d).gap ∷ []) ≡
     answer_of ns (point k)
 value_between ns k i d sorted some falls =
-    let found = places_found ns sorted (before k) (after k) (before-after k) (Err i) (Err i) falls
+    let found = indices_found ns sorted (before k) (after k) (before-after k) (Err i) (Err i) falls
     falls in
-    let best : OwnedTime = joint (unowned zero_time) ((get_or ns (i - 1) d).gap ∷ []) in
+    let best : ValueView = joint (unowned zero_time) ((get_or ns (i - 1) d).gap ∷ []) in
     let next : i - 1 + 1 ≡ i = omega (arith, some) in
     let met = keys_met ns (point k) i i (i - 1) (unowned zero_time) found.0 (none_at ns i) in
     let seen = gap_seen ns (KeyMet ns (point k)) (i - 1) (i - 1) d (unowned zero_time) (omega arith)
@@ -50,7 +50,7 @@ value_between ns k i d sorted some falls =
 pub value_below : (ns : List Node) (k : KeyBytes) (i : ℕ) → IsSorted ns → i ≡ 0 → FallsAt ns k i →
     unowned zero_time ≡ answer_of ns (point k)
 value_below ns k i sorted none falls =
-    let found = places_found ns sorted (before k) (after k) (before-after k) (Err i) (Err i) falls
+    let found = indices_found ns sorted (before k) (after k) (before-after k) (Err i) (Err i) falls
     falls in
     let low : i - 1 ≡ i = omega (arith, none) in
     all_seen ns (point k) i i (unowned zero_time)

@@ -6,9 +6,9 @@ use Rattle.std.specs.List.Sorted.{IsPartitionPoint, IsPartitionedBy}
 use Rattle.tsc_span.specs.Span.{KeyBytes, Cut, before, after, is_below}
 use Rattle.tsc_page_nodes.specs.declared.nodes.Values.{Values}
 use Rattle.tsc_page_nodes.specs.Nodes.{Node, paired, node_keys, IsSorted}
-use Rattle.tsc_page_nodes.specs.KeysAbove.{first_above}
-use Rattle.tsc_page_nodes.proofs.CutOrder.{Lt, Lt-chain, before-after}
-use Rattle.tsc_page_nodes.proofs.Places.{before_or_past, some_node, sorted_at}
+use Rattle.tsc_page_model.specs.KeysAbove.{first_above}
+use Rattle.tsc_span.proofs.CutOrder.{Lt, Lt-chain, before-after}
+use Rattle.tsc_page_nodes.proofs.Indices.{before_or_past, some_node, sorted_at}
 use Rattle.tsc_page_nodes.proofs.Apart.{key_at, long_as, paired-keys}
 
 -- whether the place right before a key lies below a cut

@@ -1,11 +1,9 @@
-pub mod CutOrder
 pub mod Prefixes
 pub mod PrefixExamples
 pub mod Answers
 pub mod Splits
 pub mod Raises
-pub mod Places
-pub mod DistinctKeys
+pub mod Indices
 pub mod Cuts
 pub mod Edits
 pub mod Searches
@@ -14,13 +12,11 @@ pub mod PairedOrder
 pub mod Seen
 pub mod RaisedNodes
 pub mod NewKeys
-pub mod Lookups
 pub mod Ends
 pub mod Standing
 pub mod Tops
 pub mod Costs
-pub mod ToldPlaces
+pub mod ReportedIndices
 pub mod KeyAdds
 pub mod KeyLookups
 pub mod KeysAbove
-pub mod PageAdds

@@ -9,10 +9,10 @@ use Rattle.std.proofs.lemmas.Slice.Eq.{bytes_eq-Decides}
 use Rattle.std.proofs.lemmas.List.Folds.{list_any-append}
 use Rattle.std.proofs.lemmas.List.Edits.{length-insert}
 use Rattle.tsc_time.specs.Time.{zero_time}
-use Rattle.tsc_time.specs.OwnedTime.{unowned}
+use Rattle.tsc_time.specs.ValueView.{unowned}
 use Rattle.std.proofs.lemmas.Bool.{cases_Bool}
 use Rattle.tsc_span.specs.Span.{KeyBytes, before, after, is_below}
-use Rattle.tsc_page_nodes.specs.PageView.{is_in, is_new_among}
+use Rattle.tsc_page_model.specs.PageView.{is_in, is_new_among}
 use Rattle.tsc_page_nodes.specs.Nodes.{Node, node_keys, IsSorted, FitsAt, FitsIn, IsNewKey, IsInOrder, IsSplitAt, MakesNodes, new_count, with_new, node_in_gap, gap_value}
 use Rattle.tsc_page_nodes.proofs.Splits.{split_answers}
 use Rattle.tsc_page_nodes.proofs.Edits.{insert-sorted, insert-keys, FitsAt-below, FitsAt-absent}

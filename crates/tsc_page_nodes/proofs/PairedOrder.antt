@@ -3,11 +3,11 @@ use Rattle.std.proofs.Common.{◌≡◌, refl, sym, subst, ℕ, zero, suc, List,
 use Rattle.std.specs.Prelude.{Option, Some, None, Result, Err, OnErr}
 use Rattle.std.proofs.lemmas.List.{length-drop}
 use Rattle.tsc_time.specs.Time.{zero_time}
-use Rattle.tsc_time.specs.OwnedTime.{OwnedTime, unowned}
-use Rattle.tsc_span.specs.Span.{KeyBytes, Interval, before, after}
+use Rattle.tsc_time.specs.ValueView.{ValueView, unowned}
+use Rattle.tsc_span.specs.Span.{KeyBytes, SpanView, before, after}
 use Rattle.tsc_page_nodes.specs.declared.nodes.Values.{Values}
 use Rattle.tsc_page_nodes.specs.Nodes.{Node, paired, IsSorted, ArePaired, FitsIn, with_new, node_in_gap, gap_value, next_cut, node_stretches, raise_nodes}
-use Rattle.tsc_page_nodes.proofs.CutOrder.{Lt}
+use Rattle.tsc_span.proofs.CutOrder.{Lt}
 use Rattle.tsc_page_nodes.proofs.Edits.{raise_nodes-sorted, insert-sorted}
 use Rattle.tsc_page_nodes.proofs.Apart.{paired-take, paired-drop}
 
@@ -23,7 +23,7 @@ pub paired_by : (ks : List KeyBytes) (vs : List Values) (ns : List Node) → len
     paired ks vs ≡ ns → IsSorted ns → ArePaired ks vs
 paired_by ks vs ns same is sorted = record { same = same; sorted = subst IsSorted (sym is) sorted }
 
-pub paired_raised : (ks : List KeyBytes) (vs : List Values) (m : Interval) (v : OwnedTime)
+pub paired_raised : (ks : List KeyBytes) (vs : List Values) (m : SpanView) (v : ValueView)
     (ns : List Node) → length ks ≡ length vs → paired ks vs ≡ raise_nodes m v ns → IsSorted ns →
     ArePaired ks vs
 paired_raised ks vs m v ns same is sorted =
@@ -88,7 +88,7 @@ paired_single (k ∷ []) (v ∷ w ∷ vs) keys values = absurd (omega (arith, va
 paired_single (k ∷ m ∷ ks) vs keys values = absurd (omega (arith, keys))
 
 -- other values, which are those raised
-pub raised_pair : (ks ls : List KeyBytes) (vs ws : List Values) (m : Interval) (v : OwnedTime) →
+pub raised_pair : (ks ls : List KeyBytes) (vs ws : List Values) (m : SpanView) (v : ValueView) →
     ls ≡ ks → length ls ≡ length ws → paired ls ws ≡ raise_nodes m v (paired ls vs) →
     ArePaired ks vs → ArePaired ks ws
 raised_pair ks ls vs ws m v keys same raised are =

@@ -7,9 +7,9 @@ use Rattle.std.specs.Cmp.{nat_cmp_is}
 use Rattle.std.proofs.lemmas.List.{take_all}
 use Rattle.tsc_span.specs.Span.{KeyBytes, key_cmp, Cut, before, after, last, is_below}
 use Rattle.tsc_page_nodes.specs.Prefixes.{spelled, prefix_of, IsPrefixOf, IsCutPrefix}
-use Rattle.tsc_span.proofs.CutOrder.{key_cmp_back}
+use Rattle.tsc_span.proofs.CutsTotal.{key_cmp_back}
 use Rattle.tsc_span.proofs.Spelling.{Small, tail_small, rises, which, spelled_order, same_byte, same_behind, behind_same}
-use Rattle.tsc_page_nodes.proofs.CutOrder.{Lt, Le-from_Lt}
+use Rattle.tsc_span.proofs.CutOrder.{Lt, Le-from_Lt}
 
 -- of keys that spell the same a shorter one is a beginning of the other, where it has no more bytes
 -- than are spelled
@@ -54,9 +54,9 @@ past m n k at_m at_n h = let up : prefix_of k < 2 ^ 192 =
     rises 24 0 1 k [] at_n.small (omega arith) in omega (arith, at_m, at_n.prefix)
 
 -- the other way round too
-pub comparison_told : (m n : ℕ) (j k : KeyBytes) (o : Ordering) → IsPrefixOf m j → IsPrefixOf n k →
-    o ≡ nat_cmp m n → (o ≡ Equal → ⊥) → o ≡ key_cmp j k
-comparison_told m n j k o at_j at_k e apart = elim (which m n) [
+pub comparison_reported : (m n : ℕ) (j k : KeyBytes) (o : Ordering) → IsPrefixOf m j →
+    IsPrefixOf n k → o ≡ nat_cmp m n → (o ≡ Equal → ⊥) → o ≡ key_cmp j k
+comparison_reported m n j k o at_j at_k e apart = elim (which m n) [
   | inl l ↦ e ∙ sym (nat_cmp_is m n Less l) ∙ sym (prefix_order m n j k at_j at_k l)
   | inr r ↦ elim r [
     | inl q ↦ absurd (apart (e ∙ sym (nat_cmp_is m n Equal q)))
@@ -92,11 +92,11 @@ not_its_prefix m n c at_m apart at_n =
     elim apart [ inl h ↦ omega arith | inr h ↦ omega arith ]
 
 -- a cut of a smaller prefix lies below
-pub below_told : (m n : ℕ) (a b : Cut) → IsCutPrefix m a → IsCutPrefix n b → m < n →
+pub below_reported : (m n : ℕ) (a b : Cut) → IsCutPrefix m a → IsCutPrefix n b → m < n →
     true ≡ is_below a b
-below_told m n a b at_a at_b l = sym (cut_order m n a b at_a at_b l)
+below_reported m n a b at_a at_b l = sym (cut_order m n a b at_a at_b l)
 
 -- and one of a greater prefix doesn't
-pub not_below_told : (m n : ℕ) (a b : Cut) → IsCutPrefix m a → IsCutPrefix n b → n < m →
+pub not_below_reported : (m n : ℕ) (a b : Cut) → IsCutPrefix m a → IsCutPrefix n b → n < m →
     false ≡ is_below a b
-not_below_told m n a b at_a at_b l = sym (Le-from_Lt b a (cut_order n m b a at_b at_a l))
+not_below_reported m n a b at_a at_b l = sym (Le-from_Lt b a (cut_order n m b a at_b at_a l))

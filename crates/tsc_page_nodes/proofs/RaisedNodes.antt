@@ -1,22 +1,22 @@
 -- Nodes in which the keys of some places are raised, and the gaps of some.
 use Rattle.std.proofs.Common.{◌≡◌, inl, inr, ◌∙◌, refl, sym, ap, subst, Bool, true, false, cond, ℕ, zero, suc, ◌+◌, ◌<◌, ◌≤◌, List, [], ◌∷◌, length, get_or, set, arith}
 use Rattle.std.proofs.lemmas.List.{get_or_default, get_or-set_same, get_or-set_other, length-set, same_lists}
-use Rattle.tsc_time.specs.OwnedTime.{OwnedTime}
+use Rattle.tsc_time.specs.ValueView.{ValueView}
 use Rattle.tsc_time.specs.Joint.{joint}
-use Rattle.tsc_span.specs.Span.{Interval, overlaps}
+use Rattle.tsc_span.specs.Span.{SpanView, overlaps}
 use Rattle.tsc_page_nodes.specs.Nodes.{Node, key_span, gap_span, raise_nodes, HoldsKeysOn, HoldsGapsOn}
 use Rattle.tsc_page_nodes.proofs.Edits.{raise_nodes-length}
-use Rattle.tsc_page_nodes.proofs.Places.{before_or_past}
+use Rattle.tsc_page_nodes.proofs.Indices.{before_or_past}
 
 -- a node with its key's value raised
-abbrev pub key_raised : OwnedTime → Node → Node
+abbrev pub key_raised : ValueView → Node → Node
 key_raised v n = record { key = n.key; value = joint n.value (v ∷ []); gap = n.gap }
 
-abbrev pub gap_raised : OwnedTime → Node → Node
+abbrev pub gap_raised : ValueView → Node → Node
 gap_raised v n = record { key = n.key; value = n.value; gap = joint n.gap (v ∷ []) }
 
 -- the places from first up to i are changed, and no other
-pub record ChangesPlaces (change : Node → Node) (old new : List Node) (first i : ℕ) : Type 0 where
+pub record ChangesIndices (change : Node → Node) (old new : List Node) (first i : ℕ) : Type 0 where
   pub as_long : length new ≡ length old
   pub changed : (j : ℕ) (d : Node) → first ≤ j → j < i → j < length old →
       get_or new j d ≡ change (get_or old j d)
@@ -24,7 +24,7 @@ pub record ChangesPlaces (change : Node → Node) (old new : List Node) (first i
   pub above : (j : ℕ) (d : Node) → i ≤ j → get_or new j d ≡ get_or old j d
 
 pub none_changed : (change : Node → Node) (ns : List Node) (first : ℕ) →
-    ChangesPlaces change ns ns first first
+    ChangesIndices change ns ns first first
 none_changed change ns first = record {
   as_long = refl;
   changed = λ j d h g l. absurd (omega (arith, h, g));
@@ -36,7 +36,7 @@ none_changed change ns first = record {
 -- one more place is changed
 pub one_changed : (change : Node → Node) (old now : List Node) (first i : ℕ) (n d : Node) →
     first ≤ i → i < length old → n ≡ change (get_or now i d) →
-    ChangesPlaces change old now first i → ChangesPlaces change old (set now i n) first (i + 1)
+    ChangesIndices change old now first i → ChangesIndices change old (set now i n) first (i + 1)
 one_changed change old now first i n d low within is so_far = record {
   as_long = length-set now i n ∙ so_far.as_long;
   changed = λ j e h g l. elim (before_or_past j i) [
@@ -54,7 +54,7 @@ one_changed change old now first i n d low within is so_far = record {
       so_far.above j e (omega (arith, h));
 }
 
-raise_nodes-at : (m : Interval) (v : OwnedTime) (ns : List Node) (j : ℕ) (d : Node) → j < length ns
+raise_nodes-at : (m : SpanView) (v : ValueView) (ns : List Node) (j : ℕ) (d : Node) → j < length ns
     → get_or (raise_nodes m v ns) j d ≡ record {
       key = (get_or ns j d).key;
       value = cond (overlaps (key_span (get_or ns j d)) m) (joint (get_or ns j d).value (v ∷ []))
@@ -68,7 +68,7 @@ raise_nodes-at m v (n ∷ ns) (suc j) d h = raise_nodes-at m v ns j d (omega ari
 
 -- a place that is changed where a test says so
 changed_where : (change : Node → Node) (old new : List Node) (first past j : ℕ) (d : Node)
-    (b : Bool) → ChangesPlaces change old new first past → j < length old
+    (b : Bool) → ChangesIndices change old new first past → j < length old
     → (first ≤ j → j < past → b ≡ true) → (j < first → b ≡ false) → (past ≤ j → b ≡ false) →
     get_or new j d ≡ cond b (change (get_or old j d)) (get_or old j d)
 changed_where change old new first past j d b changes h within below above =
@@ -81,10 +81,10 @@ changed_where change old new first past j d b changes h within below above =
     ]
 
 -- where the keys that overlap a span are raised, and then the gaps, the nodes are raised
-pub both_changed : (s : Interval) (v : OwnedTime) (old mid new : List Node)
+pub both_changed : (s : SpanView) (v : ValueView) (old mid new : List Node)
     (first past start end : ℕ) → HoldsKeysOn old s first past → HoldsGapsOn old s start end →
-    ChangesPlaces (key_raised v) old mid first past →
-    ChangesPlaces (gap_raised v) mid new start end → new ≡ raise_nodes s v old
+    ChangesIndices (key_raised v) old mid first past →
+    ChangesIndices (gap_raised v) mid new start end → new ≡ raise_nodes s v old
 both_changed s v old mid new first past start end keys gaps keys_changed gaps_changed =
     same_lists new (raise_nodes s v old)
     (gaps_changed.as_long ∙ keys_changed.as_long ∙ sym (raise_nodes-length s v old)) at

@@ -2,19 +2,19 @@
 use Rattle.std.proofs.Common.{◌≡◌, ◌⊎◌, inl, inr, ◌∙◌, refl, sym, ap, Bool, true, false, cond, List, [], ◌∷◌}
 use mathlib.Core.Bool.{true≢false}
 use Rattle.tsc_time.specs.Time.{zero_time}
-use Rattle.tsc_time.specs.OwnedTime.{OwnedTime, unowned}
+use Rattle.tsc_time.specs.ValueView.{ValueView, unowned}
 use Rattle.tsc_time.specs.Joint.{joint, IsAtMost}
 use Rattle.tsc_time.proofs.Members.{Contains-from_IsIn, IsIn-from_Contains}
 use Rattle.tsc_time.proofs.RatchetOrder.{IsAtMost-itself, IsAtMost-antisymmetric, IsAtMost-transitive}
 use Rattle.tsc_time.proofs.JointLemmas.{joint-above, joint-least}
 use Rattle.std.proofs.lemmas.Bool.{cases_Bool}
-use Rattle.tsc_span.specs.Span.{Cut, last, Interval, nothing, between, overlaps}
+use Rattle.tsc_span.specs.Span.{Cut, last, SpanView, nothing, between, overlaps}
 use Rattle.tsc_page_nodes.specs.Nodes.{Stretch, next_cut, raised, raise}
-use Rattle.tsc_page_nodes.proofs.CutOrder.{Lt, Le, Meet, Lt-or_Le, Lt-not_Le, Le_Lt-chain, Lt_Le-chain, Le-chain, Le-from_Lt, Le-itself, none_above_last, overlaps-from, overlaps-tells}
+use Rattle.tsc_span.proofs.CutOrder.{Lt, Le, Meet, Lt-or_Le, Lt-not_Le, Le_Lt-chain, Lt_Le-chain, Le-chain, Le-from_Lt, Le-itself, none_above_last, overlaps-from, overlaps-reports}
 use Rattle.tsc_page_nodes.proofs.Answers.{Meets, answer_over, answer-above, answer-above_zero, answer-least}
 
 -- raising moves no cut
-raise_cut : (m : Interval) (v : OwnedTime) (xs : List Stretch) →
+raise_cut : (m : SpanView) (v : ValueView) (xs : List Stretch) →
     next_cut (raise m v xs) ≡ next_cut xs
 raise_cut m v [] = refl
 raise_cut m v (x ∷ xs) = refl
@@ -29,23 +29,23 @@ last_parts [] = tt
 last_parts (x ∷ xs) = (inr (none_above_last (next_cut xs)), last_parts xs)
 
 -- of two values the joint one is above both, and below what is above both
-pub first_below : (v w : OwnedTime) → IsAtMost v (joint v (w ∷ []))
+pub first_below : (v w : ValueView) → IsAtMost v (joint v (w ∷ []))
 first_below v w = joint-above v (w ∷ []) v (Contains-from_IsIn (v ∷ w ∷ []) v (inl refl))
 
-pub second_below : (v w : OwnedTime) → IsAtMost w (joint v (w ∷ []))
+pub second_below : (v w : ValueView) → IsAtMost w (joint v (w ∷ []))
 second_below v w = joint-above v (w ∷ []) w (Contains-from_IsIn (v ∷ w ∷ []) w (inr (inl refl)))
 
-pub both_below : (v w u : OwnedTime) → IsAtMost v u → IsAtMost w u → IsAtMost (joint v (w ∷ [])) u
+pub both_below : (v w u : ValueView) → IsAtMost v u → IsAtMost w u → IsAtMost (joint v (w ∷ [])) u
 both_below v w u p q = joint-least v (w ∷ []) u (λ x c. elim (IsIn-from_Contains (v ∷ w ∷ []) x c) [
   | inl e ↦ rw (← e) p
   | inr i ↦ elim i [ inl e ↦ rw (← e) q | inr j ↦ absurd j ]
 ])
 
 -- a stretch's value once raised: what it was, unless it overlaps
-raised_tells : (m : Interval) (v : OwnedTime) (x : Stretch) (end : Cut) →
+raised_reports : (m : SpanView) (v : ValueView) (x : Stretch) (end : Cut) →
     ((overlaps (between x.from end) m ≡ true) × (raised m v x end ≡ joint x.value (v ∷ []))) ⊎
     ((overlaps (between x.from end) m ≡ false) × (raised m v x end ≡ x.value))
-raised_tells m v x end = by (overlaps (between x.from end) m)
+raised_reports m v x end = by (overlaps (between x.from end) m)
   where
     by : (b : Bool) → ((b ≡ true) ×
         (cond b (joint x.value (v ∷ [])) x.value ≡ joint x.value (v ∷ []))) ⊎
@@ -59,18 +59,18 @@ both_overlap : (f t a b c n : Cut) → Le f c ⊎ Le n f → Le t c ⊎ Le n t �
     overlaps (between c n) (between f t) ≡ true → overlaps (between c n) (between a b) ≡ true →
     overlaps (between f t) (between a b) ≡ true
 both_overlap f t a b c n at_start at_end over seen =
-    let p : Meet c n f t = overlaps-tells c n f t over in
-    let q : Meet c n a b = overlaps-tells c n a b seen in
+    let p : Meet c n f t = overlaps-reports c n f t over in
+    let q : Meet c n a b = overlaps-reports c n a b seen in
     let low : Le f c = elim at_start [ inl h ↦ h | inr h ↦ absurd (Lt-not_Le f n p.2 h) ] in
     let high : Le n t = elim at_end [ inl h ↦ absurd (Lt-not_Le c t p.1 h) | inr h ↦ h ] in
     overlaps-from f t a b (p.3, Le_Lt-chain f c b low q.1, Lt_Le-chain a n t q.2 high, q.3)
 
 -- what is above the old answer, and above the value where the spans overlap, is above each raised
 -- value
-raised_each_below : (f t : Cut) (v : OwnedTime) (s : Interval) (xs : List Stretch) → Parts f xs →
-    Parts t xs → (u : OwnedTime)
-    → ((w : OwnedTime) → Meets s xs w → IsAtMost w u) →
-    (overlaps (between f t) s ≡ true → IsAtMost v u) → (w : OwnedTime) →
+raised_each_below : (f t : Cut) (v : ValueView) (s : SpanView) (xs : List Stretch) → Parts f xs →
+    Parts t xs → (u : ValueView)
+    → ((w : ValueView) → Meets s xs w → IsAtMost w u) →
+    (overlaps (between f t) s ≡ true → IsAtMost v u) → (w : ValueView) →
     Meets s (raise (between f t) v xs) w → IsAtMost w u
 raised_each_below f t v s [] at_start at_end u old new w met = absurd met
 raised_each_below f t v s (x ∷ xs) at_start at_end u old new w (inr met) =
@@ -85,29 +85,29 @@ raised_each_below f t v (between a b) (x ∷ xs) at_start at_end u old new w (in
     ap (λ c. overlaps (between x.from c) (between a b)) (sym (raise_cut (between f t) v xs)) ∙
     met.0 in
     let was : IsAtMost x.value u = old x.value (inl (seen, refl)) in
-    elim (raised_tells (between f t) v x (next_cut xs)) [
+    elim (raised_reports (between f t) v x (next_cut xs)) [
       | inl h ↦ rw (← met.1, h.1) (both_below x.value v u was
           (new (both_overlap f t a b x.from (next_cut xs) at_start.0 at_end.0 h.0 seen)))
       | inr h ↦ rw (← met.1, h.1) was
     ]
 
 -- each old value is at most one that is met once raised
-old_below : (m : Interval) (v : OwnedTime) (s : Interval) (xs : List Stretch) (w : OwnedTime) →
-    Meets s xs w → (y : OwnedTime) × Meets s (raise m v xs) y × IsAtMost w y
+old_below : (m : SpanView) (v : ValueView) (s : SpanView) (xs : List Stretch) (w : ValueView) →
+    Meets s xs w → (y : ValueView) × Meets s (raise m v xs) y × IsAtMost w y
 old_below m v s [] w met = absurd met
 old_below m v s (x ∷ xs) w (inr met) = let r = old_below m v s xs w met in (r.0, inr r.1, r.2)
 old_below m v s (x ∷ xs) w (inl met) = (
   raised m v x (next_cut xs),
   inl (ap (λ c. overlaps (between x.from c) s) (raise_cut m v xs) ∙ met.0, refl),
-  elim (raised_tells m v x (next_cut xs)) [
+  elim (raised_reports m v x (next_cut xs)) [
     | inl h ↦ rw (h.1, ← met.1) (first_below x.value v)
     | inr h ↦ rw (h.1, ← met.1) (IsAtMost-itself x.value)
   ],
 )
 
 -- a stretch that holds a cut of both spans
-new_here : (f t a b g : Cut) (v : OwnedTime) (x : Stretch) (xs : List Stretch) → Le f g → Lt g t →
-    Le a g → Lt g b → Le x.from g → Lt g (next_cut xs) → (y : OwnedTime) ×
+new_here : (f t a b g : Cut) (v : ValueView) (x : Stretch) (xs : List Stretch) → Le f g → Lt g t →
+    Le a g → Lt g b → Le x.from g → Lt g (next_cut xs) → (y : ValueView) ×
     Meets (between a b) (raise (between f t) v (x ∷ xs)) y × IsAtMost v y
 new_here f t a b g v x xs after_f before_t after_a before_b from h =
     let n : Cut = next_cut xs in
@@ -136,8 +136,8 @@ new_here f t a b g v x xs after_f before_t after_a before_b from h =
 
 -- A cut that both spans hold lies in a stretch that both overlap, so the value is at most one that
 -- is met once raised.
-new_below : (f t a b g : Cut) (v : OwnedTime) (x : Stretch) (xs : List Stretch) → Le f g → Lt g t →
-    Le a g → Lt g b → Le x.from g → (y : OwnedTime) ×
+new_below : (f t a b g : Cut) (v : ValueView) (x : Stretch) (xs : List Stretch) → Le f g → Lt g t →
+    Le a g → Lt g b → Le x.from g → (y : ValueView) ×
     Meets (between a b) (raise (between f t) v (x ∷ xs)) y × IsAtMost v y
 new_below f t a b g v x [] after_f before_t after_a before_b from = elim (Lt-or_Le g last) [
   | inl h ↦ new_here f t a b g v x [] after_f before_t after_a before_b from h
@@ -150,8 +150,8 @@ new_below f t a b g v x (y ∷ ys) after_f before_t after_a before_b from = elim
 ]
 
 -- A value added to a span joins the answer to each span that overlaps it, and changes no other.
-pub raise_answers : (f t : Cut) (v : OwnedTime) (x : Stretch) (xs : List Stretch) →
-    Parts f (x ∷ xs) → Parts t (x ∷ xs) → Le x.from f → (s : Interval)
+pub raise_answers : (f t : Cut) (v : ValueView) (x : Stretch) (xs : List Stretch) →
+    Parts f (x ∷ xs) → Parts t (x ∷ xs) → Le x.from f → (s : SpanView)
     → answer_over s (raise (between f t) v (x ∷ xs)) ≡ cond (overlaps (between f t) s)
     (joint (answer_over s (x ∷ xs)) (v ∷ [])) (answer_over s (x ∷ xs))
 raise_answers f t v x xs at_start at_end from s = by (cases_Bool (overlaps (between f t) s))
@@ -162,7 +162,7 @@ raise_answers f t v x xs at_start at_end from s = by (cases_Bool (overlaps (betw
     new : List Stretch
     new = raise (between f t) v all
 
-    before_it : OwnedTime
+    before_it : ValueView
     before_it = answer_over s all
 
     old_kept : IsAtMost before_it (answer_over s new)
@@ -170,11 +170,11 @@ raise_answers f t v x xs at_start at_end from s = by (cases_Bool (overlaps (betw
         (λ w met. let r = old_below (between f t) v s all w met in IsAtMost-transitive w r.0
         (answer_over s new) r.2 (answer-above s new r.0 r.1))
 
-    value_in : (q : Interval) → overlaps (between f t) q ≡ true → (y : OwnedTime) × Meets q new y ×
+    value_in : (q : SpanView) → overlaps (between f t) q ≡ true → (y : ValueView) × Meets q new y ×
         IsAtMost v y
     value_in nothing h = absurd (true≢false (sym h))
     value_in (between a b) h =
-        let p : Meet f t a b = overlaps-tells f t a b h in
+        let p : Meet f t a b = overlaps-reports f t a b h in
         elim (Lt-or_Le f a) [
           | inl g ↦ new_below f t a b a v x xs (Le-from_Lt f a g) p.2 (Le-itself a) p.3
               (Le-chain x.from f a from (Le-from_Lt f a g))

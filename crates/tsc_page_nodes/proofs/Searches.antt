@@ -12,13 +12,13 @@ use Rattle.std.proofs.lemmas.Map.Text.{is_eq-slice_cmp}
 use Rattle.std.proofs.lemmas.Slice.Eq.{bytes_eq-Decides}
 use Rattle.std.proofs.Math.Bool.{or-true}
 use Rattle.tsc_span.specs.Span.{KeyBytes, key_cmp, Cut, before, after, last}
-use Rattle.tsc_page_nodes.specs.PageView.{is_in}
+use Rattle.tsc_page_model.specs.PageView.{is_in}
 use Rattle.tsc_page_nodes.specs.Prefixes.{IsKeyAt}
-use Rattle.tsc_page_nodes.specs.Nodes.{Node, node_keys, IsSorted, FitsAt, HasKeysBelow, StandsAt, FallsAt, IsPlaceOf, IsFoundAt, IsNewKey}
-use Rattle.tsc_page_nodes.proofs.CutOrder.{Lt, Le, Le-from_Lt, after-before, below_last}
+use Rattle.tsc_page_nodes.specs.Nodes.{Node, node_keys, IsSorted, FitsAt, HasKeysBelow, StandsAt, FallsAt, IsCutAt, IsFoundAt, IsNewKey}
+use Rattle.tsc_span.proofs.CutOrder.{Lt, Le, Le-from_Lt, after-before, below_last}
 use Rattle.tsc_page_nodes.proofs.Cuts.{lowest}
 use Rattle.tsc_page_nodes.proofs.Edits.{FitsAt-absent}
-use Rattle.tsc_page_nodes.proofs.Places.{sorted_at, some_node, all_smaller, falls_before}
+use Rattle.tsc_page_nodes.proofs.Indices.{sorted_at, some_node, all_smaller, falls_before}
 
 -- a key before another is less
 less_from_Lt : (k m : KeyBytes) → Lt (after k) (before m) → key_cmp k m ≡ Less
@@ -66,10 +66,10 @@ fits_at ns k i at = fits_from ns i (before []) k at.low.bound (lowest (before k)
     at.high
 
 -- so a search tells whether a key is new
-pub found_told : (k : KeyBytes) (ns : List Node) (r : Result ℕ ℕ) → IsSorted ns → IsFoundAt ns k r →
-    is_err r ≡ not (is_in k (node_keys ns))
-found_told k ns (Ok i) sorted at = rw (known_at ns k i at) refl
-found_told k ns (Err i) sorted at =
+pub found_reported : (k : KeyBytes) (ns : List Node) (r : Result ℕ ℕ) → IsSorted ns →
+    IsFoundAt ns k r → is_err r ≡ not (is_in k (node_keys ns))
+found_reported k ns (Ok i) sorted at = rw (known_at ns k i at) refl
+found_reported k ns (Err i) sorted at =
     rw (FitsAt-absent k ns i (before []) sorted (fits_at ns k i at)) refl
 
 -- and a copy of a new one is a new key there
@@ -103,7 +103,7 @@ greater_here ns sorted k i e low inside greater =
 -- below one that isn't greater are all before it
 pub not_greater_here : (ns : List Node) → IsSorted ns → (k : KeyBytes) (i : ℕ) (e : Node) →
     i < length ns → is_le (key_cmp (get_or ns i e).key k) ≡ true → HasKeysBelow ns k i
-not_greater_here ns sorted k i e inside tells = by (key_cmp (get_or ns i e).key k) refl tells
+not_greater_here ns sorted k i e inside reports = by (key_cmp (get_or ns i e).key k) refl reports
   where
     by : (o : Ordering) → key_cmp (get_or ns i e).key k ≡ o → is_le o ≡ true → HasKeysBelow ns k i
     by Less is t =
@@ -124,7 +124,7 @@ same j k h = cc
 
 -- a cut lies where its key is found
 pub lies_at_key : (ns : List Node) (c : Cut) (k : KeyBytes) (r : Result ℕ ℕ) → IsKeyAt c (Some k) →
-    IsFoundAt ns k r → IsPlaceOf ns c r
+    IsFoundAt ns k r → IsCutAt ns c r
 lies_at_key ns (before j) k r h at = subst (λ (m : KeyBytes). IsFoundAt ns m r) (same j k h) at
 lies_at_key ns (after j) k r h at = subst (λ (m : KeyBytes). IsFoundAt ns m r) (same j k h) at
 lies_at_key ns last k r h at = absurd (clash h)
@@ -134,7 +134,7 @@ lies_at_key ns last k r h at = absurd (clash h)
 
 -- and behind all nodes without one
 pub lies_behind : (ns : List Node) (c : Cut) (n : ℕ) → IsKeyAt c None → n ≡ length ns →
-    IsPlaceOf ns c (Err n)
+    IsCutAt ns c (Err n)
 lies_behind ns (before k) n h e = absurd (clash h)
   where
     clash : None ≡ Some k → ⊥

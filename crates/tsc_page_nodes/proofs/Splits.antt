@@ -2,21 +2,21 @@
 use Rattle.std.proofs.Common.{◌≡◌, ◌⊎◌, inl, inr, ◌∙◌, refl, sym, ap, ℕ, zero, suc, List, [], ◌∷◌}
 use Rattle.std.specs.List.{insert}
 use Rattle.tsc_time.specs.Time.{zero_time}
-use Rattle.tsc_time.specs.OwnedTime.{OwnedTime, unowned}
+use Rattle.tsc_time.specs.ValueView.{ValueView, unowned}
 use Rattle.tsc_time.specs.Joint.{joint_above}
 use Rattle.tsc_time.proofs.RatchetOrder.{IsAtMost-antisymmetric}
-use Rattle.tsc_span.specs.Span.{KeyBytes, Cut, before, after, Interval, nothing, between}
+use Rattle.tsc_span.specs.Span.{KeyBytes, Cut, before, after, SpanView, nothing, between}
 use Rattle.tsc_page_nodes.specs.Nodes.{Node, Stretch, next_cut, node_stretches, stretches, below_nodes, answer_of, gap_value, FitsAt, node_in_gap}
-use Rattle.tsc_page_nodes.proofs.CutOrder.{Le, Meet, Lt-or_Le, Le_Lt-chain, Lt_Le-chain, Le-from_Lt, before-after, overlaps-from, overlaps-tells}
+use Rattle.tsc_span.proofs.CutOrder.{Le, Meet, Lt-or_Le, Le_Lt-chain, Lt_Le-chain, Le-from_Lt, before-after, overlaps-from, overlaps-reports}
 use Rattle.tsc_page_nodes.proofs.Answers.{values_over-is, Meets, answer_over, answer-above, answer-above_zero, answer-least}
 
 -- two lists meet the same values
 abbrev pub MeetsSame : List Stretch → List Stretch → Type 0
-MeetsSame xs ys = (s : Interval) (v : OwnedTime) → (Meets s xs v → Meets s ys v) ×
+MeetsSame xs ys = (s : SpanView) (v : ValueView) → (Meets s xs v → Meets s ys v) ×
     (Meets s ys v → Meets s xs v)
 
 -- and so they answer the same
-pub same_answer : (xs ys : List Stretch) → MeetsSame xs ys → (s : Interval) →
+pub same_answer : (xs ys : List Stretch) → MeetsSame xs ys → (s : SpanView) →
     answer_over s xs ≡ answer_over s ys
 same_answer xs ys same s =
     IsAtMost-antisymmetric (answer_over s xs) (answer_over s ys)
@@ -63,7 +63,7 @@ split_once x d rest low high nothing v = (
 split_once x d rest low high (between a b) v = (
   λ m. elim m [
     | inl h ↦ elim (parted x.from d (next_cut rest) a b low high
-        (overlaps-tells x.from (next_cut rest) a b h.0)) [
+        (overlaps-reports x.from (next_cut rest) a b h.0)) [
           | inl p ↦ inl (overlaps-from x.from d a b p, h.1)
           | inr p ↦ inr (inl (overlaps-from d (next_cut rest) a b p, h.1))
         ]
@@ -72,14 +72,14 @@ split_once x d rest low high (between a b) v = (
   λ m. elim m [
     | inl h ↦ inl (
       overlaps-from x.from (next_cut rest) a b
-          (joined_first x.from d (next_cut rest) a b high (overlaps-tells x.from d a b h.0)),
+          (joined_first x.from d (next_cut rest) a b high (overlaps-reports x.from d a b h.0)),
       h.1,
     )
     | inr h ↦ elim h [
       | inl g ↦ inl (
         overlaps-from x.from (next_cut rest) a b
             (joined_second x.from d (next_cut rest) a b low
-            (overlaps-tells d (next_cut rest) a b g.0)),
+            (overlaps-reports d (next_cut rest) a b g.0)),
         g.1,
       )
       | inr g ↦ inr g
@@ -115,7 +115,7 @@ split_after x (n ∷ ns) (suc i) k fits =
     (MeetsSame-after y (z ∷ node_stretches ns) (z ∷ node_stretches more) refl rest)
 
 pub split_answers : (nodes : List Node) (i : ℕ) (k : KeyBytes) → FitsAt k (before []) nodes i →
-    (s : Interval) → answer_of nodes s ≡
+    (s : SpanView) → answer_of nodes s ≡
     answer_of (insert nodes i (node_in_gap k (gap_value (unowned zero_time) nodes i))) s
 split_answers nodes i k fits s =
     let xs : List Stretch = stretches nodes in

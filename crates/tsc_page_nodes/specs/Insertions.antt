@@ -2,7 +2,7 @@
 use Rattle.std.specs.Prelude.{◌≡◌, ◌≤◌, ◌+◌, ◌⊎◌, ℕ, List, true, Option, Some, None, Result, Ok, Err}
 use Rattle.std.specs.declared.vec.Vec.{Vec}
 use Rattle.std.specs.Vec.{vec_len, vec_capacity}
-use Rattle.tsc_time.specs.OwnedTime.{OwnedTime}
+use Rattle.tsc_time.specs.ValueView.{ValueView}
 use Rattle.tsc_span.specs.Span.{KeyBytes, Cut, before, after, between, is_below}
 use Rattle.tsc_page_nodes.specs.declared.nodes.Growth.{Growth}
 use Rattle.tsc_page_nodes.specs.Nodes.{Node, IsSorted, IsInOrder, FitsIn, with_new, AddsNodes, GrowsBy}
@@ -18,7 +18,7 @@ pub record InsertionView : Type 0 where
   pub second : Option KeyBytes
   pub from : Cut
   pub to : Cut
-  pub value : OwnedTime
+  pub value : ValueView
 
 -- what is added without its second key, for nodes before those that begin at that key
 abbrev pub before_second : InsertionView → InsertionView
@@ -42,11 +42,11 @@ pub record AddsWithin (old new : List Node) (a : InsertionView) (room more : Gro
   pub within : (more.nodes ≤ room.nodes) × (more.bytes ≤ room.bytes)
 
 -- what a call tells that adds, or leaves all as it is
-abbrev pub IsTold : {E : Type 0} → (old new : List Node) → InsertionView → Growth →
+abbrev pub IsReported : {E : Type 0} → (old new : List Node) → InsertionView → Growth →
     Result (Option Growth) E → Type 0
-IsTold old new a room (Ok (Some more)) = AddsWithin old new a room more
-IsTold old new a room (Ok None) = new ≡ old
-IsTold old new a room (Err e) = new ≡ old
+IsReported old new a room (Ok (Some more)) = AddsWithin old new a room more
+IsReported old new a room (Ok None) = new ≡ old
+IsReported old new a room (Err e) = new ≡ old
 
 -- What an Add makes of two lists of nodes, each of which gets a node more at the most.
 pub record AddsToBoth (low new_low high new_high : List Node) (a b : InsertionView) (room : ℕ)
@@ -60,12 +60,12 @@ pub record AddsToBoth (low new_low high new_high : List Node) (a b : InsertionVi
   pub within : more.bytes ≤ room
 
 -- what a call tells that adds to both, or leaves both as they are
-abbrev pub IsBothTold : {E : Type 0} → (low new_low high new_high : List Node) →
+abbrev pub IsBothReported : {E : Type 0} → (low new_low high new_high : List Node) →
     InsertionView → InsertionView → ℕ → Result (Option Growth) E → Type 0
-IsBothTold low new_low high new_high a b room (Ok (Some more)) =
+IsBothReported low new_low high new_high a b room (Ok (Some more)) =
     AddsToBoth low new_low high new_high a b room more
-IsBothTold low new_low high new_high a b room (Ok None) = (new_low ≡ low) × (new_high ≡ high)
-IsBothTold low new_low high new_high a b room (Err e) = (new_low ≡ low) × (new_high ≡ high)
+IsBothReported low new_low high new_high a b room (Ok None) = (new_low ≡ low) × (new_high ≡ high)
+IsBothReported low new_low high new_high a b room (Err e) = (new_low ≡ low) × (new_high ≡ high)
 
 -- Two new keys that fit in nodes, of which the second comes in first.
 pub record AreReady (nodes : List Node) (lower upper : Option (ℕ × KeyBytes)) : Type 0 where

@@ -3,19 +3,19 @@
 use Rattle.std.specs.Prelude.{◌≡◌, ℕ, zero, suc, ◌<◌, ◌≤◌, List, [], ◌∷◌, length, map, drop, slice_index_or, true, false, ◌+◌, ◌-◌, Option, Some, None, is_some, Result, Ok, Err, ◌||◌, if◌then◌else◌}
 use Rattle.std.specs.List.{insert}
 use Rattle.tsc_time.specs.Time.{Time, zero_time}
-use Rattle.tsc_time.specs.OwnedTime.{OwnedTime, unowned}
+use Rattle.tsc_time.specs.ValueView.{ValueView, unowned}
 use Rattle.tsc_time.specs.Joint.{joint, joint_above}
-use Rattle.tsc_span.specs.Span.{KeyBytes, Cut, before, after, last, Interval, between, overlaps, is_below, key_cost, cost_of}
-use Rattle.tsc_page_nodes.specs.Page.{Mark, values_on}
+use Rattle.tsc_span.specs.Span.{KeyBytes, Cut, before, after, last, SpanView, between, overlaps, is_below, key_cost, cost_of}
+use Rattle.tsc_page_model.specs.Page.{Mark, values_on}
 use Rattle.tsc_page_nodes.specs.declared.nodes.Values.{Values}
 use Rattle.tsc_page_nodes.specs.declared.nodes.Growth.{Growth}
-use Rattle.tsc_page_nodes.specs.PageView.{PageView, is_in, is_new_among}
+use Rattle.tsc_page_model.specs.PageView.{PageView, is_in, is_new_among}
 
 -- a key with its value, and the value of the open gap up to the next node
 pub record Node : Type 0 where
   pub key : KeyBytes
-  pub value : OwnedTime
-  pub gap : OwnedTime
+  pub value : ValueView
+  pub gap : ValueView
 
 -- the nodes of keys and of their values, which stand in two lists
 abbrev pub paired : List KeyBytes → List Values → List Node
@@ -26,7 +26,7 @@ paired (k ∷ ks) (v ∷ vs) = record { key = k; value = v.value; gap = v.gap } 
 -- A value, and the cut from which it holds, up to the cut of the stretch after it.
 pub record Stretch : Type 0 where
   pub from : Cut
-  pub value : OwnedTime
+  pub value : ValueView
 
 -- the cut at which a stretch stops, where these come after it
 abbrev pub next_cut : List Stretch → Cut
@@ -69,7 +69,7 @@ page_of size t nodes leaves = record {
 }
 
 -- what nodes answer to a span
-abbrev pub answer_of : List Node → Interval → OwnedTime
+abbrev pub answer_of : List Node → SpanView → ValueView
 answer_of nodes s = joint_above zero_time (values_on s (stretch_spans (stretches nodes)))
 
 -- each node's key is below the next one's
@@ -83,17 +83,17 @@ pub record ArePaired (ks : List KeyBytes) (vs : List Values) : Type 0 where
   pub sorted : IsSorted (paired ks vs)
 
 -- the value of a stretch that stops at a cut, once a value was added to a span
-abbrev pub raised : Interval → OwnedTime → Stretch → Cut → OwnedTime
+abbrev pub raised : SpanView → ValueView → Stretch → Cut → ValueView
 raised span v x end = if overlaps (between x.from end) span then joint x.value (v ∷ []) else x.value
 
 -- the stretches with a value added to those that overlap a span
-abbrev pub raise : Interval → OwnedTime → List Stretch → List Stretch
+abbrev pub raise : SpanView → ValueView → List Stretch → List Stretch
 raise span v [] = []
 raise span v (x ∷ xs) = record { from = x.from; value = raised span v x (next_cut xs) } ∷
     raise span v xs
 
 -- nodes raised by a value on a span
-abbrev pub raise_nodes : Interval → OwnedTime → List Node → List Node
+abbrev pub raise_nodes : SpanView → ValueView → List Node → List Node
 raise_nodes span v [] = []
 raise_nodes span v (n ∷ ns) = record {
   key = n.key;
@@ -102,7 +102,7 @@ raise_nodes span v (n ∷ ns) = record {
 } ∷ raise_nodes span v ns
 
 -- the value of the gap at a place among nodes that come after a stretch
-abbrev pub gap_value : OwnedTime → List Node → ℕ → OwnedTime
+abbrev pub gap_value : ValueView → List Node → ℕ → ValueView
 gap_value v nodes zero = v
 gap_value v [] (suc i) = v
 gap_value v (n ∷ ns) (suc i) = gap_value n.gap ns i
@@ -115,31 +115,31 @@ FitsAt k low [] (suc i) = ⊥
 FitsAt k low (n ∷ ns) (suc i) = FitsAt k (after n.key) ns i
 
 -- a new node with the value of its gap
-abbrev pub node_in_gap : KeyBytes → OwnedTime → Node
+abbrev pub node_in_gap : KeyBytes → ValueView → Node
 node_in_gap k v = record { key = k; value = v; gap = v }
 
 -- the two spans that a node begins: its key, and the gap after it
-abbrev pub key_span : Node → Interval
+abbrev pub key_span : Node → SpanView
 key_span n = between (before n.key) (after n.key)
 
-abbrev pub gap_span : List Node → ℕ → Node → Interval
+abbrev pub gap_span : List Node → ℕ → Node → SpanView
 gap_span nodes i n = between (after n.key) (next_cut (node_stretches (drop (suc i) nodes)))
 
 -- The keys before a place are below another one.
-pub record HasKeysBelow (nodes : List Node) (k : KeyBytes) (place : ℕ) : Type 0 where
-  pub bound : place ≤ length nodes
-  pub below : (i : ℕ) (d : Node) → i < place →
+pub record HasKeysBelow (nodes : List Node) (k : KeyBytes) (index : ℕ) : Type 0 where
+  pub bound : index ≤ length nodes
+  pub below : (i : ℕ) (d : Node) → i < index →
       is_below (after (slice_index_or nodes i d).key) (before k) ≡ true
 
 -- A key stands at a place.
-pub record StandsAt (nodes : List Node) (k : KeyBytes) (place : ℕ) : Type 0 where
-  pub bound : place < length nodes
-  pub key : (d : Node) → (slice_index_or nodes place d).key ≡ k
+pub record StandsAt (nodes : List Node) (k : KeyBytes) (index : ℕ) : Type 0 where
+  pub bound : index < length nodes
+  pub key : (d : Node) → (slice_index_or nodes index d).key ≡ k
 
 -- A key falls between those before a place and those from there on.
-pub record FallsAt (nodes : List Node) (k : KeyBytes) (place : ℕ) : Type 0 where
-  pub low : HasKeysBelow nodes k place
-  pub high : (i : ℕ) (d : Node) → place ≤ i → i < length nodes →
+pub record FallsAt (nodes : List Node) (k : KeyBytes) (index : ℕ) : Type 0 where
+  pub low : HasKeysBelow nodes k index
+  pub high : (i : ℕ) (d : Node) → index ≤ i → i < length nodes →
       is_below (after k) (before (slice_index_or nodes i d).key) ≡ true
 
 -- where a key stands, or else falls
@@ -148,10 +148,10 @@ IsFoundAt nodes k (Ok i) = StandsAt nodes k i
 IsFoundAt nodes k (Err i) = FallsAt nodes k i
 
 -- where a cut lies: where its key does, or behind all
-abbrev pub IsPlaceOf : List Node → Cut → Result ℕ ℕ → Type 0
-IsPlaceOf nodes (before k) place = IsFoundAt nodes k place
-IsPlaceOf nodes (after k) place = IsFoundAt nodes k place
-IsPlaceOf nodes last place = place ≡ Err (length nodes)
+abbrev pub IsCutAt : List Node → Cut → Result ℕ ℕ → Type 0
+IsCutAt nodes (before k) index = IsFoundAt nodes k index
+IsCutAt nodes (after k) index = IsFoundAt nodes k index
+IsCutAt nodes last index = index ≡ Err (length nodes)
 
 -- the place of a node at which a cut lies, or before which it does
 abbrev pub index_of : Result ℕ ℕ → ℕ
@@ -171,7 +171,7 @@ first_gap (Ok i) = i
 first_gap (Err i) = i - 1
 
 -- A range of places that holds just those of the nodes whose key overlaps a span.
-pub record HoldsKeysOn (nodes : List Node) (span : Interval) (start end : ℕ) : Type 0 where
+pub record HoldsKeysOn (nodes : List Node) (span : SpanView) (start end : ℕ) : Type 0 where
   pub order : start ≤ end
   pub bound : end ≤ length nodes
   pub within : (i : ℕ) (d : Node) → start ≤ i → i < end →
@@ -182,7 +182,7 @@ pub record HoldsKeysOn (nodes : List Node) (span : Interval) (start end : ℕ) :
       overlaps (key_span (slice_index_or nodes i d)) span ≡ false
 
 -- the nodes from a start to an end are those whose gap overlaps a span
-pub record HoldsGapsOn (nodes : List Node) (span : Interval) (start end : ℕ) : Type 0 where
+pub record HoldsGapsOn (nodes : List Node) (span : SpanView) (start end : ℕ) : Type 0 where
   pub order : start ≤ end
   pub bound : end ≤ length nodes
   pub within : (i : ℕ) (d : Node) → start ≤ i → i < end →
@@ -201,23 +201,23 @@ IsNewKey nodes (Some k) (Some found) = (found.1 ≡ k) × FitsAt k (before []) n
     (found.0 ≤ length nodes)
 
 -- where a key stands, or the place for it where it is new; nothing of no key
-abbrev pub IsPlaceTold : List Node → Option KeyBytes → Option (ℕ × KeyBytes) → Option ℕ → Type 0
-IsPlaceTold nodes None new told = told ≡ None
-IsPlaceTold nodes (Some k) None None = ⊥
-IsPlaceTold nodes (Some k) None (Some i) = StandsAt nodes k i
-IsPlaceTold nodes (Some k) (Some new) told = told ≡ Some new.0
+abbrev pub IsIndexReported : List Node → Option KeyBytes → Option (ℕ × KeyBytes) → Option ℕ → Type 0
+IsIndexReported nodes None new reported = reported ≡ None
+IsIndexReported nodes (Some k) None None = ⊥
+IsIndexReported nodes (Some k) None (Some i) = StandsAt nodes k i
+IsIndexReported nodes (Some k) (Some new) reported = reported ≡ Some new.0
 
 -- where a key stands; nothing of no key
-abbrev pub StandsWhereTold : List Node → Option KeyBytes → Option ℕ → Type 0
-StandsWhereTold nodes None told = told ≡ None
-StandsWhereTold nodes (Some k) None = ⊥
-StandsWhereTold nodes (Some k) (Some i) = StandsAt nodes k i
+abbrev pub StandsWhereReported : List Node → Option KeyBytes → Option ℕ → Type 0
+StandsWhereReported nodes None reported = reported ≡ None
+StandsWhereReported nodes (Some k) None = ⊥
+StandsWhereReported nodes (Some k) (Some i) = StandsAt nodes k i
 
 -- each of two keys stands where it is told
-abbrev pub BothStandWhereTold : List Node → Option KeyBytes → Option KeyBytes →
+abbrev pub BothStandWhereReported : List Node → Option KeyBytes → Option KeyBytes →
     (Option ℕ × Option ℕ) → Type 0
-BothStandWhereTold nodes first second told = StandsWhereTold nodes first told.0 ×
-    StandsWhereTold nodes second told.1
+BothStandWhereReported nodes first second reported = StandsWhereReported nodes first reported.0 ×
+    StandsWhereReported nodes second reported.1
 
 -- a new key fits in its place
 abbrev pub FitsIn : List Node → Option (ℕ × KeyBytes) → Type 0
@@ -272,8 +272,8 @@ pub record MakesNodes (old new : List Node) (first second : Option KeyBytes) : T
   pub nodes : new ≡ with_new (with_new old upper) lower
 
 -- Nodes with those of two keys, in which a value is raised in a span.
-pub record AddsNodes (old new : List Node) (first second : Option KeyBytes) (span : Interval)
-    (value : OwnedTime) : Type 0 where
+pub record AddsNodes (old new : List Node) (first second : Option KeyBytes) (span : SpanView)
+    (value : ValueView) : Type 0 where
   pub mid : List Node
   pub made : MakesNodes old mid first second
   pub raised : new ≡ raise_nodes span value mid
@@ -282,4 +282,4 @@ pub record AddsNodes (old new : List Node) (first second : Option KeyBytes) (spa
 pub record IsSplitAt (old new : List Node) (more : List KeyBytes) : Type 0 where
   pub sorted : IsSorted new
   pub keys : (k : KeyBytes) → is_in k (node_keys new) ≡ (is_in k (node_keys old) || is_in k more)
-  pub answers : (span : Interval) → answer_of new span ≡ answer_of old span
+  pub answers : (span : SpanView) → answer_of new span ≡ answer_of old span

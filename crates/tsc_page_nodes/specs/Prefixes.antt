@@ -32,13 +32,13 @@ IsKeyAt (after k) key = key ≡ Some k
 IsKeyAt last key = key ≡ None
 
 -- whether a cut lies below those of a prefix, and nothing just where that is its own one
-abbrev pub TellsBelow : Cut → ℕ → Option Bool → Type 0
-TellsBelow c n None = IsCutPrefix n c
-TellsBelow c n (Some below) = (IsCutPrefix n c → ⊥) ×
+abbrev pub ReportsBelow : Cut → ℕ → Option Bool → Type 0
+ReportsBelow c n None = IsCutPrefix n c
+ReportsBelow c n (Some below) = (IsCutPrefix n c → ⊥) ×
     ((d : Cut) → IsCutPrefix n d → below ≡ is_below c d)
 
 -- whether a cut's prefix tells that it lies above
-abbrev pub TellsAbove : Cut → ℕ → Option Bool → Type 0
-TellsAbove c n None = IsCutPrefix n c
-TellsAbove c n (Some above) = (IsCutPrefix n c → ⊥) ×
+abbrev pub ReportsAbove : Cut → ℕ → Option Bool → Type 0
+ReportsAbove c n None = IsCutPrefix n c
+ReportsAbove c n (Some above) = (IsCutPrefix n c → ⊥) ×
     ((d : Cut) → IsCutPrefix n d → above ≡ is_below d c)

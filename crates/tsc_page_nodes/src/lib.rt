@@ -15,21 +15,12 @@
 #![tactic(auto)]
 
 mod insertion;
-mod interval_page;
-pub mod laws;
 pub mod memory;
 mod nodes;
 mod prefix;
 mod prefix_search;
 
 pub use insertion::{KeyInsertion, PrefixedInsertion, SearchKey};
-pub use interval_page::IntervalPage;
 pub use nodes::{Growth, Nodes};
 pub use prefix::{KeyPrefix, PrefixedCut, PrefixedKey};
 pub use prefix_search::{Prefixed, lesser_prefixes};
-
-/// How many bytes a page may have at the least.
-pub const LEAST_SIZE: u32 = 64;
-
-/// How many bytes a page may have at the most.
-pub const MOST_SIZE: u32 = 1_073_741_824;

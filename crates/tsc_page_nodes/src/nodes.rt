@@ -1,13 +1,15 @@
+//! The nodes of one leaf, in the order of their keys. The keys lie apart from the values, so two
+//! copies that differ in values alone share them.
 ghost use Rattle.std.specs.Prelude.{◌≡◌, ◌≤◌, [], ◌∷◌, length, take, drop, true, Some, None, IsOk, IfOk, OnOk, option_map};
 ghost use Rattle.std.specs.Arc.{arc_value};
 ghost use Rattle.tsc_time.specs.Time.{zero_time};
-ghost use Rattle.tsc_time.specs.OwnedTime.{unowned};
+ghost use Rattle.tsc_time.specs.ValueView.{unowned};
 ghost use Rattle.tsc_span.specs.Span.{is_below, between, point};
 ghost use Rattle.tsc_page_nodes.specs.Prefixes.{IsCutPrefix};
-ghost use Rattle.tsc_page_nodes.specs.KeyAdds.{IsKeyTold};
-ghost use Rattle.tsc_page_nodes.specs.Insertions.{IsTold, IsBothTold};
-ghost use Rattle.tsc_page_nodes.specs.KeysAbove.{first_above};
-ghost use Rattle.tsc_page_nodes.specs.Nodes.{paired, FallsAt, IsFoundAt, BothStandWhereTold, IsNewKey, FitsIn, with_new, IsInOrder, HasNodes, MakesNodes, new_count, node_keys, answer_of, raise_nodes, node_in_gap, next_cut, node_stretches};
+ghost use Rattle.tsc_page_nodes.specs.KeyAdds.{IsKeyReported};
+ghost use Rattle.tsc_page_nodes.specs.Insertions.{IsReported, IsBothReported};
+ghost use Rattle.tsc_page_model.specs.KeysAbove.{first_above};
+ghost use Rattle.tsc_page_nodes.specs.Nodes.{paired, FallsAt, IsFoundAt, BothStandWhereReported, IsNewKey, FitsIn, with_new, IsInOrder, HasNodes, MakesNodes, new_count, node_keys, answer_of, raise_nodes, node_in_gap, next_cut, node_stretches};
 
 mod changes;
 mod lists;
@@ -154,8 +156,8 @@ impl Nodes {
     pub fn key_above(&self, cut: &PrefixedCut<'_>) -> Option<&Key>
         ensures { option_map (λ k. k.now) result ≡ first_above cut.now (node_keys self.now) }
     {
-        let place = self.keys.partition_point(|key| cut.is_above_before(key));
-        match self.keys.get(place) {
+        let index = self.keys.partition_point(|key| cut.is_above_before(key));
+        match self.keys.get(index) {
             Some(key) => Some(key.key()),
             None => None,
         }
@@ -168,12 +170,12 @@ impl Nodes {
         ensures { result ≡ answer_of self.now (between from.now to.now) }
     {
         let mut best = Value::unowned(Timestamp::ZERO);
-        let (keys, gaps) = self.lists().places_between(from, to, (None, None));
-        for place in keys {
-            best.raise(&self.values[place].value);
+        let (keys, gaps) = self.lists().indices_between(from, to, (None, None));
+        for index in keys {
+            best.raise(&self.values[index].value);
         }
-        for place in gaps {
-            best.raise(&self.values[place].gap);
+        for index in gaps {
+            best.raise(&self.values[index].gap);
         }
         best
     }
@@ -184,13 +186,13 @@ impl Nodes {
     {
         let mut best = Value::unowned(Timestamp::ZERO);
         match self.lists().find(key.bytes()) {
-            Ok(place) => {
-                best.raise(&self.values[place].value);
+            Ok(index) => {
+                best.raise(&self.values[index].value);
                 best
             }
             Err(0) => best,
-            Err(place) => {
-                best.raise(&self.values[place - 1].gap);
+            Err(index) => {
+                best.raise(&self.values[index - 1].gap);
                 best
             }
         }
@@ -247,7 +249,7 @@ impl Nodes {
         ensures hint { IfOk result
             (λ new. IsInOrder (option_map (λ k. k.now) first.entry)
             (option_map (λ k. k.now) second.entry)
-            → BothStandWhereTold (with_new (with_new self.now new.second) new.first)
+            → BothStandWhereReported (with_new (with_new self.now new.second) new.first)
             (option_map (λ k. k.now) first.entry) (option_map (λ k. k.now) second.entry)
             new.hint) }
     {
@@ -299,7 +301,7 @@ impl Nodes {
         add: &PrefixedInsertion<'_>,
         room: Growth,
     ) -> Result<Option<Growth>, NoMemory>
-        ensures told { IsTold self.old self.new add.now room result }
+        ensures reported { IsReported self.old self.new add.now room result }
     {
         let new = self.new_keys(add.first, add.second)?;
         let made = new.grown();
@@ -330,8 +332,8 @@ impl Nodes {
         stops: &PrefixedInsertion<'_>,
         room: u32,
     ) -> Result<Option<Growth>, NoMemory>
-        ensures told { IsBothTold low.old low.new high.old high.new starts.now stops.now room
-            result }
+        ensures reported { IsBothReported low.old low.new high.old high.new starts.now stops.now
+            room result }
     {
         let new = high.new_keys(stops.first, stops.second)?;
         let made = new.grown();
@@ -366,38 +368,38 @@ impl Nodes {
         add: &KeyInsertion<'_>,
         room: Growth,
     ) -> Result<Option<Growth>, NoMemory>
-        ensures told { IsKeyTold self.old self.new add.now room result }
+        ensures reported { IsKeyReported self.old self.new add.now room result }
     {
         match self.lists().find(add.search().bytes()) {
-            Ok(place) => {
-                self.values[place].value.raise(&add.value());
+            Ok(index) => {
+                self.values[index].value.raise(&add.value());
                 Ok(Some(Growth { nodes: 0, bytes: 0 }))
             }
-            Err(place) => self.insert_key(place, add, room),
+            Err(index) => self.insert_key(index, add, room),
         }
     }
 
     /// Adds a value at a new key as `add_key` does, by the place for the key.
     fn insert_key(
         &mut self,
-        place: usize,
+        index: usize,
         add: &KeyInsertion<'_>,
         room: Growth,
     ) -> Result<Option<Growth>, NoMemory>
-        requires falls { FallsAt self.old add.now.key place }
-        ensures told { IsKeyTold self.old self.new add.now room result }
+        requires falls { FallsAt self.old add.now.key index }
+        ensures reported { IsKeyReported self.old self.new add.now room result }
     {
         let more = Growth {
             nodes: 1,
             bytes: add.cost(),
         };
-        if place == 0 || room.nodes < more.nodes || room.bytes < more.bytes {
+        if index == 0 || room.nodes < more.nodes || room.bytes < more.bytes {
             return Ok(None);
         }
         let Some(keys) = Arc::get_mut(&mut self.keys) else {
             return Ok(None)
         };
-        insert(keys, &mut self.values, place, add)?;
+        insert(keys, &mut self.values, index, add)?;
         Ok(Some(more))
     }
 

@@ -1,8 +1,10 @@
+//! Prefixes of keys, and keys and cuts with their prefixes. Most comparisons end at the prefix and
+//! read no byte of a key.
 ghost use Rattle.std.specs.Prelude.{◌≡◌, ◌≤◌, ◌+◌, ◌-◌, ◌^◌, length, drop, IfOk};
 ghost use Rattle.std.specs.Ordering.{nat_cmp};
 ghost use Rattle.tsc_span.specs.Span.{key_cmp, key_cost, before, after, last, is_below};
 ghost use Rattle.tsc_span.specs.Cuts.{cut_of};
-ghost use Rattle.tsc_page_nodes.specs.Prefixes.{spelled, IsPrefixOf, IsKeyAt, AreTied, IsCutPrefix, TellsBelow, TellsAbove};
+ghost use Rattle.tsc_page_nodes.specs.Prefixes.{spelled, IsPrefixOf, IsKeyAt, AreTied, IsCutPrefix, ReportsBelow, ReportsAbove};
 
 use crate::prefix_search::Prefixed;
 use std::alloc::{AllocError, Global};
@@ -229,7 +231,7 @@ impl<'a> PrefixedBytes<'a> {
     {
         match key.prefix.compare(&self.prefix) {
             Ordering::Equal => compare_tied(key.bytes(), self.bytes),
-            told => told,
+            reported => reported,
         }
     }
 }
@@ -297,7 +299,7 @@ impl<'a> PrefixedCut<'a> {
     /// Whether the cut lies below those of a prefix; `None` where that is its own prefix.
     #[inline]
     pub fn is_below_prefix(&self, prefix: &KeyPrefix) -> Option<bool>
-        ensures { TellsBelow self.now prefix.now result }
+        ensures { ReportsBelow self.now prefix.now result }
     {
         match self.prefix.compare(prefix) {
             Ordering::Less => Some(true),
@@ -309,7 +311,7 @@ impl<'a> PrefixedCut<'a> {
     /// Whether the cut lies above those of a prefix; `None` where that is its own prefix.
     #[inline]
     pub fn is_above_prefix(&self, prefix: &KeyPrefix) -> Option<bool>
-        ensures { TellsAbove self.now prefix.now result }
+        ensures { ReportsAbove self.now prefix.now result }
     {
         match self.prefix.compare(prefix) {
             Ordering::Less => Some(false),
@@ -382,12 +384,12 @@ fn first_prefix(bytes: &[u8]) -> KeyPrefix
 }
 
 /// The word that the bytes from a place on make.
-fn word_at(bytes: &[u8], place: usize) -> u64
-    requires { place + 8 ≤ length bytes.now }
-    ensures { result ≡ spelled 8 0 (drop place bytes.now) }
+fn word_at(bytes: &[u8], index: usize) -> u64
+    requires { index + 8 ≤ length bytes.now }
+    ensures { result ≡ spelled 8 0 (drop index bytes.now) }
 {
     let mut word = [0; WORD_BYTES];
-    word.copy_from_slice(&bytes[place..place + WORD_BYTES]);
+    word.copy_from_slice(&bytes[index..index + WORD_BYTES]);
     u64::from_be_bytes(word)
 }
 

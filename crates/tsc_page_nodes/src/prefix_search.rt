@@ -1,3 +1,5 @@
+//! Searches by the prefixes of keys. What they find is a guess, which the caller tests, so they
+//! promise nothing.
 use crate::prefix::KeyPrefix;
 
 /// How far the elements stand from one another that a search looks at first.
@@ -19,11 +21,11 @@ pub trait Prefixed {
 /// processor guesses none wrong.
 pub fn lesser_prefixes<T: Prefixed>(list: &[T], prefix: &KeyPrefix) -> Option<usize> {
     let (first, last) = (list.first()?.prefix(), list.last()?.prefix());
-    if First::tells(first, last, prefix) {
+    if First::reports(first, last, prefix) {
         Some(lesser_words::<T, First>(list, prefix))
-    } else if Second::tells(first, last, prefix) {
+    } else if Second::reports(first, last, prefix) {
         Some(lesser_words::<T, Second>(list, prefix))
-    } else if Third::tells(first, last, prefix) {
+    } else if Third::reports(first, last, prefix) {
         Some(lesser_words::<T, Third>(list, prefix))
     } else {
         None
@@ -35,15 +37,15 @@ fn lesser_words<T: Prefixed, W: Word>(list: &[T], prefix: &KeyPrefix) -> usize {
     let word = W::of(prefix);
     let mut low = 0;
     for stride in 1..STRIDE {
-        let place = stride * STRIDE;
-        if place < list.len() && W::of(list[place].prefix()) < word {
-            low = place;
+        let index = stride * STRIDE;
+        if index < list.len() && W::of(list[index].prefix()) < word {
+            low = index;
         }
     }
     let mut lesser = low;
-    for place in low..low + STRIDE {
-        if place < list.len() && W::of(list[place].prefix()) < word {
-            lesser = place + 1;
+    for index in low..low + STRIDE {
+        if index < list.len() && W::of(list[index].prefix()) < word {
+            lesser = index + 1;
         }
     }
     lesser
@@ -55,7 +57,7 @@ trait Word {
     fn of(prefix: &KeyPrefix) -> u64;
 
     /// Whether the words of three prefixes are not all equal.
-    fn tells(first: &KeyPrefix, last: &KeyPrefix, prefix: &KeyPrefix) -> bool {
+    fn reports(first: &KeyPrefix, last: &KeyPrefix, prefix: &KeyPrefix) -> bool {
         Self::of(first) != Self::of(last) || Self::of(first) != Self::of(prefix)
     }
 }

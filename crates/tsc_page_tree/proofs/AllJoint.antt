@@ -4,14 +4,14 @@ use mathlib.Core.Bool.{true≢false}
 use Rattle.std.specs.Prelude.{Option, Some, None}
 use Rattle.std.proofs.lemmas.List.{length-map, drop_all}
 use Rattle.tsc_time.specs.Time.{zero_time}
-use Rattle.tsc_time.specs.OwnedTime.{OwnedTime, unowned}
+use Rattle.tsc_time.specs.ValueView.{ValueView, unowned}
 use Rattle.tsc_time.specs.Joint.{joint, IsAtMost}
 use Rattle.tsc_time.proofs.RatchetOrder.{IsAtMost-itself, IsAtMost-transitive}
-use Rattle.tsc_span.specs.Span.{KeyBytes, Cut, before, after, last, Interval, between, overlaps, is_below}
+use Rattle.tsc_span.specs.Span.{KeyBytes, Cut, before, after, last, SpanView, between, overlaps, is_below}
 use Rattle.tsc_page_nodes.specs.Nodes.{Node, answer_of, node_stretches, IsSorted, IsInOrder, IsSplitAt, AddsNodes, with_new, raise_nodes}
 use Rattle.tsc_page_tree.specs.Leaves.{nodes_of, start_of, HasNode}
 use Rattle.tsc_page_tree.specs.Lazy.{everything, with_lazy, seen_with, all_joint}
-use Rattle.tsc_page_nodes.proofs.CutOrder.{Lt, Le, Lt-or_Le, Lt-not_Le, Le-from_Lt, Lt-chain, Le_Lt-chain, before-after, below_last, none_above_last, overlaps-from}
+use Rattle.tsc_span.proofs.CutOrder.{Lt, Le, Lt-or_Le, Lt-not_Le, Le-from_Lt, Lt-chain, Le_Lt-chain, before-after, below_last, none_above_last, overlaps-from}
 use Rattle.tsc_page_nodes.proofs.Cuts.{lowest, raise_nodes-start}
 use Rattle.tsc_page_nodes.proofs.Edits.{raise_nodes-sorted}
 use Rattle.tsc_page_nodes.proofs.NewKeys.{with_new_splits, still_new, makes_sorted}
@@ -24,11 +24,11 @@ use Rattle.tsc_page_tree.proofs.LeafLists.{leaf_first, sorted_from, read_leaf}
 use Rattle.tsc_page_tree.proofs.LeafKeys.{has_node_splits}
 
 -- a key or a gap has the value
-abbrev pub HasValue : List Node → OwnedTime → Type 0
+abbrev pub HasValue : List Node → ValueView → Type 0
 HasValue [] w = ⊥
 HasValue (n ∷ ns) w = (n.value ≡ w) ⊎ ((n.gap ≡ w) ⊎ HasValue ns w)
 
-met_value : (s : Interval) (ns : List Node) (w : OwnedTime) → Meets s (node_stretches ns) w →
+met_value : (s : SpanView) (ns : List Node) (w : ValueView) → Meets s (node_stretches ns) w →
     HasValue ns w
 met_value s [] w m = m
 met_value s (n ∷ ns) w (inl m) = inl m.1
@@ -36,7 +36,7 @@ met_value s (n ∷ ns) w (inr (inl m)) = inr (inl m.1)
 met_value s (n ∷ ns) w (inr (inr m)) = inr (inr (met_value s ns w m))
 
 -- all keys and gaps are met by a span that begins where nodes do, or below them
-value_met : (f : Cut) (ns : List Node) (w : OwnedTime) → IsSorted ns → Le f (start_of ns) →
+value_met : (f : Cut) (ns : List Node) (w : ValueView) → IsSorted ns → Le f (start_of ns) →
     HasValue ns w → Meets (between f last) (node_stretches ns) w
 value_met f [] w sorted low h = h
 value_met f (n ∷ ns) w sorted low h =
@@ -74,7 +74,7 @@ pub all_joint_is : (ns : List Node) → IsSorted ns → IsJointOf (HasValue ns) 
 all_joint_is ns sorted = seen_from (before []) ns sorted (lowest (start_of ns))
 
 -- no subtree of a span answers more than all
-pub answer_below_all : (s : Interval) (ns : List Node) → IsSorted ns →
+pub answer_below_all : (s : SpanView) (ns : List Node) → IsSorted ns →
     IsAtMost (answer_of ns s) (all_joint ns)
 answer_below_all s ns sorted = (answer_is s ns).least (all_joint ns)
     (zero_below_answer everything ns) (λ w m. (all_joint_is ns sorted).above w (met_value s ns w m))
@@ -89,9 +89,9 @@ answer_of_all f last ns sorted low high =
     (λ w h. h) (seen_from f ns sorted low) (all_joint_is ns sorted)
 
 -- some of what was seen is raised, and the rest is as before
-raised_joint : (Seen New : OwnedTime → Type 0) (best v : OwnedTime) →
-    ((w : OwnedTime) → New w → (y : OwnedTime) × Seen y × ((y ≡ w) ⊎ (joint y (v ∷ []) ≡ w)))
-    → ((y : OwnedTime) → Seen y → (w : OwnedTime) × New w × IsAtMost y w) → (w : OwnedTime) ×
+raised_joint : (Seen New : ValueView → Type 0) (best v : ValueView) →
+    ((w : ValueView) → New w → (y : ValueView) × Seen y × ((y ≡ w) ⊎ (joint y (v ∷ []) ≡ w)))
+    → ((y : ValueView) → Seen y → (w : ValueView) × New w × IsAtMost y w) → (w : ValueView) ×
     New w × IsAtMost v w → IsJointOf Seen best → IsJointOf New (joint best (v ∷ []))
 raised_joint Seen New best v was kept some so_far = record {
   zero_below = IsAtMost-transitive (unowned zero_time) best (joint best (v ∷ [])) so_far.zero_below
@@ -102,8 +102,8 @@ raised_joint Seen New best v was kept some so_far = record {
       IsAtMost-transitive r.0 best (joint best (v ∷ [])) (so_far.above r.0 r.1)
       (first_below best v) in
       elim r.2 [
-        | inl e ↦ subst (λ (x : OwnedTime). IsAtMost x (joint best (v ∷ []))) e old
-        | inr e ↦ subst (λ (x : OwnedTime). IsAtMost x (joint best (v ∷ []))) e
+        | inl e ↦ subst (λ (x : ValueView). IsAtMost x (joint best (v ∷ []))) e old
+        | inr e ↦ subst (λ (x : ValueView). IsAtMost x (joint best (v ∷ []))) e
             (both_below r.0 v (joint best (v ∷ [])) old (second_below best v))
       ];
   least = λ u z each. both_below best v u
@@ -111,18 +111,18 @@ raised_joint Seen New best v was kept some so_far = record {
       (IsAtMost-transitive v some.0 u some.2 (each some.0 some.1));
 }
 
-raised_or_not : (b : Bool) (y v w : OwnedTime) → cond b (joint y (v ∷ [])) y ≡ w →
+raised_or_not : (b : Bool) (y v w : ValueView) → cond b (joint y (v ∷ [])) y ≡ w →
     (y ≡ w) ⊎ (joint y (v ∷ []) ≡ w)
 raised_or_not true y v w e = inr e
 raised_or_not false y v w e = inl e
 
-no_lower : (b : Bool) (y v : OwnedTime) → IsAtMost y (cond b (joint y (v ∷ [])) y)
+no_lower : (b : Bool) (y v : ValueView) → IsAtMost y (cond b (joint y (v ∷ [])) y)
 no_lower true y v = first_below y v
 no_lower false y v = IsAtMost-itself y
 
 -- what a raised node has comes from what it had
-had_before : (m : Interval) (v : OwnedTime) (ns : List Node) (w : OwnedTime) →
-    HasValue (raise_nodes m v ns) w → (y : OwnedTime) × HasValue ns y ×
+had_before : (m : SpanView) (v : ValueView) (ns : List Node) (w : ValueView) →
+    HasValue (raise_nodes m v ns) w → (y : ValueView) × HasValue ns y ×
     ((y ≡ w) ⊎ (joint y (v ∷ []) ≡ w))
 had_before m v [] w h = absurd h
 had_before m v (n ∷ ns) w (inl h) = (
@@ -139,28 +139,28 @@ had_before m v (n ∷ ns) w (inr (inl h)) = (
 )
 had_before m v (n ∷ ns) w (inr (inr h)) = let r = had_before m v ns w h in (r.0, inr (inr r.1), r.2)
 
-has_after : (m : Interval) (v : OwnedTime) (ns : List Node) (y : OwnedTime) → HasValue ns y →
-    (w : OwnedTime) × HasValue (raise_nodes m v ns) w × IsAtMost y w
+has_after : (m : SpanView) (v : ValueView) (ns : List Node) (y : ValueView) → HasValue ns y →
+    (w : ValueView) × HasValue (raise_nodes m v ns) w × IsAtMost y w
 has_after m v [] y h = absurd h
 has_after m v (n ∷ ns) y (inl h) = (
   cond (overlaps (between (before n.key) (after n.key)) m) (joint n.value (v ∷ [])) n.value,
   inl refl,
-  subst (λ (x : OwnedTime). IsAtMost x
+  subst (λ (x : ValueView). IsAtMost x
       (cond (overlaps (between (before n.key) (after n.key)) m) (joint n.value (v ∷ [])) n.value)) h
       (no_lower (overlaps (between (before n.key) (after n.key)) m) n.value v),
 )
 has_after m v (n ∷ ns) y (inr (inl h)) = (
   cond (overlaps (between (after n.key) (start_of ns)) m) (joint n.gap (v ∷ [])) n.gap,
   inr (inl refl),
-  subst (λ (x : OwnedTime). IsAtMost x
+  subst (λ (x : ValueView). IsAtMost x
       (cond (overlaps (between (after n.key) (start_of ns)) m) (joint n.gap (v ∷ [])) n.gap)) h
       (no_lower (overlaps (between (after n.key) (start_of ns)) m) n.gap v),
 )
 has_after m v (n ∷ ns) y (inr (inr h)) = let r = has_after m v ns y h in (r.0, inr (inr r.1), r.2)
 
 -- a span that reaches where nodes begin raises one of them
-raises_one : (f t : Cut) (v : OwnedTime) (ns : List Node) → IsSorted ns → Lt f t →
-    Lt (start_of ns) t → (w : OwnedTime) × HasValue (raise_nodes (between f t) v ns) w ×
+raises_one : (f t : Cut) (v : ValueView) (ns : List Node) → IsSorted ns → Lt f t →
+    Lt (start_of ns) t → (w : ValueView) × HasValue (raise_nodes (between f t) v ns) w ×
     IsAtMost v w
 raises_one f t v [] sorted up reaches = absurd (Lt-not_Le last t reaches (none_above_last t))
 raises_one f t v (n ∷ ns) sorted up reaches = elim (Lt-or_Le f (after n.key)) [
@@ -183,7 +183,7 @@ raises_one f t v (n ∷ ns) sorted up reaches = elim (Lt-or_Le f (after n.key)) 
 ]
 
 -- A value raised in a span that reaches where nodes begin joins the value of all.
-pub all_joint_raised : (f t : Cut) (v : OwnedTime) (ns : List Node) → IsSorted ns → Lt f t →
+pub all_joint_raised : (f t : Cut) (v : ValueView) (ns : List Node) → IsSorted ns → Lt f t →
     Lt (start_of ns) t → all_joint (raise_nodes (between f t) v ns) ≡ joint (all_joint ns) (v ∷ [])
 all_joint_raised f t v ns sorted up reaches =
     let new : List Node = raise_nodes (between f t) v ns in
@@ -194,7 +194,7 @@ all_joint_raised f t v ns sorted up reaches =
     (all_joint_is ns sorted))
 
 -- and in one that stops there or below it changes nothing
-pub all_joint_kept : (f t : Cut) (v : OwnedTime) (ns : List Node) → IsSorted ns →
+pub all_joint_kept : (f t : Cut) (v : ValueView) (ns : List Node) → IsSorted ns →
     Le t (start_of ns) → all_joint (raise_nodes (between f t) v ns) ≡ all_joint ns
 all_joint_kept f t v ns sorted high =
     ap (λ (ms : List Node). all_joint ms) (raises_none f t v ns sorted high)
@@ -204,18 +204,18 @@ pub starts_below_last : (ns : List Node) → 1 ≤ length ns → Lt (start_of ns
 starts_below_last [] some = absurd (omega (arith, some))
 starts_below_last (n ∷ ns) some = refl
 
-pub all_joint_whole : (v : OwnedTime) (ns : List Node) → IsSorted ns → 1 ≤ length ns →
+pub all_joint_whole : (v : ValueView) (ns : List Node) → IsSorted ns → 1 ≤ length ns →
     all_joint (raise_nodes everything v ns) ≡ joint (all_joint ns) (v ∷ [])
 all_joint_whole v ns sorted some =
     all_joint_raised (before []) last v ns sorted refl (starts_below_last ns some)
 
-pub all_joint_lazy : (p : Option OwnedTime) (ns : List Node) → IsSorted ns → 1 ≤ length ns →
+pub all_joint_lazy : (p : Option ValueView) (ns : List Node) → IsSorted ns → 1 ≤ length ns →
     all_joint (with_lazy p ns) ≡ seen_with p true (all_joint ns)
 all_joint_lazy None ns sorted some = refl
 all_joint_lazy (Some v) ns sorted some = all_joint_whole v ns sorted some
 
 -- of two lists
-has_either : (xs ys : List Node) (w : OwnedTime) → HasValue (xs ++ ys) w →
+has_either : (xs ys : List Node) (w : ValueView) → HasValue (xs ++ ys) w →
     HasValue xs w ⊎ HasValue ys w
 has_either [] ys w h = inr h
 has_either (x ∷ xs) ys w (inl h) = inl (inl h)
@@ -223,7 +223,7 @@ has_either (x ∷ xs) ys w (inr (inl h)) = inl (inr (inl h))
 has_either (x ∷ xs) ys w (inr (inr h)) =
     elim (has_either xs ys w h) [ inl g ↦ inl (inr (inr g)) | inr g ↦ inr g ]
 
-either_has : (xs ys : List Node) (w : OwnedTime) → HasValue xs w ⊎ HasValue ys w →
+either_has : (xs ys : List Node) (w : ValueView) → HasValue xs w ⊎ HasValue ys w →
     HasValue (xs ++ ys) w
 either_has [] ys w (inl h) = absurd h
 either_has [] ys w (inr h) = h
@@ -242,7 +242,7 @@ all_joint_append xs ys sorted = one_joint (HasValue (xs ++ ys)) (λ w. HasValue 
     (all_joint_is xs (sorted_left xs ys sorted)) (all_joint_is ys (sorted_right xs ys sorted)))
 
 -- The best so far with the joint value of what is left is that of all.
-pub record JointSoFar (all left : List Node) (best : OwnedTime) : Type 0 where
+pub record JointSoFar (all left : List Node) (best : ValueView) : Type 0 where
   pub zero_below : IsAtMost (unowned zero_time) best
   pub whole : joint best (all_joint left ∷ []) ≡ all_joint all
 
@@ -252,23 +252,23 @@ joint_at_first all = record {
   whole = zero_first (all_joint all) (zero_below_answer everything all);
 }
 
-pub joint_goes_on : (all xs ys : List Node) (best : OwnedTime) → IsSorted (xs ++ ys) →
+pub joint_goes_on : (all xs ys : List Node) (best : ValueView) → IsSorted (xs ++ ys) →
     JointSoFar all (xs ++ ys) best → JointSoFar all ys (joint best (all_joint xs ∷ []))
 joint_goes_on all xs ys best sorted so_far = record {
   zero_below = IsAtMost-transitive (unowned zero_time) best (joint best (all_joint xs ∷ []))
       so_far.zero_below (first_below best (all_joint xs));
   whole = sym (joint-chain best (all_joint xs) (all_joint ys)) ∙
-      ap (λ (w : OwnedTime). joint best (w ∷ [])) (sym (all_joint_append xs ys sorted)) ∙
+      ap (λ (w : ValueView). joint best (w ∷ [])) (sym (all_joint_append xs ys sorted)) ∙
       so_far.whole;
 }
 
-pub joint_at_end : (all : List Node) (best : OwnedTime) → JointSoFar all [] best →
+pub joint_at_end : (all : List Node) (best : ValueView) → JointSoFar all [] best →
     best ≡ all_joint all
 joint_at_end all best so_far = sym (zero_last best so_far.zero_below) ∙ so_far.whole
 
 -- one subtree more
 pub joint_of_subtree : {X : Type 0} (f : X → List Node) (xs : List X) (i : ℕ) (x : X)
-    (best w : OwnedTime) → IsSorted (nodes_of (map f xs)) → i < length xs → x ≡ get_or xs i x →
+    (best w : ValueView) → IsSorted (nodes_of (map f xs)) → i < length xs → x ≡ get_or xs i x →
     w ≡ all_joint (f x)
     → JointSoFar (nodes_of (map f xs)) (nodes_of (drop i (map f xs))) best →
     JointSoFar (nodes_of (map f xs)) (nodes_of (drop (i + 1) (map f xs))) (joint best (w ∷ []))
@@ -279,14 +279,14 @@ joint_of_subtree f xs i x best w sorted inside at is so_far =
     let value : w ≡ all_joint (get_or ls i []) =
     is ∙ ap (λ (ns : List Node). all_joint ns) (read_leaf f xs i x inside at) in
     subst (λ (j : ℕ). JointSoFar (nodes_of ls) (nodes_of (drop j ls)) (joint best (w ∷ []))) next
-    (subst (λ (u : OwnedTime). JointSoFar (nodes_of ls) (nodes_of (drop (suc i) ls))
+    (subst (λ (u : ValueView). JointSoFar (nodes_of ls) (nodes_of (drop (suc i) ls))
     (joint best (u ∷ []))) (sym value)
     (joint_goes_on (nodes_of ls) (get_or ls i []) (nodes_of (drop (suc i) ls)) best
     (subst IsSorted here (sorted_from ls i sorted))
     (subst (λ (ns : List Node). JointSoFar (nodes_of ls) ns best) here so_far)))
 
 -- and no subtree left
-pub joint_of_subtrees : {X : Type 0} (f : X → List Node) (xs : List X) (i : ℕ) (best : OwnedTime) →
+pub joint_of_subtrees : {X : Type 0} (f : X → List Node) (xs : List X) (i : ℕ) (best : ValueView) →
     length xs ≤ i → JointSoFar (nodes_of (map f xs)) (nodes_of (drop i (map f xs))) best →
     best ≡ all_joint (nodes_of (map f xs))
 joint_of_subtrees f xs i best past so_far =
@@ -305,14 +305,14 @@ all_joint_made old new k sorted made = (has_node_splits old new k sorted made).a
 
 -- What an Add makes of the joint value: it joins it, where the span reaches where the nodes then
 -- begin.
-pub all_joint_added : (old new : List Node) (o q : Option KeyBytes) (f t : Cut) (v : OwnedTime) →
+pub all_joint_added : (old new : List Node) (o q : Option KeyBytes) (f t : Cut) (v : ValueView) →
     IsSorted old → IsInOrder o q → Lt f t → AddsNodes old new o q (between f t) v
     → all_joint new ≡ cond (is_below (start_of new) t) (joint (all_joint old) (v ∷ []))
     (all_joint old)
 all_joint_added old new o q f t v sorted order up adds =
     ap (λ (ns : List Node). all_joint ns) adds.raised
     ∙ by (is_below (start_of adds.mid) t) refl
-    ∙ ap (λ (w : OwnedTime). cond (is_below (start_of adds.mid) t) (joint w (v ∷ [])) w) before_it
+    ∙ ap (λ (w : ValueView). cond (is_below (start_of adds.mid) t) (joint w (v ∷ [])) w) before_it
     ∙ ap (λ (c : Cut). cond (is_below c t) (joint (all_joint old) (v ∷ [])) (all_joint old))
     (sym starts)
   where

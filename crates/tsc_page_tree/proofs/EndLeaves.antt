@@ -1,15 +1,15 @@
 -- Two leaves, to which the end keys of a span come.
 use Rattle.std.proofs.Common.{◌≡◌, refl, sym, ap, subst, false, ℕ, ◌<◌, List, [], length, arith}
 use Rattle.std.specs.Prelude.{Option, Some, None, Ok, is_some}
-use Rattle.tsc_time.specs.OwnedTime.{OwnedTime}
+use Rattle.tsc_time.specs.ValueView.{ValueView}
 use Rattle.tsc_span.specs.Span.{KeyBytes, Cut, before, last, between}
 use Rattle.tsc_page_nodes.specs.declared.nodes.Growth.{Growth}
 use Rattle.tsc_page_nodes.specs.Nodes.{Node, nodes_cost, IsNewKey, IsInOrder, GrowsBy, raise_nodes, with_new}
-use Rattle.tsc_page_nodes.specs.Insertions.{InsertionView, IsInsertionView, LiesAt, AddsWithin, AddsToBoth, IsBothTold}
+use Rattle.tsc_page_nodes.specs.Insertions.{InsertionView, IsInsertionView, LiesAt, AddsWithin, AddsToBoth, IsBothReported}
 use Rattle.tsc_page_tree.specs.Leaves.{start_of, IsLeaf}
-use Rattle.tsc_page_tree.specs.Lazy.{IsAddTold}
-use Rattle.tsc_page_tree.specs.Across.{HasKey, LiesBehind, MakesOne, AreRaisedKnown, IsAcrossTold, IsOverTold}
-use Rattle.tsc_page_nodes.proofs.CutOrder.{Lt, Le, Le-from_Lt}
+use Rattle.tsc_page_tree.specs.Lazy.{IsAddReported}
+use Rattle.tsc_page_tree.specs.Across.{HasKey, LiesBehind, MakesOne, AreRaisedKnown, IsAcrossReported, IsOverReported}
+use Rattle.tsc_span.proofs.CutOrder.{Lt, Le, Le-from_Lt}
 use Rattle.tsc_page_nodes.proofs.Costs.{cost-raised}
 use Rattle.tsc_page_nodes.proofs.Edits.{raise_nodes-length}
 use Rattle.tsc_page_tree.proofs.Joins.{up_to_last}
@@ -47,7 +47,7 @@ behind_at old c (Some k) (Some f) low lies new =
     (low_end c (Some k) old low lies k refl)
 
 -- raising makes nothing come in
-grown_mid : (old new mid : List Node) (f t : Cut) (v : OwnedTime) (more : Growth) →
+grown_mid : (old new mid : List Node) (f t : Cut) (v : ValueView) (more : Growth) →
     new ≡ raise_nodes (between f t) v mid → GrowsBy old new more → GrowsBy old mid more
 grown_mid old new mid f t v more raised grown = record {
   count = omega (
@@ -100,7 +100,7 @@ one_second old new a room more low lies w =
 pub ends_across : (low new_low high new_high : List Node) (a : InsertionView) (room : ℕ)
     (more : Growth) → IsInsertionView a → Le (start_of low) a.from → Lt (start_of high) a.to →
     AddsToBoth low new_low high new_high (low_part a) (high_part a) room more →
-    IsAcrossTold low new_low high new_high a room (Some more)
+    IsAcrossReported low new_low high new_high a room (Some more)
 ends_across low new_low high new_high a room more fits starts reaches both = (
   record {
     mid_low = both.adds_low.adds.mid;
@@ -121,13 +121,14 @@ ends_across low new_low high new_high a room more fits starts reaches both = (
 )
 
 -- what is told where something comes in
-pub both_told : (E : Type 0) (low new_low high new_high : List Node) (a b : InsertionView) (room : ℕ)
+pub both_reported : (E : Type 0) (low new_low high new_high : List Node) (a b : InsertionView) (room : ℕ)
     (o : Option Growth) (more : Growth) → o ≡ Some more →
-    IsBothTold {E = E} low new_low high new_high a b room (Ok o) →
+    IsBothReported {E = E} low new_low high new_high a b room (Ok o) →
     AddsToBoth low new_low high new_high a b room more
-both_told E low new_low high new_high a b room o more is told =
-    subst (λ (q : Option Growth). IsBothTold {E = E} low new_low high new_high a b room (Ok q)) is
-    told
+both_reported E low new_low high new_high a b room o more is reported =
+    subst (λ (q : Option Growth). IsBothReported {E = E} low new_low high new_high a b room (Ok q))
+    is
+    reported
 
 -- with no more than fit
 pub few_with_one : (old new : List Node) (a : InsertionView) (room : ℕ) (more : Growth) →
@@ -149,8 +150,8 @@ one_known ns o has = record {
 -- where both have nodes nothing comes in
 pub known_across : (low new_low high new_high : List Node) (a : InsertionView) (room : ℕ) →
     AreRaisedKnown low new_low high new_high a →
-    IsAcrossTold low new_low high new_high a room (Some (record { nodes = 0; bytes = 0 }))
-known_across low new_low high new_high a room told = (
+    IsAcrossReported low new_low high new_high a room (Some (record { nodes = 0; bytes = 0 }))
+known_across low new_low high new_high a room reported = (
   record {
     mid_low = low;
     mid_high = high;
@@ -158,18 +159,18 @@ known_across low new_low high new_high a room told = (
     upper = None;
     more_low = record { nodes = 0; bytes = 0 };
     more_high = record { nodes = 0; bytes = 0 };
-    first = one_known low a.first told.first;
-    second = one_known high a.second told.second;
-    raised_low = told.raised_low;
-    raised_high = told.raised_high;
+    first = one_known low a.first reported.first;
+    second = one_known high a.second reported.second;
+    raised_low = reported.raised_low;
+    raised_high = reported.raised_high;
     grown = record { nodes = omega arith; bytes = omega arith };
   },
   omega arith,
 )
 
 -- an Add over several subtrees is one to all of them
-pub over_told : (E : Type 0) (r : Option Growth) (old new : List Node) (was now : List ℕ)
-    (a : InsertionView) (room : ℕ) → IsOverTold old new a room r →
-    (is_some r ≡ false → now ≡ was) → IsAddTold {E = E} old new was now a room (Ok r)
-over_told E (Some more) old new was now a room told sizes = told
-over_told E None old new was now a room told sizes = (told, sizes refl)
+pub over_reported : (E : Type 0) (r : Option Growth) (old new : List Node) (was now : List ℕ)
+    (a : InsertionView) (room : ℕ) → IsOverReported old new a room r →
+    (is_some r ≡ false → now ≡ was) → IsAddReported {E = E} old new was now a room (Ok r)
+over_reported E (Some more) old new was now a room reported sizes = reported
+over_reported E None old new was now a room reported sizes = (reported, sizes refl)

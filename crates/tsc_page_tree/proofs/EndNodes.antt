@@ -3,17 +3,17 @@ use Rattle.std.proofs.Common.{◌≡◌, inr, ◌∙◌, refl, sym, ap, subst, B
 use Rattle.std.specs.Prelude.{Option, Some, None}
 use Rattle.std.proofs.Math.Bool.{or-true}
 use Rattle.std.proofs.lemmas.List.{length-append}
-use Rattle.tsc_time.specs.OwnedTime.{OwnedTime}
+use Rattle.tsc_time.specs.ValueView.{ValueView}
 use Rattle.tsc_span.specs.Span.{KeyBytes, Cut, before, after, is_below}
-use Rattle.tsc_page_nodes.specs.PageView.{is_in}
+use Rattle.tsc_page_model.specs.PageView.{is_in}
 use Rattle.tsc_page_nodes.specs.declared.nodes.Growth.{Growth}
 use Rattle.tsc_page_nodes.specs.Nodes.{Node, node_keys, IsSorted, IsNewKey, GrowsBy, with_new}
 use Rattle.tsc_page_nodes.specs.Prefixes.{IsCutPrefix}
 use Rattle.tsc_page_nodes.specs.Insertions.{InsertionView, LiesAt}
 use Rattle.tsc_page_tree.specs.Leaves.{start_of}
-use Rattle.tsc_page_tree.specs.Lazy.{everything, with_lazy, all_joint, IsToldOf}
+use Rattle.tsc_page_tree.specs.Lazy.{everything, with_lazy, all_joint, IsReportedOf}
 use Rattle.tsc_page_tree.specs.Across.{LiesBehind, MakesOne}
-use Rattle.tsc_page_nodes.proofs.CutOrder.{Lt, Le, Le-chain}
+use Rattle.tsc_span.proofs.CutOrder.{Lt, Le, Le-chain}
 use Rattle.tsc_page_nodes.proofs.Costs.{cost-append}
 use Rattle.tsc_page_nodes.proofs.NewKeys.{with_new_splits}
 use Rattle.tsc_page_tree.proofs.LeafKeys.{is_in-append}
@@ -131,7 +131,7 @@ second_left a q high new behind g more false some h is lies stops made =
     }
 
 -- a node comes in below the lazy value as above it
-pub one_lazy : (p : Option OwnedTime) (old new : List Node) (o : Option KeyBytes)
+pub one_lazy : (p : Option ValueView) (old new : List Node) (o : Option KeyBytes)
     (g : Option (ℕ × KeyBytes)) (more : Growth) → IsSorted old → MakesOne old new o g more →
     MakesOne (with_lazy p old) (with_lazy p new) o g more
 one_lazy p old new o g more sorted made = by o g made.is_new made.behind made.nodes
@@ -168,15 +168,16 @@ one_lazy p old new o g more sorted made = by o g made.is_new made.behind made.no
         }
 
 -- what is told of nodes is told of them with one more
-pub told_one : (n : ℕ) (all : OwnedTime) (p : Option OwnedTime) (old new : List Node)
+pub reported_one : (n : ℕ) (all : ValueView) (p : Option ValueView) (old new : List Node)
     (o : Option KeyBytes) (g : Option (ℕ × KeyBytes)) (more : Growth) → IsSorted (with_lazy p old) →
-    MakesOne old new o g more → IsToldOf n all p old → IsToldOf n all p new
-told_one n all p old new o g more sorted made told =
+    MakesOne old new o g more → IsReportedOf n all p old → IsReportedOf n all p new
+reported_one n all p old new o g more sorted made reported =
     let above = one_lazy p old new o g more (sorted_without p old sorted) made in
     let split = with_new_splits (with_lazy p old) o g sorted above.is_new in
     record {
-      some = omega (arith, told.some, made.grown.count);
-      start = subst (IsCutPrefix n) (sym (start_one old new o g more told.some made)) told.start;
-      joint = told.joint ∙ sym (ap (λ (ns : List Node). all_joint ns) above.nodes ∙
+      some = omega (arith, reported.some, made.grown.count);
+      start = subst (IsCutPrefix n) (sym (start_one old new o g more reported.some made))
+          reported.start;
+      joint = reported.joint ∙ sym (ap (λ (ns : List Node). all_joint ns) above.nodes ∙
           split.answers everything);
     }

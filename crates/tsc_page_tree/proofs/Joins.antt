@@ -2,12 +2,12 @@
 use Rattle.std.proofs.Common.{◌≡◌, ◌⊎◌, inl, inr, ◌∙◌, refl, sym, ap, Bool, false, cond, List, [], ◌∷◌, ◌++◌}
 use mathlib.Core.Bool.{true≢false}
 use Rattle.std.proofs.lemmas.Bool.{cases_Bool}
-use Rattle.tsc_time.specs.OwnedTime.{OwnedTime}
+use Rattle.tsc_time.specs.ValueView.{ValueView}
 use Rattle.tsc_time.specs.Joint.{joint}
 use Rattle.tsc_span.specs.Span.{Cut, before, after, last, between, overlaps}
 use Rattle.tsc_page_nodes.specs.Nodes.{Node, node_stretches, IsSorted, raise_nodes}
 use Rattle.tsc_page_tree.specs.Leaves.{start_of}
-use Rattle.tsc_page_nodes.proofs.CutOrder.{Lt, Le, Meet, Lt-not_Le, Le-from_Lt, Le-itself, Lt-chain, Le-chain, Le_Lt-chain, Lt_Le-chain, before-after, below_last, none_above_last, overlaps-from, overlaps-tells}
+use Rattle.tsc_span.proofs.CutOrder.{Lt, Le, Meet, Lt-not_Le, Le-from_Lt, Le-itself, Lt-chain, Le-chain, Le_Lt-chain, Lt_Le-chain, before-after, below_last, none_above_last, overlaps-from, overlaps-reports}
 use Rattle.tsc_page_nodes.proofs.Cuts.{lowest}
 use Rattle.tsc_page_nodes.proofs.Answers.{Meets}
 
@@ -33,29 +33,29 @@ same_overlap : (a b f t c d g u : Cut) → (Meet a b f t → Meet c d g u) →
     (Meet c d g u → Meet a b f t) →
     overlaps (between a b) (between f t) ≡ overlaps (between c d) (between g u)
 same_overlap a b f t c d g u to back = elim (cases_Bool (overlaps (between a b) (between f t))) [
-  | inl h ↦ h ∙ sym (overlaps-from c d g u (to (overlaps-tells a b f t h)))
+  | inl h ↦ h ∙ sym (overlaps-from c d g u (to (overlaps-reports a b f t h)))
   | inr h ↦ elim (cases_Bool (overlaps (between c d) (between g u))) [
     | inl k ↦ absurd (true≢false (sym
-        (overlaps-from a b f t (back (overlaps-tells c d g u k))) ∙ h))
+        (overlaps-from a b f t (back (overlaps-reports c d g u k))) ∙ h))
     | inr k ↦ h ∙ sym k
   ]
 ]
 
 apart : (a b f t : Cut) → (Meet a b f t → ⊥) → overlaps (between a b) (between f t) ≡ false
 apart a b f t none = elim (cases_Bool (overlaps (between a b) (between f t))) [
-  | inl h ↦ absurd (none (overlaps-tells a b f t h))
+  | inl h ↦ absurd (none (overlaps-reports a b f t h))
   | inr h ↦ h
 ]
 
 -- a node whose key and gap are raised where two tests say so, before other nodes
-abbrev pub raised_where : Node → OwnedTime → Bool → Bool → Node
+abbrev pub raised_where : Node → ValueView → Bool → Bool → Node
 raised_where n v k g = record {
   key = n.key;
   value = cond k (joint n.value (v ∷ [])) n.value;
   gap = cond g (joint n.gap (v ∷ [])) n.gap;
 }
 
-same_node : (n : Node) (v : OwnedTime) (k l g h : Bool) (ns ms : List Node) → k ≡ l → g ≡ h →
+same_node : (n : Node) (v : ValueView) (k l g h : Bool) (ns ms : List Node) → k ≡ l → g ≡ h →
     ns ≡ ms → raised_where n v k g ∷ ns ≡ raised_where n v l h ∷ ms
 same_node n v k l g h ns ms first second rest =
     rw (first, second) (ap (λ (os : List Node). raised_where n v l h ∷ os) rest)
@@ -84,14 +84,14 @@ module _ (f t : Cut) where
       (Le-from_Lt (before n.key) (start_of ns)
       (Lt-chain (before n.key) (after n.key) (start_of ns) (before-after n.key) sorted.0))
 
-  pub raises_none : (v : OwnedTime) (ns : List Node) → IsSorted ns → Le t (start_of ns) →
+  pub raises_none : (v : ValueView) (ns : List Node) → IsSorted ns → Le t (start_of ns) →
       raise_nodes (between f t) v ns ≡ ns
   raises_none v [] sorted high = refl
   raises_none v (n ∷ ns) sorted high =
       rw (key_above n high, gap_above n (start_of ns) high)
       (ap (λ (ms : List Node). n ∷ ms) (raises_none v ns sorted.1 (next_above n ns sorted high)))
 
-  pub meets_none : (v : OwnedTime) (ns : List Node) → IsSorted ns → Le t (start_of ns) →
+  pub meets_none : (v : ValueView) (ns : List Node) → IsSorted ns → Le t (start_of ns) →
       Meets (between f t) (node_stretches ns) v → ⊥
   meets_none v [] sorted high m = m
   meets_none v (n ∷ ns) sorted high (inl m) = true≢false (sym m.0 ∙ key_above n high)
@@ -110,7 +110,7 @@ module _ (f t : Cut) (up : Lt f t) (ys : List Node) (high : Le t (start_of ys)) 
       (λ m. (below_last x.key, m.1, up_to_last f t up, up))
       (λ m. (sorted.0, m.1, Lt_Le-chain f t (start_of ys) up high, up))
 
-  pub raises_left : (v : OwnedTime) (xs : List Node) → IsSorted (xs ++ ys) →
+  pub raises_left : (v : ValueView) (xs : List Node) → IsSorted (xs ++ ys) →
       raise_nodes (between f t) v (xs ++ ys) ≡ raise_nodes (between f t) v xs ++ ys
   raises_left v [] sorted = raises_none f t v ys sorted high
   raises_left v (x ∷ xs) sorted = same_node x v
@@ -121,7 +121,7 @@ module _ (f t : Cut) (up : Lt f t) (ys : List Node) (high : Le t (start_of ys)) 
       (raise_nodes (between f t) v (xs ++ ys)) (raise_nodes (between f t) v xs ++ ys) refl
       (gap_left x xs sorted) (raises_left v xs sorted.1)
 
-  pub meets_left : (v : OwnedTime) (xs : List Node) → IsSorted (xs ++ ys) →
+  pub meets_left : (v : ValueView) (xs : List Node) → IsSorted (xs ++ ys) →
       (Meets (between f t) (node_stretches (xs ++ ys)) v →
       Meets (between f t) (node_stretches xs) v) ×
       (Meets (between f t) (node_stretches xs) v →
@@ -167,14 +167,14 @@ module _ (f t : Cut) (ys : List Node) (low : Le (start_of ys) f) where
   gap_passed x xs sorted = apart (after x.key) (start_of (xs ++ ys)) f t
       (λ m. Lt-not_Le f (start_of (xs ++ ys)) m.2 (ends_low x xs sorted))
 
-  pub raises_right : (v : OwnedTime) (xs : List Node) → IsSorted (xs ++ ys) →
+  pub raises_right : (v : ValueView) (xs : List Node) → IsSorted (xs ++ ys) →
       raise_nodes (between f t) v (xs ++ ys) ≡ xs ++ raise_nodes (between f t) v ys
   raises_right v [] sorted = refl
   raises_right v (x ∷ xs) sorted =
       rw (key_passed x xs sorted, gap_passed x xs sorted)
       (ap (λ (ms : List Node). x ∷ ms) (raises_right v xs sorted.1))
 
-  pub meets_right : (v : OwnedTime) (xs : List Node) → IsSorted (xs ++ ys) →
+  pub meets_right : (v : ValueView) (xs : List Node) → IsSorted (xs ++ ys) →
       (Meets (between f t) (node_stretches (xs ++ ys)) v →
       Meets (between f t) (node_stretches ys) v) ×
       (Meets (between f t) (node_stretches ys) v →
@@ -274,7 +274,7 @@ module _ (f t : Cut) (ys : List Node) (from_first : Lt f (start_of ys))
       (Le-from_Lt (before n.key) (start_of ns)
       (Lt-chain (before n.key) (after n.key) (start_of ns) (before-after n.key) sorted.0))
 
-  raises_second : (v : OwnedTime) (ns : List Node) → IsSorted ns → Le (start_of ys) (start_of ns) →
+  raises_second : (v : ValueView) (ns : List Node) → IsSorted ns → Le (start_of ys) (start_of ns) →
       raise_nodes (between f t) v ns ≡ raise_nodes (between (before []) t) v ns
   raises_second v [] sorted high = refl
   raises_second v (n ∷ ns) sorted high =
@@ -286,7 +286,7 @@ module _ (f t : Cut) (ys : List Node) (from_first : Lt f (start_of ys))
       (key_second n high) (gap_second n (start_of ns) high sorted.0)
       (raises_second v ns sorted.1 (later_on n ns sorted high))
 
-  meets_second : (v : OwnedTime) (ns : List Node) → IsSorted ns → Le (start_of ys) (start_of ns) →
+  meets_second : (v : ValueView) (ns : List Node) → IsSorted ns → Le (start_of ys) (start_of ns) →
       (Meets (between f t) (node_stretches ns) v →
       Meets (between (before []) t) (node_stretches ns) v) ×
       (Meets (between (before []) t) (node_stretches ns) v →
@@ -312,7 +312,7 @@ module _ (f t : Cut) (ys : List Node) (from_first : Lt f (start_of ys))
         ],
       )
 
-  pub raises_both : (v : OwnedTime) (xs : List Node) → IsSorted (xs ++ ys) →
+  pub raises_both : (v : ValueView) (xs : List Node) → IsSorted (xs ++ ys) →
       raise_nodes (between f t) v (xs ++ ys) ≡ raise_nodes (between f last) v xs ++
       raise_nodes (between (before []) t) v ys
   raises_both v [] sorted = raises_second v ys sorted (Le-itself (start_of ys))
@@ -325,7 +325,7 @@ module _ (f t : Cut) (ys : List Node) (from_first : Lt f (start_of ys))
       (raise_nodes (between f last) v xs ++ raise_nodes (between (before []) t) v ys)
       (key_first x xs sorted) (gap_first x xs sorted) (raises_both v xs sorted.1)
 
-  pub meets_both : (v : OwnedTime) (xs : List Node) → IsSorted (xs ++ ys)
+  pub meets_both : (v : ValueView) (xs : List Node) → IsSorted (xs ++ ys)
       → (Meets (between f t) (node_stretches (xs ++ ys)) v →
       Meets (between f last) (node_stretches xs) v ⊎
       Meets (between (before []) t) (node_stretches ys) v)

@@ -7,18 +7,18 @@ use mathlib.Core.Bool.{true≢false}
 use Rattle.std.specs.Result.{IsErr}
 use Rattle.std.proofs.lemmas.List.{length-map}
 use Rattle.tsc_time.specs.Time.{zero_time}
-use Rattle.tsc_time.specs.OwnedTime.{OwnedTime, unowned}
+use Rattle.tsc_time.specs.ValueView.{ValueView, unowned}
 use Rattle.tsc_time.specs.Joint.{joint}
 use Rattle.tsc_span.specs.Span.{KeyBytes, Cut, before, after, last, point, is_below}
 use Rattle.tsc_page_nodes.proofs.Cuts.{raise_nodes-start}
 use Rattle.tsc_page_nodes.specs.Prefixes.{IsCutPrefix}
 use Rattle.tsc_page_nodes.specs.declared.nodes.Growth.{Growth}
 use Rattle.tsc_page_nodes.specs.Nodes.{Node, IsSorted, FitsAt, IsNewKey, AddsNodes, with_new, node_in_gap, gap_value, raise_nodes, nodes_cost}
-use Rattle.tsc_page_nodes.specs.KeyAdds.{KeyInsertionView, IsKeyTold}
+use Rattle.tsc_page_nodes.specs.KeyAdds.{KeyInsertionView, IsKeyReported}
 use Rattle.tsc_page_tree.specs.Leaves.{nodes_of, AreSome, start_of, IsLeafAt}
-use Rattle.tsc_page_tree.specs.Lazy.{everything, with_lazy, IsToldOf, sizes_of, IsAddTold, joint_after}
-use Rattle.tsc_page_tree.specs.KeyAdds.{at_key, AddsKey, IsKeyAddTold}
-use Rattle.tsc_page_nodes.proofs.CutOrder.{Lt, Le, Lt-not_Le, Le-chain, Le_Lt-chain, Le-from_Lt, before-after}
+use Rattle.tsc_page_tree.specs.Lazy.{everything, with_lazy, IsReportedOf, sizes_of, IsAddReported, joint_after}
+use Rattle.tsc_page_tree.specs.KeyAdds.{at_key, AddsKey, IsKeyAddReported}
+use Rattle.tsc_span.proofs.CutOrder.{Lt, Le, Lt-not_Le, Le-chain, Le_Lt-chain, Le-from_Lt, before-after}
 use Rattle.tsc_page_nodes.proofs.Costs.{cost-raised}
 use Rattle.tsc_page_nodes.proofs.NewKeys.{with_new_splits}
 use Rattle.tsc_page_tree.proofs.LeafKeys.{wholly_below}
@@ -26,10 +26,10 @@ use Rattle.tsc_page_tree.proofs.LeafAdds.{same_some, start_with}
 use Rattle.tsc_page_tree.proofs.LeafLists.{starts_rise, start_at, ends_high, subtree_read}
 use Rattle.tsc_page_tree.proofs.Lazy.{raised_node, raise_all, raise_lazy, lazy-start, lazy-length, lazy-is_in, sorted_without}
 use Rattle.tsc_page_tree.proofs.AllJoint.{all_joint_added}
-use Rattle.tsc_page_tree.proofs.SubtreeAdds.{told_in_subtree}
+use Rattle.tsc_page_tree.proofs.SubtreeAdds.{reported_in_subtree}
 
 -- a raised list has the gap before a place raised, where there is one
-gap_raised_at : (v w u : OwnedTime) (ns : List Node) (i : ℕ) → 1 ≤ i → i ≤ length ns →
+gap_raised_at : (v w u : ValueView) (ns : List Node) (i : ℕ) → 1 ≤ i → i ≤ length ns →
     gap_value u (map (raised_node v) ns) i ≡ joint (gap_value w ns i) (v ∷ [])
 gap_raised_at v w u ns zero some within = absurd (omega (arith, some))
 gap_raised_at v w u [] (suc i) some within = absurd (omega (arith, within))
@@ -38,7 +38,7 @@ gap_raised_at v w u (n ∷ ns) (suc (suc i)) some within =
     gap_raised_at v n.gap (joint n.gap (v ∷ [])) ns (suc i) (omega arith) (omega (arith, within))
 
 -- and a node that comes in is raised with the others
-insert_raised : (v : OwnedTime) (x : Node) (ns : List Node) (i : ℕ) → i ≤ length ns →
+insert_raised : (v : ValueView) (x : Node) (ns : List Node) (i : ℕ) → i ≤ length ns →
     map (raised_node v) (insert ns i x) ≡ insert (map (raised_node v) ns) i (raised_node v x)
 insert_raised v x ns zero within = refl
 insert_raised v x [] (suc i) within = absurd (omega (arith, within))
@@ -46,7 +46,7 @@ insert_raised v x (n ∷ ns) (suc i) within =
     ap (λ (ms : List Node). raised_node v n ∷ ms) (insert_raised v x ns i (omega (arith, within)))
 
 -- a key fits where it did
-fits_raised : (k : KeyBytes) (v : OwnedTime) (low : Cut) (ns : List Node) (i : ℕ) →
+fits_raised : (k : KeyBytes) (v : ValueView) (low : Cut) (ns : List Node) (i : ℕ) →
     FitsAt k low ns i → FitsAt k low (raise_nodes everything v ns) i
 fits_raised k v low ns zero fits =
     (fits.0, subst (Lt (after k)) (sym (raise_nodes-start everything v ns)) fits.1)
@@ -63,7 +63,7 @@ falls_behind k ns zero low fits = absurd
 falls_behind k ns (suc i) low fits = omega arith
 
 -- such a key is as new below the lazy value, and its node has that too
-pub new_lazy : (p : Option OwnedTime) (ns : List Node) (k : KeyBytes) (g : Option (ℕ × KeyBytes)) →
+pub new_lazy : (p : Option ValueView) (ns : List Node) (k : KeyBytes) (g : Option (ℕ × KeyBytes)) →
     IsSorted ns → Le (start_of ns) (before k) → IsNewKey ns (Some k) g
     → IsNewKey (with_lazy p ns) (Some k) g ×
     (with_lazy p (with_new ns g) ≡ with_new (with_lazy p ns) g)
@@ -71,7 +71,7 @@ new_lazy None ns k g sorted low new = (new, refl)
 new_lazy (Some v) ns k None sorted low new = (lazy-is_in (Some v) k ns ∙ new, refl)
 new_lazy (Some v) ns k (Some f) sorted low new =
     let i : ℕ = f.0 in
-    let w : OwnedTime = gap_value (unowned zero_time) ns i in
+    let w : ValueView = gap_value (unowned zero_time) ns i in
     let x : Node = node_in_gap f.1 w in
     let some : 1 ≤ i = falls_behind k ns i low new.1 in
     let all : raise_nodes everything v ns ≡ map (raised_node v) ns = raise_all v ns sorted in
@@ -83,20 +83,20 @@ new_lazy (Some v) ns k (Some f) sorted low new =
         omega (arith, new.2, lazy-length (Some v) ns),
       ),
       raise_all v (insert ns i x) mid ∙ insert_raised v x ns i new.2
-          ∙ ap (λ (u : OwnedTime). insert (map (raised_node v) ns) i (node_in_gap f.1 u))
+          ∙ ap (λ (u : ValueView). insert (map (raised_node v) ns) i (node_in_gap f.1 u))
           (sym (gap_raised_at v (unowned zero_time) (unowned zero_time) ns i some new.2))
           ∙ ap (λ (ms : List Node). insert ms i
           (node_in_gap f.1 (gap_value (unowned zero_time) ms i))) (sym all),
     )
 
 -- the lazy value changes no costs
-pub lazy_cost : (p : Option OwnedTime) (ns : List Node) →
+pub lazy_cost : (p : Option ValueView) (ns : List Node) →
     nodes_cost (with_lazy p ns) ≡ nodes_cost ns
 lazy_cost None ns = refl
 lazy_cost (Some v) ns = cost-raised everything v ns
 
 -- What is made of nodes at a key is made of them below the lazy value.
-nodes_lazy : (p : Option OwnedTime) (old new : List Node) (k : KeyBytes) (v : OwnedTime) →
+nodes_lazy : (p : Option ValueView) (old new : List Node) (k : KeyBytes) (v : ValueView) →
     IsSorted old → Le (start_of old) (before k) → AddsNodes old new (Some k) None (point k) v →
     AddsNodes (with_lazy p old) (with_lazy p new) (Some k) None (point k) v
 nodes_lazy p old new k v sorted low adds =
@@ -120,7 +120,7 @@ nodes_lazy p old new k v sorted low adds =
           raised = ap (with_lazy p) adds.raised ∙ raise_lazy p (point k) v adds.mid;
         }
 
-pub adds_lazy : (p : Option OwnedTime) (old new : List Node) (a : KeyInsertionView) (room : ℕ)
+pub adds_lazy : (p : Option ValueView) (old new : List Node) (a : KeyInsertionView) (room : ℕ)
     (more : Growth) → IsSorted old → AddsKey old new a room more →
     AddsKey (with_lazy p old) (with_lazy p new) a room more
 adds_lazy p old new a room more sorted adds = record {
@@ -135,14 +135,16 @@ adds_lazy p old new a room more sorted adds = record {
   };
 }
 
-pub told_lazy : {E : Type 0} (p : Option OwnedTime) (old new : List Node) (was now : List ℕ)
+pub reported_lazy : {E : Type 0} (p : Option ValueView) (old new : List Node) (was now : List ℕ)
     (a : KeyInsertionView) (room : ℕ) (r : Result (Option Growth) E) → IsSorted old →
-    IsKeyAddTold old new was now a room r →
-    IsKeyAddTold (with_lazy p old) (with_lazy p new) was now a room r
-told_lazy p old new was now a room (Ok (Some more)) sorted told =
-    adds_lazy p old new a room more sorted told
-told_lazy p old new was now a room (Ok None) sorted told = (ap (with_lazy p) told.0, told.1)
-told_lazy p old new was now a room (Err e) sorted told = (ap (with_lazy p) told.0, told.1)
+    IsKeyAddReported old new was now a room r →
+    IsKeyAddReported (with_lazy p old) (with_lazy p new) was now a room r
+reported_lazy p old new was now a room (Ok (Some more)) sorted reported =
+    adds_lazy p old new a room more sorted reported
+reported_lazy p old new was now a room (Ok None) sorted reported =
+    (ap (with_lazy p) reported.0, reported.1)
+reported_lazy p old new was now a room (Err e) sorted reported =
+    (ap (with_lazy p) reported.0, reported.1)
 
 -- where nodes begin that key isn't below them before
 start_kept : (old new : List Node) (a : KeyInsertionView) (room : ℕ) (more : Growth) →
@@ -166,13 +168,14 @@ start_kept old new a room more some adds =
         adds.low) some lower
 
 -- What is told of nodes, once an Add at a key below was made.
-pub told_key : {E : Type 0} (r : Result (Option Growth) E) (n : ℕ) (all : OwnedTime)
-    (p : Option OwnedTime) (old new : List Node) (was now : List ℕ)
+pub reported_key : {E : Type 0} (r : Result (Option Growth) E) (n : ℕ) (all : ValueView)
+    (p : Option ValueView) (old new : List Node) (was now : List ℕ)
     (a : KeyInsertionView) (room : ℕ) →
-    IsSorted (with_lazy p old) → IsKeyAddTold old new was now a room r → IsToldOf n all p old
-    → IsToldOf n (joint_after r true a.value all) p new
-told_key (Ok (Some more)) n all p old new was now a room sorted adds told =
-    let starts = start_kept old new a room more told.some adds in
+    IsSorted (with_lazy p old) → IsKeyAddReported old new was now a room r →
+    IsReportedOf n all p old
+    → IsReportedOf n (joint_after r true a.value all) p new
+reported_key (Ok (Some more)) n all p old new was now a room sorted adds reported =
+    let starts = start_kept old new a room more reported.some adds in
     let above = adds_lazy p old new a room more (sorted_without p old sorted) adds in
     let reached : is_below (start_of (with_lazy p new)) (after a.key) ≡ true =
     Le_Lt-chain (start_of (with_lazy p new)) (before a.key) (after a.key)
@@ -181,54 +184,57 @@ told_key (Ok (Some more)) n all p old new was now a room sorted adds told =
     let joined = all_joint_added (with_lazy p old) (with_lazy p new) (Some a.key) None
     (before a.key) (after a.key) a.value sorted tt (before-after a.key) above.some.adds in
     record {
-      some = omega (arith, told.some, adds.some.grown.count);
-      start = subst (IsCutPrefix n) (sym starts) told.start;
-      joint = ap (λ (w : OwnedTime). joint w (a.value ∷ [])) told.joint ∙
+      some = omega (arith, reported.some, adds.some.grown.count);
+      start = subst (IsCutPrefix n) (sym starts) reported.start;
+      joint = ap (λ (w : ValueView). joint w (a.value ∷ [])) reported.joint ∙
           sym (rw reached at joined);
     }
-told_key (Ok None) n all p old new was now a room sorted left told =
-    subst (IsToldOf n all p) (sym left.0) told
-told_key (Err e) n all p old new was now a room sorted left told =
-    subst (IsToldOf n all p) (sym left.0) told
+reported_key (Ok None) n all p old new was now a room sorted left reported =
+    subst (IsReportedOf n all p) (sym left.0) reported
+reported_key (Err e) n all p old new was now a room sorted left reported =
+    subst (IsReportedOf n all p) (sym left.0) reported
 
 -- what an Add to nodes tells, of a leaf of them
-pub told_leaf : {E : Type 0} (r : Result (Option Growth) E) (old new : List Node)
+pub reported_leaf : {E : Type 0} (r : Result (Option Growth) E) (old new : List Node)
     (a : KeyInsertionView)
-    (room : Growth) → IsKeyTold old new a room r →
-    IsKeyAddTold old new (length old ∷ []) (length new ∷ []) a room.bytes r
-told_leaf (Ok (Some more)) old new a room told =
+    (room : Growth) → IsKeyReported old new a room r →
+    IsKeyAddReported old new (length old ∷ []) (length new ∷ []) a room.bytes r
+reported_leaf (Ok (Some more)) old new a room reported =
     record {
-      low = told.low;
+      low = reported.low;
       some =
-          record { adds = told.adds; grown = told.grown; within = told.within.1 };
+          record { adds = reported.adds; grown = reported.grown; within = reported.within.1 };
     }
-told_leaf (Ok None) old new a room same = (same, ap (λ (ns : List Node). length ns ∷ []) same)
-told_leaf (Err e) old new a room same = (same, ap (λ (ns : List Node). length ns ∷ []) same)
+reported_leaf (Ok None) old new a room same = (same, ap (λ (ns : List Node). length ns ∷ []) same)
+reported_leaf (Err e) old new a room same = (same, ap (λ (ns : List Node). length ns ∷ []) same)
 
 -- which has no more than fit
 pub few_in_leaf : {E : Type 0} (r : Result (Option Growth) E) (old new : List Node)
     (a : KeyInsertionView)
     (room : Growth) → 1 ≤ length old → length old ≤ 64 → room.nodes + length old ≤ 64 →
-    IsKeyTold old new a room r → (1 ≤ length new) × (length new ≤ 64)
-few_in_leaf (Ok (Some more)) old new a room some few fits told =
-    (omega (arith, some, told.grown.count), omega (arith, fits, told.grown.count, told.within.0))
+    IsKeyReported old new a room r → (1 ≤ length new) × (length new ≤ 64)
+few_in_leaf (Ok (Some more)) old new a room some few fits reported = (
+  omega (arith, some, reported.grown.count),
+  omega
+      (arith, fits, reported.grown.count, reported.within.0),
+)
 few_in_leaf (Ok None) old new a room some few fits same =
     (omega (arith, some, ap length same), omega (arith, few, ap length same))
 few_in_leaf (Err e) old new a room some few fits same =
     (omega (arith, some, ap length same), omega (arith, few, ap length same))
 
 -- what adds at a key adds within its cuts
-pub told_within : {E : Type 0} (r : Result (Option Growth) E) (old new : List Node)
-    (was now : List ℕ) (a : KeyInsertionView) (room : ℕ) → IsKeyAddTold old new was now a room r →
-    IsAddTold old new was now (at_key a) room r
-told_within (Ok (Some more)) old new was now a room told = told.some
-told_within (Ok None) old new was now a room told = told
-told_within (Err e) old new was now a room told = told
+pub reported_within : {E : Type 0} (r : Result (Option Growth) E) (old new : List Node)
+    (was now : List ℕ) (a : KeyInsertionView) (room : ℕ) → IsKeyAddReported old new was now a room r
+    → IsAddReported old new was now (at_key a) room r
+reported_within (Ok (Some more)) old new was now a room reported = reported.some
+reported_within (Ok None) old new was now a room reported = reported
+reported_within (Err e) old new was now a room reported = reported
 
 -- what such a call tells where it is refused
 pub refused_key : {E : Type 0} (r : Result (Option Growth) E) (old new : List Node)
     (was now : List ℕ) (a : KeyInsertionView) (room : ℕ) → IsErr r → new ≡ old → now ≡ was →
-    IsKeyAddTold old new was now a room r
+    IsKeyAddReported old new was now a room r
 refused_key (Ok d) old new was now a room is nodes sizes = absurd (true≢false (sym is))
 refused_key (Err e) old new was now a room is nodes sizes = (nodes, sizes)
 
@@ -247,12 +253,12 @@ module _ {X : Type 0} (f : X → List Node) (xs : List X) (p : ℕ) (d y : X) (a
       below_last_key k = refl
 
   within : (E : Type 0) (s : X → List ℕ) (r : Result (Option Growth) E) (room : ℕ) →
-      IsAddTold (f (get_or xs p d)) (f y) (s (get_or xs p d)) (s y) (at_key a) room r
-      → IsAddTold (nodes_of (map f xs)) (nodes_of (map f (set xs p y))) (sizes_of (map s xs))
+      IsAddReported (f (get_or xs p d)) (f y) (s (get_or xs p d)) (s y) (at_key a) room r
+      → IsAddReported (nodes_of (map f xs)) (nodes_of (map f (set xs p y))) (sizes_of (map s xs))
       (sizes_of (map s (set xs p y))) (at_key a) room r
-  within E s r room told = told_in_subtree f xs p d y (at_key a) some sorted inside at
+  within E s r room reported = reported_in_subtree f xs p d y (at_key a) some sorted inside at
       (before-after a.key) (inl refl) tt tt (Le-from_Lt (after a.key) (start_of behind) below) s r
-      room below told
+      room below reported
 
   low_of_all : Le (start_of (f (get_or xs p d))) (before a.key) →
       Le (start_of (nodes_of (map f xs))) (before a.key)
@@ -268,10 +274,14 @@ module _ {X : Type 0} (f : X → List Node) (xs : List X) (p : ℕ) (d y : X) (a
       (subst (λ (ns : List Node). Le (start_of ns) (before a.key)) read low))
 
   pub key_in_subtree : {E : Type 0} (s : X → List ℕ) (r : Result (Option Growth) E) (room : ℕ) →
-      IsKeyAddTold (f (get_or xs p d)) (f y) (s (get_or xs p d)) (s y) a room r
-      → IsKeyAddTold (nodes_of (map f xs)) (nodes_of (map f (set xs p y))) (sizes_of (map s xs))
+      IsKeyAddReported (f (get_or xs p d)) (f y) (s (get_or xs p d)) (s y) a room r
+      → IsKeyAddReported (nodes_of (map f xs)) (nodes_of (map f (set xs p y))) (sizes_of (map s xs))
       (sizes_of (map s (set xs p y))) a room r
-  key_in_subtree {E} s (Ok (Some more)) room told =
-      record { low = low_of_all told.low; some = within E s (Ok (Some more)) room told.some }
-  key_in_subtree {E} s (Ok None) room told = within E s (Ok None) room told
-  key_in_subtree {E} s (Err e) room told = within E s (Err e) room told
+  key_in_subtree {E} s (Ok (Some more)) room reported =
+      record {
+        low = low_of_all reported.low;
+        some = within E s (Ok (Some more)) room
+            reported.some;
+      }
+  key_in_subtree {E} s (Ok None) room reported = within E s (Ok None) room reported
+  key_in_subtree {E} s (Err e) room reported = within E s (Err e) room reported

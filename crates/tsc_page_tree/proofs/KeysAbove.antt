@@ -4,9 +4,9 @@ use Rattle.std.proofs.lemmas.Bool.{cases_Bool}
 use Rattle.std.specs.Prelude.{Option, Some, None}
 use Rattle.tsc_span.specs.Span.{KeyBytes, Cut, before, after, is_below}
 use Rattle.tsc_page_nodes.specs.Nodes.{Node, IsSorted, node_keys}
-use Rattle.tsc_page_nodes.specs.KeysAbove.{first_above}
-use Rattle.tsc_page_nodes.proofs.CutOrder.{Lt, Le, Lt-chain, Lt_Le-chain, Le-from_Lt, before-after}
-use Rattle.tsc_page_nodes.proofs.Places.{before_or_past}
+use Rattle.tsc_page_model.specs.KeysAbove.{first_above}
+use Rattle.tsc_span.proofs.CutOrder.{Lt, Le, Lt-chain, Lt_Le-chain, Le-from_Lt, before-after}
+use Rattle.tsc_page_nodes.proofs.Indices.{before_or_past}
 use Rattle.tsc_page_tree.specs.Leaves.{nodes_of, start_of, AreSome, IsLeafAt}
 use Rattle.tsc_page_tree.proofs.Joins.{below_next}
 use Rattle.tsc_page_tree.proofs.LeafLists.{parted_at, leaf_first, some_nodes, starts_low}
@@ -41,23 +41,23 @@ none_before c (x ∷ xs) ys sorted low =
     rw up (none_before c xs ys sorted.1 low)
 
 -- where nodes begin above a cut their first key is told
-first_told : (c : Cut) (ns ys : List Node) → 1 ≤ length ns → Lt c (start_of ns) →
+first_reported : (c : Cut) (ns ys : List Node) → 1 ≤ length ns → Lt c (start_of ns) →
     or_next (node_above c ns) (node_above c ys) ≡ node_above c ns
-first_told c [] ys some high = absurd (omega (arith, some))
-first_told c (n ∷ ns) ys some high = rw (Le-from_Lt c (before n.key) high) refl
+first_reported c [] ys some high = absurd (omega (arith, some))
+first_reported c (n ∷ ns) ys some high = rw (Le-from_Lt c (before n.key) high) refl
 
 or_none : (o : Option KeyBytes) → or_next o None ≡ o
 or_none None = refl
 or_none (Some k) = refl
 
 -- the nodes behind a subtree, of which the next subtree tells
-told_behind : (ls : List (List Node)) (c : Cut) (p : ℕ) → AreSome ls → IsLeafAt ls c p →
+reported_behind : (ls : List (List Node)) (c : Cut) (p : ℕ) → AreSome ls → IsLeafAt ls c p →
     node_above c (nodes_of (drop (suc p) ls)) ≡ node_above c (get_or ls (suc p) [])
-told_behind ls c p sizes at = elim (before_or_past (suc p) (length ls)) [
+reported_behind ls c p sizes at = elim (before_or_past (suc p) (length ls)) [
   | inl h ↦
       ap (node_above c) (leaf_first ls (suc p) [] h)
       ∙ above-append c (get_or ls (suc p) []) (nodes_of (drop (suc (suc p)) ls))
-      ∙ first_told c (get_or ls (suc p) []) (nodes_of (drop (suc (suc p)) ls))
+      ∙ first_reported c (get_or ls (suc p) []) (nodes_of (drop (suc (suc p)) ls))
       (some_nodes ls sizes (suc p) [] h) (at.high h)
   | inr h ↦ ap (node_above c) (none_left ls (suc p) h) ∙
       ap (node_above c) (sym (none_there ls (suc p) h))
@@ -86,7 +86,7 @@ above_in_subtree ls c p sizes sorted at = elim (before_or_past p (length ls)) [
       ∙ ap (λ o. or_next o (node_above c (nodes_of (drop p ls)))) none
       ∙ ap (node_above c) (leaf_first ls p [] h)
       ∙ above-append c (get_or ls p []) (nodes_of (drop (suc p) ls))
-      ∙ ap (or_next (node_above c (get_or ls p []))) (told_behind ls c p sizes at)
+      ∙ ap (or_next (node_above c (get_or ls p []))) (reported_behind ls c p sizes at)
   | inr h ↦ empty ls p h at.bound
 ]
   where
@@ -113,6 +113,6 @@ pub found_next : (o first second : Option KeyBytes) → o ≡ or_next first seco
 found_next o first second is none r next = next ∙ ap (λ f. or_next f second) none ∙ sym is
 
 -- what a subtree tells, by another word for its place
-pub at_place : (c : Cut) (ls : List (List Node)) {i : ℕ} (j : ℕ) (r : Option KeyBytes) →
+pub at_index : (c : Cut) (ls : List (List Node)) {i : ℕ} (j : ℕ) (r : Option KeyBytes) →
     r ≡ node_above c (get_or ls i []) → i ≡ j → r ≡ node_above c (get_or ls j [])
-at_place c ls j r told is = told ∙ ap (λ (k : ℕ). node_above c (get_or ls k [])) is
+at_index c ls j r reported is = reported ∙ ap (λ (k : ℕ). node_above c (get_or ls k [])) is

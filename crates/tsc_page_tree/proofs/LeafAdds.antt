@@ -14,14 +14,14 @@ use Rattle.std.proofs.lemmas.List.{append_assoc, length-append}
 use Rattle.std.proofs.lemmas.Map.Text.{is_eq-slice_cmp}
 use Rattle.std.proofs.lemmas.Slice.Eq.{bytes_eq-Decides}
 use Rattle.tsc_time.specs.Time.{zero_time}
-use Rattle.tsc_time.specs.OwnedTime.{OwnedTime, unowned}
-use Rattle.tsc_span.specs.Span.{KeyBytes, key_cmp, Cut, before, after, last, Interval, between, end_keys, is_below}
-use Rattle.tsc_span.proofs.CutOrder.{key_cmp_back}
-use Rattle.tsc_page_nodes.specs.PageView.{AreLeafSizes, is_in}
+use Rattle.tsc_time.specs.ValueView.{ValueView, unowned}
+use Rattle.tsc_span.specs.Span.{KeyBytes, key_cmp, Cut, before, after, last, SpanView, between, end_keys, is_below}
+use Rattle.tsc_span.proofs.CutsTotal.{key_cmp_back}
+use Rattle.tsc_page_model.specs.PageView.{AreLeafSizes, is_in}
 use Rattle.tsc_page_nodes.specs.Nodes.{Node, node_keys, IsSorted, FitsAt, IsNewKey, IsInOrder, IsSplitAt, MakesNodes, AddsNodes, with_new, node_in_gap, gap_value, raise_nodes}
 use Rattle.tsc_page_nodes.specs.Insertions.{LiesAt}
 use Rattle.tsc_page_tree.specs.Leaves.{nodes_of, leaf_sizes, AreLeaves, AreSome, start_of, AddsTo, key_below}
-use Rattle.tsc_page_nodes.proofs.CutOrder.{Lt, Le, Lt-or_Le, Lt-not_Le, Le-chain, Le-from_Lt, Lt-from_Le_sides, none_above_last, before-after}
+use Rattle.tsc_span.proofs.CutOrder.{Lt, Le, Lt-or_Le, Lt-not_Le, Le-chain, Le-from_Lt, Lt-from_Le_sides, none_above_last, before-after}
 use Rattle.tsc_page_nodes.proofs.Edits.{raise_nodes-length, raise_nodes-sorted}
 use Rattle.tsc_page_nodes.proofs.NewKeys.{with_new_splits, with_new-length, new_fits, still_new, splits_chain, makes_sorted}
 use Rattle.tsc_page_tree.proofs.Joins.{sorted_left, sorted_right, raises_left, raises_right, up_to_last}
@@ -102,7 +102,7 @@ module _ (l ys : List Node) where
           fits_left k (before []) l ys f.0 new.2 (high k refl) new.1,
           omega (arith, length-append l ys, new.2),
         ),
-        ap (λ (w : OwnedTime). insert (l ++ ys) f.0 (node_in_gap f.1 w))
+        ap (λ (w : ValueView). insert (l ++ ys) f.0 (node_in_gap f.1 w))
             (gap_value_left (unowned zero_time) l ys f.0 new.2) ∙
             insert_left l ys f.0 (node_in_gap f.1 (gap_value (unowned zero_time) l f.0)) new.2,
       )
@@ -168,7 +168,7 @@ new_right xs ys (Some k) (Some f) some low new = elim (low k refl) [
         fits_right k (before []) (before []) xs n ns i is.1,
         shift_bound xs (n ∷ ns) (suc i) is.2,
       ),
-      ap (λ (w : OwnedTime). insert (xs ++ n ∷ ns) (shift xs (suc i)) (node_in_gap f.1 w))
+      ap (λ (w : ValueView). insert (xs ++ n ∷ ns) (shift xs (suc i)) (node_in_gap f.1 w))
           (gap_value_right (unowned zero_time) (unowned zero_time) xs n ns i)
           ∙ insert_right xs (n ∷ ns) (suc i)
           (node_in_gap f.1 (gap_value (unowned zero_time) (n ∷ ns) (suc i))),
@@ -208,7 +208,7 @@ low_end c (Some m) ys low (inr at) k e =
     (no_higher ys m (subst (Le (start_of ys)) at low))
 
 -- An Add that stops in the first of two lists, or where the second begins.
-pub adds_left : (l ys new : List Node) (f t : Cut) (v : OwnedTime) (o q : Option KeyBytes)
+pub adds_left : (l ys new : List Node) (f t : Cut) (v : ValueView) (o q : Option KeyBytes)
     (h g : Option (ℕ × KeyBytes)) → IsSorted (l ++ ys) → Lt f t → Lt f (start_of ys) →
     Le t (start_of ys) → LiesAt o f → LiesAt q t → IsInOrder o q
     → IsNewKey l (key_below (start_of ys) o) h → IsNewKey l (key_below (start_of ys) q) g →
@@ -254,7 +254,7 @@ all_below ys f None low lies = refl
 all_below ys f (Some k) low lies = rw (known_low ys f (Some k) low lies k refl) refl
 
 -- An Add that begins in the second of two lists, or anywhere where that is all.
-pub adds_right : (xs ys ys' : List Node) (f t : Cut) (v : OwnedTime) (o q : Option KeyBytes) →
+pub adds_right : (xs ys ys' : List Node) (f t : Cut) (v : ValueView) (o q : Option KeyBytes) →
     IsSorted (xs ++ ys) → Lt f t → (xs ≡ []) ⊎ Le (start_of ys) f → LiesAt o f → LiesAt q t →
     IsInOrder o q
     → AddsNodes ys ys' o q (between f t) v → AddsNodes (xs ++ ys) (xs ++ ys') o q (between f t) v
@@ -304,7 +304,7 @@ adds_right xs ys ys' f t v o q sorted up low first second order adds = elim low 
     nonempty (n ∷ ns) z = omega arith
 
 -- how many nodes an Add makes
-pub adds_few : (old new : List Node) (o q : Option KeyBytes) (s : Interval) (v : OwnedTime) →
+pub adds_few : (old new : List Node) (o q : Option KeyBytes) (s : SpanView) (v : ValueView) →
     IsSorted old → IsInOrder o q → AddsNodes old new o q s v → (length new ≤ length old + 2) ×
     (length old ≤ length new)
 adds_few old new o q s v sorted order adds =
@@ -326,7 +326,7 @@ adds_few old new o q s v sorted order adds =
     bit false = omega arith
 
 -- what an Add makes of nodes, by the span's end keys
-pub adds_to : (old new : List Node) (o q : Option KeyBytes) (s : Interval) (v : OwnedTime) →
+pub adds_to : (old new : List Node) (o q : Option KeyBytes) (s : SpanView) (v : ValueView) →
     IsSorted old → IsInOrder o q → option_to_list o ++ option_to_list q ≡ end_keys s →
     AddsNodes old new o q s v → AddsTo old new s v × IsSorted new
 adds_to old new o q s v sorted order keys adds =
@@ -373,10 +373,10 @@ no_key true q none = refl
 no_key false q none = none
 
 -- a key at a cut is wholly below nodes where the cut is
-pub told_below : (ys : List Node) (t : Cut) (q : Option KeyBytes) → LiesAt q t →
+pub reported_below : (ys : List Node) (t : Cut) (q : Option KeyBytes) → LiesAt q t →
     key_below (start_of ys) q ≡ cond (is_below t (start_of ys)) q None
-told_below ys t None lies = no_key (is_below t (start_of ys)) None refl
-told_below ys t (Some k) (inl at) =
+reported_below ys t None lies = no_key (is_below t (start_of ys)) None refl
+reported_below ys t (Some k) (inl at) =
     ap (λ (b : Bool). cond b (Some k) None)
     (same ∙ ap (λ (c : Cut). is_below c (start_of ys)) (sym at))
   where
@@ -386,7 +386,7 @@ told_below ys t (Some k) (inl at) =
       | inr h ↦ Le-chain (start_of ys) (before k) (after k) h
           (Le-from_Lt (before k) (after k) (before-after k)) ∙ sym h
     ]
-told_below ys t (Some k) (inr at) =
+reported_below ys t (Some k) (inr at) =
     ap (λ (c : Cut). cond (is_below c (start_of ys)) (Some k) None) (sym at)
 
 pub some_leaves : (ls : List (List Node)) → AreLeafSizes (leaf_sizes ls) → AreSome ls

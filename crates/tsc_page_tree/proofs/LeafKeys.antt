@@ -11,12 +11,12 @@ use Rattle.std.proofs.Math.Bool.{or-true}
 use Rattle.std.proofs.lemmas.List.{length-append}
 use Rattle.std.proofs.lemmas.List.Edits.{length-insert}
 use Rattle.tsc_time.specs.Time.{zero_time}
-use Rattle.tsc_time.specs.OwnedTime.{OwnedTime, unowned}
+use Rattle.tsc_time.specs.ValueView.{ValueView, unowned}
 use Rattle.tsc_span.specs.Span.{KeyBytes, key_cmp, Cut, before, after}
-use Rattle.tsc_page_nodes.specs.PageView.{is_in}
+use Rattle.tsc_page_model.specs.PageView.{is_in}
 use Rattle.tsc_page_nodes.specs.Nodes.{Node, node_keys, IsSorted, FitsAt, IsNewKey, IsSplitAt, with_new, node_in_gap, gap_value}
 use Rattle.tsc_page_tree.specs.Leaves.{start_of, HasNode}
-use Rattle.tsc_page_nodes.proofs.CutOrder.{Lt, Le, Lt-not_Le, Le-chain, Le-from_Lt, after-before, below_last, before-after}
+use Rattle.tsc_span.proofs.CutOrder.{Lt, Le, Lt-not_Le, Le-chain, Le-from_Lt, after-before, below_last, before-after}
 use Rattle.tsc_page_nodes.proofs.Cuts.{lowest}
 use Rattle.tsc_page_nodes.proofs.Edits.{FitsAt-absent}
 use Rattle.tsc_page_nodes.proofs.NewKeys.{with_new_splits}
@@ -56,13 +56,13 @@ pub insert_right : (xs ys : List Node) (i : ℕ) (n : Node) →
 insert_right [] ys i n = refl
 insert_right (x ∷ xs) ys i n = ap (λ (ns : List Node). x ∷ ns) (insert_right xs ys i n)
 
-pub gap_value_left : (v : OwnedTime) (xs ys : List Node) (i : ℕ) → i ≤ length xs →
+pub gap_value_left : (v : ValueView) (xs ys : List Node) (i : ℕ) → i ≤ length xs →
     gap_value v (xs ++ ys) i ≡ gap_value v xs i
 gap_value_left v xs ys zero h = refl
 gap_value_left v [] ys (suc i) h = absurd (omega arith)
 gap_value_left v (x ∷ xs) ys (suc i) h = gap_value_left x.gap xs ys i (omega arith)
 
-pub gap_value_right : (v w : OwnedTime) (xs : List Node) (n : Node) (ys : List Node) (i : ℕ) →
+pub gap_value_right : (v w : ValueView) (xs : List Node) (n : Node) (ys : List Node) (i : ℕ) →
     gap_value v (xs ++ n ∷ ys) (shift xs (suc i)) ≡ gap_value w (n ∷ ys) (suc i)
 gap_value_right v w [] n ys i = refl
 gap_value_right v w (x ∷ xs) n ys i = gap_value_right x.gap w xs n ys i
@@ -92,7 +92,7 @@ at_first : (k : KeyBytes) (leaf ys : List Node) (i : ℕ) → i ≤ length leaf 
 at_first k leaf ys i h high fits = record {
   fits = fits_left k (before []) leaf ys i h high fits;
   bound = omega (arith, length-append leaf ys);
-  nodes = ap (λ (v : OwnedTime). insert (leaf ++ ys) i (node_in_gap k v))
+  nodes = ap (λ (v : ValueView). insert (leaf ++ ys) i (node_in_gap k v))
       (gap_value_left (unowned zero_time) leaf ys i h) ∙
       insert_left leaf ys i (node_in_gap k (gap_value (unowned zero_time) leaf i)) h;
 }
@@ -105,7 +105,7 @@ later_on k xs n ns ys i h high fits = record {
       (fits_left k (before []) (n ∷ ns) ys (suc i) h high fits);
   bound = shift_bound xs (n ∷ (ns ++ ys)) (suc i) (omega (arith, h, length-append ns ys));
   nodes =
-      ap (λ (v : OwnedTime). insert (xs ++ n ∷ (ns ++ ys)) (shift xs (suc i)) (node_in_gap k v))
+      ap (λ (v : ValueView). insert (xs ++ n ∷ (ns ++ ys)) (shift xs (suc i)) (node_in_gap k v))
       (gap_value_right (unowned zero_time) (unowned zero_time) xs n (ns ++ ys) i ∙
       gap_value_left (unowned zero_time) (n ∷ ns) ys (suc i) h)
       ∙ insert_right xs (n ∷ (ns ++ ys)) (suc i) node

@@ -4,12 +4,12 @@ use Rattle.std.specs.Prelude.{Some, None, slice_get}
 use Rattle.std.specs.List.{All, insert}
 use Rattle.std.proofs.lemmas.List.{append_assoc}
 use Rattle.tsc_span.specs.Span.{Cut, before, after, last}
-use Rattle.tsc_page_nodes.specs.PageView.{AreLeafSizes}
+use Rattle.tsc_page_model.specs.PageView.{AreLeafSizes}
 use Rattle.tsc_page_nodes.specs.Nodes.{Node, IsSorted}
 use Rattle.tsc_page_tree.specs.Leaves.{nodes_of, AreSome, AreSubtrees, IsSubtree, start_of, IsLeafAt}
-use Rattle.tsc_page_nodes.proofs.CutOrder.{Lt, Le, Le-from_Lt, Le-itself, Lt-chain, Le-chain, Le_Lt-chain, before-after}
+use Rattle.tsc_span.proofs.CutOrder.{Lt, Le, Le-from_Lt, Le-itself, Lt-chain, Le-chain, Le_Lt-chain, before-after}
 use Rattle.tsc_page_nodes.proofs.Cuts.{lowest}
-use Rattle.tsc_page_nodes.proofs.Places.{before_or_past}
+use Rattle.tsc_page_nodes.proofs.Indices.{before_or_past}
 use Rattle.tsc_page_tree.proofs.Joins.{sorted_left, sorted_right, below_next}
 
 -- the nodes before a place and from there on

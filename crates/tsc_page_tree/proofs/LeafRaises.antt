@@ -1,18 +1,18 @@
 -- A value raised in one leaf after another.
 use Rattle.std.proofs.Common.{◌≡◌, inl, inr, ◌∙◌, refl, sym, ap, subst, ℕ, zero, suc, ◌<◌, ◌≤◌, List, [], ◌∷◌, ◌++◌, length, map, take, drop, get_or, set, arith}
 use Rattle.std.proofs.lemmas.List.{append_assoc, length-map, map-set}
-use Rattle.tsc_time.specs.OwnedTime.{OwnedTime}
-use Rattle.tsc_span.specs.Span.{Cut, before, last, Interval, between}
+use Rattle.tsc_time.specs.ValueView.{ValueView}
+use Rattle.tsc_span.specs.Span.{Cut, before, last, SpanView, between}
 use Rattle.tsc_page_nodes.specs.Nodes.{Node, IsSorted, raise_nodes}
 use Rattle.tsc_page_tree.specs.Leaves.{nodes_of, leaf_sizes, AreSome, start_of, IsLeafAt}
-use Rattle.tsc_page_nodes.proofs.CutOrder.{Lt, Le, Le_Lt-chain}
+use Rattle.tsc_span.proofs.CutOrder.{Lt, Le, Le_Lt-chain}
 use Rattle.tsc_page_nodes.proofs.Cuts.{lowest}
 use Rattle.tsc_page_nodes.proofs.Edits.{raise_nodes-length}
 use Rattle.tsc_page_tree.proofs.Joins.{raises_left, raises_right, raises_both, up_to_last}
 use Rattle.tsc_page_tree.proofs.LeafLists.{parted_at, leaf_first, leaf_set, sorted_from, starts_low, ends_high, lowest_below, subtree_read}
 
 -- The leaves before a place are raised, and those from there on are as before.
-pub record RaisesSoFar (old now : List (List Node)) (from to low : Cut) (v : OwnedTime) (p : ℕ) :
+pub record RaisesSoFar (old now : List (List Node)) (from to low : Cut) (v : ValueView) (p : ℕ) :
     Type 0 where
   pub sizes : leaf_sizes now ≡ leaf_sizes old
   pub rest : drop p now ≡ drop p old
@@ -21,7 +21,7 @@ pub record RaisesSoFar (old now : List (List Node)) (from to low : Cut) (v : Own
   pub up : Lt low to
   pub below : Lt low (start_of (nodes_of (drop (suc p) old)))
 
-pub raises_start : (old : List (List Node)) (from to : Cut) (v : OwnedTime) (p : ℕ) → AreSome old →
+pub raises_start : (old : List (List Node)) (from to : Cut) (v : ValueView) (p : ℕ) → AreSome old →
     IsSorted (nodes_of old) → Lt from to → IsLeafAt old from p →
     RaisesSoFar old old from to from v p
 raises_start old from to v p some sorted up at = record {
@@ -81,7 +81,7 @@ as_many old now h = omega (
   length-map old (λ l. length l),
 )
 
-module _ (old now : List (List Node)) (from to low : Cut) (v : OwnedTime) (p : ℕ)
+module _ (old now : List (List Node)) (from to low : Cut) (v : ValueView) (p : ℕ)
     (some : AreSome old) (sorted : IsSorted (nodes_of old)) (inside : p < length now)
     (so_far : RaisesSoFar old now from to low v p) where
   abbrev pub leaf : List Node
@@ -102,7 +102,7 @@ module _ (old now : List (List Node)) (from to low : Cut) (v : OwnedTime) (p : �
   below_rest : Lt low (start_of rest)
   below_rest = subst (λ (ns : List Node). Lt low (start_of ns)) (sym rest_is) so_far.below
 
-  pub sizes_after : (s : Interval) → leaf_sizes (set now p (raise_nodes s v leaf)) ≡ leaf_sizes old
+  pub sizes_after : (s : SpanView) → leaf_sizes (set now p (raise_nodes s v leaf)) ≡ leaf_sizes old
   sizes_after s = sizes_set now p (raise_nodes s v leaf) (raise_nodes-length s v leaf) ∙
       so_far.sizes
 
@@ -141,7 +141,7 @@ module _ (old now : List (List Node)) (from to low : Cut) (v : OwnedTime) (p : �
   }
 
 -- no leaf is left
-pub raises_end : (old now : List (List Node)) (from to low : Cut) (v : OwnedTime) (p : ℕ) →
+pub raises_end : (old now : List (List Node)) (from to low : Cut) (v : ValueView) (p : ℕ) →
     length now ≤ p → RaisesSoFar old now from to low v p →
     nodes_of now ≡ raise_nodes (between from to) v (nodes_of old)
 raises_end old now from to low v p h so_far =
@@ -170,8 +170,8 @@ raises_end old now from to low v p h so_far =
     none_left (suc q) (l ∷ ls) g = none_left q ls (omega arith)
 
 -- another subtree in a place, which is the one there raised
-pub raised_subtree : {X : Type 0} (f : X → List Node) (xs : List X) (p : ℕ) (d y : X) (s : Interval)
-    (v : OwnedTime) → p < length xs → f y ≡ raise_nodes s v (f (get_or xs p d)) →
+pub raised_subtree : {X : Type 0} (f : X → List Node) (xs : List X) (p : ℕ) (d y : X) (s : SpanView)
+    (v : ValueView) → p < length xs → f y ≡ raise_nodes s v (f (get_or xs p d)) →
     map f (set xs p y) ≡ set (map f xs) p (raise_nodes s v (get_or (map f xs) p []))
 raised_subtree f xs p d y s v inside is = map-set f xs p y ∙
     ap (λ (l : List Node). set (map f xs) p l)

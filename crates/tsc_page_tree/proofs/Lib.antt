@@ -8,7 +8,7 @@ pub mod LeafAdds
 pub mod Lazy
 pub mod AllJoint
 pub mod Skips
-pub mod Told
+pub mod Reported
 pub mod SubtreeLoops
 pub mod SubtreeSizes
 pub mod SubtreeAdds
@@ -22,3 +22,5 @@ pub mod Wholes
 pub mod EndLeaves
 pub mod KeyAdds
 pub mod KeysAbove
+pub mod Costs
+pub mod TreeLists

@@ -11,13 +11,13 @@ use Rattle.tsc_page_nodes.specs.declared.nodes.Growth.{Growth}
 use Rattle.tsc_page_tree.specs.Lazy.{everything, AddsSome}
 use Rattle.tsc_page_tree.specs.Across.{AreRaisedAcross, IsLastReached}
 use Rattle.tsc_page_tree.specs.Copies.{KeepsSizes, AllKeepSizes}
-use Rattle.tsc_page_nodes.proofs.CutOrder.{Lt, Le, Lt-not_Le, none_above_last}
+use Rattle.tsc_span.proofs.CutOrder.{Lt, Le, Lt-not_Le, none_above_last}
 use Rattle.tsc_page_tree.proofs.Joins.{up_to_last, sorted_left, sorted_right}
 use Rattle.tsc_page_tree.proofs.LeafLists.{starts_low, ends_high, all_set, some_nodes}
 use Rattle.tsc_page_nodes.specs.Insertions.{IsInsertionView}
 use Rattle.tsc_page_tree.proofs.SubtreeAdds.{not_true, not_false}
 use Rattle.tsc_page_tree.proofs.SubtreeAcross.{reached_before}
-use Rattle.tsc_page_tree.proofs.EndAdds.{told_over, told_two}
+use Rattle.tsc_page_tree.proofs.EndAdds.{reported_over, reported_two}
 use Rattle.tsc_page_tree.proofs.SubtreeLists.{nodes_of_both}
 use Rattle.tsc_page_tree.proofs.SubtreeLoops.{same_by}
 
@@ -260,13 +260,13 @@ module _ {X : Type 0} (f : X → List Node) (bl md ab : List X) (p : ℕ) (d x e
         nodes_of (map f mn) ≡ raise_nodes everything a.value (nodes_of (map f md))
         → AddsSome (nodes_of (map f all)) (nodes_of (map f (set bl p x ++ (mn ++ set ab 0 y)))) a room
         more
-    raises_over mn stop room more sorted is told within wholly =
+    raises_over mn stop room more sorted is reported within wholly =
         subst (λ (ns : List Node). AddsSome ns (nodes_of (map f (set bl p x ++ (mn ++ set ab 0 y))))
         a room more) (sym whole)
         (subst (λ (ns : List Node). AddsSome
         (nodes_of (map f (take p bl)) ++
         (f (get_or bl p d) ++ (nodes_of (map f md) ++ (f (get_or ab 0 e) ++ behind)))) ns a room
-        more) (sym (changed mn)) (by stop here told))
+        more) (sym (changed mn)) (by stop here reported))
       where
         low_some : 1 ≤ length (f (get_or bl p d))
         low_some = some_of f bl (md ++ ab) p d some long
@@ -299,13 +299,13 @@ module _ {X : Type 0} (f : X → List Node) (bl md ab : List X) (p : ℕ) (d x e
             (f (get_or bl p d) ++ (nodes_of (map f md) ++ (f (get_or ab 0 e) ++ behind))))
             (nodes_of (map f (take p bl)) ++ (f x ++ (nodes_of (map f mn) ++ (f y ++ behind))))
             a room more
-        by true h g = told_over (nodes_of (map f (take p bl))) (f (get_or bl p d))
+        by true h g = reported_over (nodes_of (map f (take p bl))) (f (get_or bl p d))
             (nodes_of (map f md)) (f (get_or ab 0 e)) behind (f x) (nodes_of (map f mn)) (f y) a
             None room more low_some high_some (subst IsSorted whole sorted) start below stops_over.reaches
             stops_over.stops fits.1 fits.2
             (ap (λ (c : Bool). cond c a.second None)
             (sym (not_true (is_below a.to (start_of behind)) (sym h)))) g within wholly
-        by false h g = told_over (nodes_of (map f (take p bl))) (f (get_or bl p d))
+        by false h g = reported_over (nodes_of (map f (take p bl))) (f (get_or bl p d))
             (nodes_of (map f md)) (f (get_or ab 0 e)) behind (f x) (nodes_of (map f mn)) (f y) a
             a.second room more low_some high_some (subst IsSorted whole sorted) start below stops_over.reaches
             stops_over.stops fits.1 fits.2
@@ -348,7 +348,7 @@ module _ {X : Type 0} (f : X → List Node) (bl md ot ab : List X) (p : ℕ) (d 
         nodes_of (map f on) ≡ raise_nodes everything a.value (nodes_of (map f ot))
         → AreRaisedAcross (nodes_of (map f (bl ++ md))) (nodes_of (map f (set bl p x ++ mn)))
         (nodes_of (map f (ot ++ ab))) (nodes_of (map f (on ++ set ab 0 y))) a more
-    raises_two mn on stop more low_sorted high_sorted is told wholly others =
+    raises_two mn on stop more low_sorted high_sorted is reported wholly others =
         subst (λ (ns : List Node). AreRaisedAcross ns (nodes_of (map f (set bl p x ++ mn)))
         (nodes_of (map f (ot ++ ab))) (nodes_of (map f (on ++ set ab 0 y))) a more) (sym low_is)
         (subst (λ (ns : List Node). AreRaisedAcross old_low ns (nodes_of (map f (ot ++ ab)))
@@ -358,7 +358,7 @@ module _ {X : Type 0} (f : X → List Node) (bl md ot ab : List X) (p : ℕ) (d 
         (nodes_of (map f (on ++ set ab 0 y))) a more) (sym high_is)
         (subst (λ (ns : List Node). AreRaisedAcross old_low
         (nodes_of (map f (take p bl)) ++ (f x ++ nodes_of (map f mn))) old_high ns a more)
-        (sym (set_high f on ab y one)) (by stop here told))))
+        (sym (set_high f on ab y one)) (by stop here reported))))
       where
         low_some : 1 ≤ length (f (get_or bl p d))
         low_some = some_of f bl md p d some_low long
@@ -391,7 +391,7 @@ module _ {X : Type 0} (f : X → List Node) (bl md ot ab : List X) (p : ℕ) (d 
             (nodes_of (map f (take p bl)) ++ (f x ++ nodes_of (map f mn)))
             (nodes_of (map f ot) ++ (f (get_or ab 0 e) ++ nodes_of (map f (drop 1 ab))))
             (nodes_of (map f on) ++ (f y ++ nodes_of (map f (drop 1 ab)))) a more
-        by true h g = told_two (nodes_of (map f (take p bl))) (f (get_or bl p d))
+        by true h g = reported_two (nodes_of (map f (take p bl))) (f (get_or bl p d))
             (nodes_of (map f md)) (nodes_of (map f ot)) (f (get_or ab 0 e))
             (nodes_of (map f (drop 1 ab))) (f x) (nodes_of (map f mn)) (nodes_of (map f on))
             (f y) a None more low_some high_some
@@ -400,7 +400,7 @@ module _ {X : Type 0} (f : X → List Node) (bl md ot ab : List X) (p : ℕ) (d 
             (ap (λ (c : Bool). cond c a.second None)
             (sym (not_true (is_below a.to (start_of (nodes_of (map f (drop 1 ab))))) (sym h))))
             g wholly others
-        by false h g = told_two (nodes_of (map f (take p bl))) (f (get_or bl p d))
+        by false h g = reported_two (nodes_of (map f (take p bl))) (f (get_or bl p d))
             (nodes_of (map f md)) (nodes_of (map f ot)) (f (get_or ab 0 e))
             (nodes_of (map f (drop 1 ab))) (f x) (nodes_of (map f mn)) (nodes_of (map f on)) (f y) a
             a.second more low_some high_some

@@ -3,19 +3,19 @@ use Rattle.std.proofs.Common.{◌≡◌, ◌⊎◌, inl, inr, ◌∙◌, refl, s
 use Rattle.std.proofs.Math.Bool.{or-true}
 use Rattle.std.proofs.lemmas.List.{append_assoc}
 use Rattle.std.specs.Prelude.{Option, Some, None}
-use Rattle.tsc_time.specs.OwnedTime.{OwnedTime}
+use Rattle.tsc_time.specs.ValueView.{ValueView}
 use Rattle.tsc_time.specs.Joint.{joint}
 use Rattle.tsc_span.specs.Span.{KeyBytes, Cut, before, after, last, between, is_below}
-use Rattle.tsc_page_nodes.specs.PageView.{is_in}
+use Rattle.tsc_page_model.specs.PageView.{is_in}
 use Rattle.tsc_page_nodes.specs.Nodes.{Node, node_keys, IsSorted, IsNewKey, raise_nodes}
 use Rattle.tsc_page_nodes.specs.Prefixes.{IsCutPrefix}
 use Rattle.tsc_page_nodes.specs.Insertions.{InsertionView, LiesAt}
 use Rattle.tsc_page_tree.specs.Leaves.{nodes_of, AreSome, start_of, IsLeafAt}
-use Rattle.tsc_page_tree.specs.Lazy.{everything, with_lazy, all_joint, IsToldOf}
+use Rattle.tsc_page_tree.specs.Lazy.{everything, with_lazy, all_joint, IsReportedOf}
 use Rattle.tsc_page_tree.specs.Across.{HasKey, IsLastReached}
-use Rattle.tsc_page_nodes.proofs.CutOrder.{Lt, Le, Lt-not_Le, Le-from_Lt, Le-itself, Lt-chain, Le-chain, Le_Lt-chain, Lt_Le-chain, before-after, none_above_last}
+use Rattle.tsc_span.proofs.CutOrder.{Lt, Le, Lt-not_Le, Le-from_Lt, Le-itself, Lt-chain, Le-chain, Le_Lt-chain, Lt_Le-chain, before-after, none_above_last}
 use Rattle.tsc_page_nodes.proofs.Cuts.{lowest, raise_nodes-start}
-use Rattle.tsc_page_nodes.proofs.Places.{before_or_past}
+use Rattle.tsc_page_nodes.proofs.Indices.{before_or_past}
 use Rattle.tsc_page_nodes.proofs.Edits.{raise_nodes-length}
 use Rattle.tsc_page_tree.proofs.Joins.{sorted_right, below_next, raises_left, raises_right, raises_both}
 use Rattle.tsc_page_tree.proofs.LeafLists.{parted_at, leaf_first, sorted_from, start_at, start_past, some_nodes}
@@ -35,7 +35,7 @@ starts_first (x ∷ xs) ys sorted = Le-from_Lt (before x.key) (start_of ys)
 
 -- The first subtree is raised from where the span starts, and those behind it wholly.
 pub raised_from : (front subtree behind new_subtree new_behind : List Node) (f : Cut)
-    (v : OwnedTime) →
+    (v : ValueView) →
     IsSorted (front ++ (subtree ++ behind)) → (front ≡ []) ⊎ Le (start_of (subtree ++ behind)) f →
     Lt f (start_of behind)
     → new_subtree ≡ raise_nodes (between f last) v subtree →
@@ -62,7 +62,7 @@ raised_from front subtree behind new_subtree new_behind f v sorted start low one
 
 -- The subtrees before the last one are raised wholly, and that up to where the span stops.
 pub raised_up_to : (front subtree behind new_front new_subtree : List Node) (t : Cut)
-    (v : OwnedTime) →
+    (v : ValueView) →
     IsSorted (front ++ (subtree ++ behind)) → Lt (start_of (subtree ++ behind)) t →
     Le t (start_of behind)
     → new_front ≡ raise_nodes everything v front →
@@ -95,7 +95,7 @@ raised_up_to front subtree behind new_front new_subtree t v sorted reaches high 
 
 -- Both at once: a subtree in which the span starts, others, and one in which it stops.
 pub raised_over : (front low mid high behind new_low new_mid new_high : List Node) (f t : Cut)
-    (v : OwnedTime) → IsSorted (front ++ (low ++ (mid ++ (high ++ behind)))) →
+    (v : ValueView) → IsSorted (front ++ (low ++ (mid ++ (high ++ behind)))) →
     (front ≡ []) ⊎ Le (start_of (low ++ (mid ++ (high ++ behind)))) f →
     Lt f (start_of (mid ++ (high ++ behind)))
     → Lt (start_of (high ++ behind)) t → Le t (start_of behind) →
@@ -146,13 +146,13 @@ not_new (Some k) ns has = has
 
 -- What is told of nodes that are raised below the lazy value, where the span reaches the first of
 -- them.
-pub told_reached : (n : ℕ) (all v : OwnedTime) (p : Option OwnedTime) (f t : Cut) (ns : List Node) →
-    IsSorted (with_lazy p ns) → Lt f t → Lt (start_of (with_lazy p ns)) t →
-    IsToldOf n all p ns → IsToldOf n (joint all (v ∷ [])) p (raise_nodes (between f t) v ns)
-told_reached n all v p f t ns sorted up reaches told = record {
-  some = omega (arith, told.some, raise_nodes-length (between f t) v ns);
-  start = subst (IsCutPrefix n) (sym (raise_nodes-start (between f t) v ns)) told.start;
-  joint = ap (λ (w : OwnedTime). joint w (v ∷ [])) told.joint ∙
+pub reported_reached : (n : ℕ) (all v : ValueView) (p : Option ValueView) (f t : Cut)
+    (ns : List Node) → IsSorted (with_lazy p ns) → Lt f t → Lt (start_of (with_lazy p ns)) t →
+    IsReportedOf n all p ns → IsReportedOf n (joint all (v ∷ [])) p (raise_nodes (between f t) v ns)
+reported_reached n all v p f t ns sorted up reaches reported = record {
+  some = omega (arith, reported.some, raise_nodes-length (between f t) v ns);
+  start = subst (IsCutPrefix n) (sym (raise_nodes-start (between f t) v ns)) reported.start;
+  joint = ap (λ (w : ValueView). joint w (v ∷ [])) reported.joint ∙
       sym (all_joint_raised f t v (with_lazy p ns) sorted up reaches) ∙
       ap (λ (ms : List Node). all_joint ms) (sym (raise_lazy p (between f t) v ns));
 }

@@ -7,12 +7,12 @@ use Rattle.tsc_page_nodes.specs.declared.nodes.Growth.{Growth}
 use Rattle.tsc_page_nodes.specs.Nodes.{Node, IsSorted, IsInOrder, IsNewKey, AddsNodes, raise_nodes, nodes_cost}
 use Rattle.tsc_page_nodes.specs.Insertions.{InsertionView, LiesAt, before_second}
 use Rattle.tsc_page_tree.specs.Leaves.{nodes_of, AreSome, start_of, IsLeafAt}
-use Rattle.tsc_page_tree.specs.Lazy.{sizes_of, IsAddTold}
-use Rattle.tsc_page_nodes.proofs.CutOrder.{Lt, Le}
+use Rattle.tsc_page_tree.specs.Lazy.{sizes_of, IsAddReported}
+use Rattle.tsc_span.proofs.CutOrder.{Lt, Le}
 use Rattle.tsc_page_nodes.proofs.Costs.{cost-append}
 use Rattle.tsc_page_tree.proofs.Joins.{up_to_last}
 use Rattle.tsc_page_tree.proofs.LeafLists.{parted_at, leaf_first, leaf_set, sorted_from, starts_low, ends_high, subtree_read}
-use Rattle.tsc_page_tree.proofs.LeafAdds.{adds_left, adds_right, all_below, told_below}
+use Rattle.tsc_page_tree.proofs.LeafAdds.{adds_left, adds_right, all_below, reported_below}
 use Rattle.tsc_page_tree.proofs.SubtreeLoops.{same_by}
 
 -- what a test says where its opposite holds
@@ -72,7 +72,7 @@ module _ {X : Type 0} (f : X → List Node) (xs : List X) (p : ℕ) (d y : X) (a
       let has_lower = subst (λ (o : Option KeyBytes). IsNewKey subtree o lower)
       (sym (all_below behind a.from a.first low first)) adds.made.has_lower in
       let has_upper = subst (λ (o : Option KeyBytes). IsNewKey subtree o upper)
-      (is ∙ sym (told_below behind a.to a.second second)) adds.made.has_upper in
+      (is ∙ sym (reported_below behind a.to a.second second)) adds.made.has_upper in
       let left = adds_left subtree behind (f y) a.from a.to a.value a.first a.second lower upper
       (subst IsSorted here (sorted_from ls p sorted)) up low high first second order has_lower
       has_upper (adds.raised ∙
@@ -84,13 +84,13 @@ module _ {X : Type 0} (f : X → List Node) (xs : List X) (p : ℕ) (d y : X) (a
       (subst (λ (ns : List Node). AddsNodes (front ++ (subtree ++ behind)) ns a.first a.second
       (between a.from a.to) a.value) (sym made) all)
 
-  told_here : {E : Type 0} (s : X → List ℕ) (r : Result (Option Growth) E) (room : ℕ)
+  reported_here : {E : Type 0} (s : X → List ℕ) (r : Result (Option Growth) E) (room : ℕ)
       (q : Option KeyBytes) → q ≡ cond (is_below a.to (start_of behind)) a.second None
-      → IsAddTold (f (get_or xs p d)) (f y) (s (get_or xs p d)) (s y)
+      → IsAddReported (f (get_or xs p d)) (f y) (s (get_or xs p d)) (s y)
       (record { first = a.first; second = q; from = a.from; to = a.to; value = a.value }) room r
-      → IsAddTold (nodes_of ls) (nodes_of (map f (set xs p y))) (sizes_of (map s xs))
+      → IsAddReported (nodes_of ls) (nodes_of (map f (set xs p y))) (sizes_of (map s xs))
       (sizes_of (map s (set xs p y))) a room r
-  told_here s (Ok (Some more)) room q is told =
+  reported_here s (Ok (Some more)) room q is reported =
       let read : f (get_or xs p d) ≡ subtree = subtree_read f xs p d inside in
       let one = length-append front (subtree ++ behind) in
       let two = length-append subtree behind in
@@ -99,7 +99,7 @@ module _ {X : Type 0} (f : X → List Node) (xs : List X) (p : ℕ) (d y : X) (a
       record {
         adds = adds_here q is (subst
             (λ (ns : List Node). AddsNodes ns (f y) a.first q (between a.from a.to) a.value) read
-            told.adds);
+            reported.adds);
         grown = record {
           count = omega (
             arith,
@@ -107,7 +107,7 @@ module _ {X : Type 0} (f : X → List Node) (xs : List X) (p : ℕ) (d y : X) (a
             two,
             three,
             four,
-            told.grown.count,
+            reported.grown.count,
             ap length read,
             ap length whole,
             ap length made,
@@ -118,37 +118,37 @@ module _ {X : Type 0} (f : X → List Node) (xs : List X) (p : ℕ) (d y : X) (a
             cost-append subtree behind,
             cost-append front (f y ++ behind),
             cost-append (f y) behind,
-            told.grown.cost,
+            reported.grown.cost,
             ap nodes_cost read,
             ap nodes_cost whole,
             ap nodes_cost made,
           );
         };
-        within = told.within;
+        within = reported.within;
       }
-  told_here s (Ok None) room q is told = (
-    ap (λ (ms : List (List Node)). nodes_of ms) (same_by f xs p d y inside told.0),
-    ap (λ (ns : List (List ℕ)). sizes_of ns) (same_by s xs p d y inside told.1),
+  reported_here s (Ok None) room q is reported = (
+    ap (λ (ms : List (List Node)). nodes_of ms) (same_by f xs p d y inside reported.0),
+    ap (λ (ns : List (List ℕ)). sizes_of ns) (same_by s xs p d y inside reported.1),
   )
-  told_here s (Err e) room q is told = (
-    ap (λ (ms : List (List Node)). nodes_of ms) (same_by f xs p d y inside told.0),
-    ap (λ (ns : List (List ℕ)). sizes_of ns) (same_by s xs p d y inside told.1),
+  reported_here s (Err e) room q is reported = (
+    ap (λ (ms : List (List Node)). nodes_of ms) (same_by f xs p d y inside reported.0),
+    ap (λ (ns : List (List ℕ)). sizes_of ns) (same_by s xs p d y inside reported.1),
   )
 
   -- the span stops below what comes behind
-  pub told_in_subtree : {E : Type 0} (s : X → List ℕ) (r : Result (Option Growth) E) (room : ℕ) →
-      is_below a.to (start_of behind) ≡ true
-      → IsAddTold (f (get_or xs p d)) (f y) (s (get_or xs p d)) (s y) a room r →
-      IsAddTold (nodes_of ls) (nodes_of (map f (set xs p y))) (sizes_of (map s xs))
+  pub reported_in_subtree : {E : Type 0} (s : X → List ℕ) (r : Result (Option Growth) E) (room : ℕ)
+      → is_below a.to (start_of behind) ≡ true
+      → IsAddReported (f (get_or xs p d)) (f y) (s (get_or xs p d)) (s y) a room r →
+      IsAddReported (nodes_of ls) (nodes_of (map f (set xs p y))) (sizes_of (map s xs))
       (sizes_of (map s (set xs p y))) a room r
-  told_in_subtree s r room below told =
-      told_here s r room a.second (ap (λ (b : Bool). cond b a.second None) (sym below)) told
+  reported_in_subtree s r room below reported =
+      reported_here s r room a.second (ap (λ (b : Bool). cond b a.second None) (sym below)) reported
 
   -- or right where that begins
-  pub told_before_next : {E : Type 0} (s : X → List ℕ) (r : Result (Option Growth) E) (room : ℕ) →
-      is_below a.to (start_of behind) ≡ false
-      → IsAddTold (f (get_or xs p d)) (f y) (s (get_or xs p d)) (s y) (before_second a) room r →
-      IsAddTold (nodes_of ls) (nodes_of (map f (set xs p y))) (sizes_of (map s xs))
+  pub reported_before_next : {E : Type 0} (s : X → List ℕ) (r : Result (Option Growth) E) (room : ℕ)
+      → is_below a.to (start_of behind) ≡ false
+      → IsAddReported (f (get_or xs p d)) (f y) (s (get_or xs p d)) (s y) (before_second a) room r →
+      IsAddReported (nodes_of ls) (nodes_of (map f (set xs p y))) (sizes_of (map s xs))
       (sizes_of (map s (set xs p y))) a room r
-  told_before_next s r room below told =
-      told_here s r room None (ap (λ (b : Bool). cond b a.second None) (sym below)) told
+  reported_before_next s r room below reported =
+      reported_here s r room None (ap (λ (b : Bool). cond b a.second None) (sym below)) reported

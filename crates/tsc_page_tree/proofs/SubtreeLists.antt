@@ -3,8 +3,8 @@ use Rattle.std.proofs.Common.{◌≡◌, ◌∙◌, refl, sym, ap, subst, ℕ, z
 use Rattle.std.specs.Prelude.{Option}
 use Rattle.std.specs.List.{All, AllZip}
 use Rattle.std.proofs.lemmas.List.{map-append, take-append-drop}
-use Rattle.tsc_time.specs.OwnedTime.{OwnedTime}
-use Rattle.tsc_span.specs.Span.{KeyBytes, Interval}
+use Rattle.tsc_time.specs.ValueView.{ValueView}
+use Rattle.tsc_span.specs.Span.{KeyBytes, SpanView}
 use Rattle.tsc_page_nodes.specs.Nodes.{Node, IsSorted, IsInOrder, AddsNodes}
 use Rattle.tsc_page_tree.specs.Leaves.{nodes_of, AreSubtrees, HasNode}
 use Rattle.tsc_page_tree.specs.Lazy.{sizes_of}
@@ -118,7 +118,7 @@ pub made_sorted : (old new : List Node) (k : KeyBytes) → IsSorted old → HasN
 made_sorted old new k sorted made = (has_node_splits old new k sorted made).sorted
 
 -- an Add keeps the order
-pub adds_sorted : (old new : List Node) (o q : Option KeyBytes) (s : Interval) (v : OwnedTime) →
+pub adds_sorted : (old new : List Node) (o q : Option KeyBytes) (s : SpanView) (v : ValueView) →
     IsSorted old → IsInOrder o q → AddsNodes old new o q s v → IsSorted new
 adds_sorted old new o q s v sorted order adds =
     subst IsSorted (sym adds.raised)

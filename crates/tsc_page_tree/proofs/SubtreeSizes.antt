@@ -5,11 +5,11 @@ use Rattle.std.specs.List.{All}
 use Rattle.std.proofs.lemmas.List.{length-append, take_more, take_all}
 use Rattle.std.proofs.lemmas.List.Sums.{sum_by-append}
 use Rattle.std.proofs.lemmas.Option.{slice_get_past}
-use Rattle.tsc_time.specs.OwnedTime.{OwnedTime}
-use Rattle.tsc_page_nodes.specs.PageView.{AreLeafSizes}
+use Rattle.tsc_time.specs.ValueView.{ValueView}
+use Rattle.tsc_page_model.specs.PageView.{AreLeafSizes}
 use Rattle.tsc_page_nodes.specs.Nodes.{Node}
 use Rattle.tsc_page_tree.specs.Leaves.{nodes_of}
-use Rattle.tsc_page_tree.specs.Lazy.{with_lazy, sizes_of, AreSizesOf, TellsSize}
+use Rattle.tsc_page_tree.specs.Lazy.{with_lazy, sizes_of, AreSizesOf, ReportsSize}
 use Rattle.tsc_page_tree.proofs.Lazy.{lazy-length}
 
 pub sizes_both : (ns ms : List ℕ) → AreLeafSizes ns → AreLeafSizes ms → AreLeafSizes (ns ++ ms)
@@ -39,7 +39,7 @@ sizes_of_subtrees f s Q (x ∷ xs) law all =
     }
 
 -- the lazy value changes none
-pub sizes_lazy : (p : Option OwnedTime) (sizes : List ℕ) (ns : List Node) → AreSizesOf sizes ns →
+pub sizes_lazy : (p : Option ValueView) (sizes : List ℕ) (ns : List Node) → AreSizesOf sizes ns →
     AreSizesOf sizes (with_lazy p ns)
 sizes_lazy p sizes ns are = record {
   few = are.few;
@@ -71,22 +71,22 @@ size_behind (n ∷ ns) ms (suc i) j h = size_behind ns ms i j (omega (arith, h))
 
 -- The place that is left lies so many places behind the leaves of the subtrees before one.
 abbrev pub SizesSoFar : {X : Type 0} → (X → List ℕ) → List X → ℕ → ℕ → ℕ → Type 0
-SizesSoFar s xs place i left = place ≡ length (sizes_of (map s (take i xs))) + left
+SizesSoFar s xs index i left = index ≡ length (sizes_of (map s (take i xs))) + left
 
 -- the subtree has the place
-pub size_told : {X : Type 0} (s : X → List ℕ) (xs : List X) (i place left n : ℕ) (x : X) →
-    i < length xs → x ≡ get_or xs i x → TellsSize (s x) left (Ok n) → SizesSoFar s xs place i left →
-    TellsSize (sizes_of (map s xs)) place (Ok n)
-size_told s [] i place left n x inside at told so_far = absurd (omega (arith, inside))
-size_told s (y ∷ xs) zero place left n x inside at told so_far =
-    size_first (s y) (sizes_of (map s xs)) place n
+pub size_reported : {X : Type 0} (s : X → List ℕ) (xs : List X) (i index left n : ℕ) (x : X) →
+    i < length xs → x ≡ get_or xs i x → ReportsSize (s x) left (Ok n) → SizesSoFar s xs index i left
+    → ReportsSize (sizes_of (map s xs)) index (Ok n)
+size_reported s [] i index left n x inside at reported so_far = absurd (omega (arith, inside))
+size_reported s (y ∷ xs) zero index left n x inside at reported so_far =
+    size_first (s y) (sizes_of (map s xs)) index n
     (subst (λ (j : ℕ). slice_get (s y) j ≡ Some n) (omega (arith, so_far))
-    (ap (λ z. slice_get (s z) left) (sym at) ∙ told))
-size_told s (y ∷ xs) (suc i) place left n x inside at told so_far =
+    (ap (λ z. slice_get (s z) left) (sym at) ∙ reported))
+size_reported s (y ∷ xs) (suc i) index left n x inside at reported so_far =
     let rest : ℕ = length (sizes_of (map s (take i xs))) + left in
-    size_behind (s y) (sizes_of (map s xs)) place rest
+    size_behind (s y) (sizes_of (map s xs)) index rest
     (omega (arith, so_far, length-append (s y) (sizes_of (map s (take i xs))))) ∙
-    size_told s xs i rest left n x (omega (arith, inside)) at told refl
+    size_reported s xs i rest left n x (omega (arith, inside)) at reported refl
 
 -- or not
 more_sizes : {X : Type 0} (s : X → List ℕ) (ys : List X) (z : X) →
@@ -99,25 +99,26 @@ more_sizes s (y ∷ ys) z = omega (
   more_sizes s ys z,
 )
 
-pub size_passed : {X : Type 0} (s : X → List ℕ) (xs : List X) (i place left rest : ℕ) (x : X) →
-    i < length xs → x ≡ get_or xs i x → TellsSize (s x) left (Err rest) →
-    SizesSoFar s xs place i left → SizesSoFar s xs place (i + 1) rest
-size_passed {X = X} s xs i place left rest x inside at told so_far =
+pub size_passed : {X : Type 0} (s : X → List ℕ) (xs : List X) (i index left rest : ℕ) (x : X) →
+    i < length xs → x ≡ get_or xs i x → ReportsSize (s x) left (Err rest) →
+    SizesSoFar s xs index i left → SizesSoFar s xs index (i + 1) rest
+size_passed {X = X} s xs i index left rest x inside at reported so_far =
     let more = ap (λ (ys : List X). length (sizes_of (map s ys))) (take_more xs i x inside) ∙
     more_sizes s (take i xs) (get_or xs i x) ∙
     ap (λ (z : X). length (sizes_of (map s (take i xs))) + length (s z)) (sym at) in
-    omega (arith, so_far, told, more)
+    omega (arith, so_far, reported, more)
 
-pub no_size_told : {X : Type 0} (s : X → List ℕ) (xs : List X) (i place left : ℕ) → length xs ≤ i →
-    SizesSoFar s xs place i left → TellsSize (sizes_of (map s xs)) place (Err left)
-no_size_told {X = X} s xs i place left past so_far =
+pub no_size_reported : {X : Type 0} (s : X → List ℕ) (xs : List X) (i index left : ℕ) →
+    length xs ≤ i →
+    SizesSoFar s xs index i left → ReportsSize (sizes_of (map s xs)) index (Err left)
+no_size_reported {X = X} s xs i index left past so_far =
     so_far ∙ ap (λ (ys : List X). length (sizes_of (map s ys)) + left) (take_all i xs past)
 
 -- a place among all sizes
-pub size_found : (sizes : List ℕ) (place n : ℕ) → TellsSize sizes place (Ok n) →
-    Some n ≡ slice_get sizes place
-size_found sizes place n told = sym told
+pub size_found : (sizes : List ℕ) (index n : ℕ) → ReportsSize sizes index (Ok n) →
+    Some n ≡ slice_get sizes index
+size_found sizes index n reported = sym reported
 
-pub none_found : (sizes : List ℕ) (place rest : ℕ) → TellsSize sizes place (Err rest) →
-    None ≡ slice_get sizes place
-none_found sizes place rest told = sym (slice_get_past sizes place (omega (arith, told)))
+pub none_found : (sizes : List ℕ) (index rest : ℕ) → ReportsSize sizes index (Err rest) →
+    None ≡ slice_get sizes index
+none_found sizes index rest reported = sym (slice_get_past sizes index (omega (arith, reported)))

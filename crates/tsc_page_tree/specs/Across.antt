@@ -1,7 +1,7 @@
 -- A value added over several subtrees, to the first and the last of which its end keys come.
 use Rattle.std.specs.Prelude.{◌≡◌, ℕ, suc, ◌≤◌, ◌+◌, ◌-◌, List, [], length, drop, slice_index_or, Bool, true, false, Option, Some, None}
 use Rattle.tsc_span.specs.Span.{KeyBytes, Cut, before, last, between, is_below}
-use Rattle.tsc_page_nodes.specs.PageView.{is_in}
+use Rattle.tsc_page_model.specs.PageView.{is_in}
 use Rattle.tsc_page_nodes.specs.Nodes.{Node, IsNewKey, GrowsBy, node_keys, with_new, raise_nodes}
 use Rattle.tsc_page_nodes.specs.declared.nodes.Growth.{Growth}
 use Rattle.tsc_page_nodes.specs.Insertions.{InsertionView}
@@ -23,9 +23,9 @@ pub record AreRaisedKnown (low new_low high new_high : List Node) (a : Insertion
   pub raised_high : new_high ≡ raise_nodes (between (before []) a.to) a.value high
 
 -- two subtrees are raised, where the end keys have nodes, or both stay
-abbrev pub IsKnownTold : (low new_low high new_high : List Node) → InsertionView → Bool → Type 0
-IsKnownTold low new_low high new_high a true = AreRaisedKnown low new_low high new_high a
-IsKnownTold low new_low high new_high a false = (new_low ≡ low) × (new_high ≡ high)
+abbrev pub IsKnownReported : (low new_low high new_high : List Node) → InsertionView → Bool → Type 0
+IsKnownReported low new_low high new_high a true = AreRaisedKnown low new_low high new_high a
+IsKnownReported low new_low high new_high a false = (new_low ≡ low) × (new_high ≡ high)
 
 -- a new key lies behind where nodes begin
 abbrev pub LiesBehind : List Node → Option (ℕ × KeyBytes) → Type 0
@@ -63,17 +63,17 @@ pub record AreRaisedAcross (low new_low high new_high : List Node) (a : Insertio
   pub grown : AreGrowths more_low more_high more
 
 -- two subtrees are raised, with nodes of the end keys, or both stay
-abbrev pub IsAcrossTold : (low new_low high new_high : List Node) → InsertionView → ℕ →
+abbrev pub IsAcrossReported : (low new_low high new_high : List Node) → InsertionView → ℕ →
     Option Growth → Type 0
-IsAcrossTold low new_low high new_high a room (Some more) =
+IsAcrossReported low new_low high new_high a room (Some more) =
     AreRaisedAcross low new_low high new_high a more × (more.bytes ≤ room)
-IsAcrossTold low new_low high new_high a room None = (new_low ≡ low) × (new_high ≡ high)
+IsAcrossReported low new_low high new_high a room None = (new_low ≡ low) × (new_high ≡ high)
 
 -- what a call makes of the nodes of one list of subtrees that adds over several of these, or leaves
 -- all as it is
-abbrev pub IsOverTold : (old new : List Node) → InsertionView → ℕ → Option Growth → Type 0
-IsOverTold old new a room (Some more) = AddsSome old new a room more
-IsOverTold old new a room None = new ≡ old
+abbrev pub IsOverReported : (old new : List Node) → InsertionView → ℕ → Option Growth → Type 0
+IsOverReported old new a room (Some more) = AddsSome old new a room more
+IsOverReported old new a room None = new ≡ old
 
 -- The last subtree that a span reaches which stops at a cut, or the first one.
 pub record IsLastReached (ls : List (List Node)) (t : Cut) (p : ℕ) : Type 0 where

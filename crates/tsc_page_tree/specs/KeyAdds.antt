@@ -26,9 +26,9 @@ pub record AddsKey (old new : List Node) (a : KeyInsertionView) (room : ℕ) (mo
   pub some : AddsSome old new (at_key a) room more
 
 -- what a call tells that adds at a key, or leaves all as it is
-abbrev pub IsKeyAddTold : {E : Type 0} → (old new : List Node) (was now : List ℕ) →
+abbrev pub IsKeyAddReported : {E : Type 0} → (old new : List Node) (was now : List ℕ) →
     KeyInsertionView → ℕ →
     Result (Option Growth) E → Type 0
-IsKeyAddTold old new was now a room (Ok (Some more)) = AddsKey old new a room more
-IsKeyAddTold old new was now a room (Ok None) = (new ≡ old) × (now ≡ was)
-IsKeyAddTold old new was now a room (Err e) = (new ≡ old) × (now ≡ was)
+IsKeyAddReported old new was now a room (Ok (Some more)) = AddsKey old new a room more
+IsKeyAddReported old new was now a room (Ok None) = (new ≡ old) × (now ≡ was)
+IsKeyAddReported old new was now a room (Err e) = (new ≡ old) × (now ≡ was)

@@ -1,9 +1,9 @@
 -- How the nodes of a page stand in leaves, one after another.
 use Rattle.std.specs.List.{All}
 use Rattle.std.specs.Prelude.{◌≡◌, ℕ, suc, ◌<◌, ◌≤◌, ◌-◌, List, [], ◌∷◌, ◌++◌, length, map, drop, slice_index_or, true, false, Option, Some, None, if◌then◌else◌}
-use Rattle.tsc_time.specs.OwnedTime.{OwnedTime}
-use Rattle.tsc_span.specs.Span.{KeyBytes, Cut, after, Interval, is_below, end_keys}
-use Rattle.tsc_page_nodes.specs.PageView.{AreLeafSizes}
+use Rattle.tsc_time.specs.ValueView.{ValueView}
+use Rattle.tsc_span.specs.Span.{KeyBytes, Cut, after, SpanView, is_below, end_keys}
+use Rattle.tsc_page_model.specs.PageView.{AreLeafSizes}
 use Rattle.tsc_page_nodes.specs.Nodes.{Node, next_cut, node_stretches, IsSorted, IsNewKey, IsSplitAt, with_new, raise_nodes}
 
 -- the nodes of all leaves, in their order
@@ -81,7 +81,7 @@ pub record IsNotAbove (ls : List (List Node)) (c : Cut) (p : ℕ) : Type 0 where
 
 -- What an Add of a span makes of nodes: those of its end keys come in, and the value is raised in
 -- it.
-pub record AddsTo (old new : List Node) (span : Interval) (value : OwnedTime) : Type 0 where
+pub record AddsTo (old new : List Node) (span : SpanView) (value : ValueView) : Type 0 where
   pub mid : List Node
   pub split : IsSplitAt old mid (end_keys span)
   pub raised : new ≡ raise_nodes span value mid

@@ -6,7 +6,7 @@ use Rattle.std.specs.List.{All}
 use Rattle.std.specs.declared.vec.Vec.{Vec}
 use Rattle.tsc_page_nodes.specs.Nodes.{Node, IsSorted}
 use Rattle.tsc_page_tree.specs.Leaves.{nodes_of, IsLeaf}
-use Rattle.tsc_page_tree.specs.Lazy.{with_lazy, IsToldOf, sizes_of, AreSizesOf}
+use Rattle.tsc_page_tree.specs.Lazy.{with_lazy, IsReportedOf, sizes_of, AreSizesOf}
 use Rattle.tsc_page_tree.specs.Copies.{IsSameAs}
 use Rattle.tsc_page_tree.specs.declared.aggregate.Aggregate.{Aggregate}
 use Rattle.tsc_page_tree.specs.declared.leaf.Leaf.{Leaf}
@@ -25,8 +25,8 @@ items_in None = []
 items_in (Some ps) = ps.items
 
 -- what an aggregate says of nodes
-abbrev pub IsTold : Aggregate → List Node → Type 0
-IsTold s ns = IsToldOf s.start s.joint s.lazy ns
+abbrev pub IsReported : Aggregate → List Node → Type 0
+IsReported s ns = IsReportedOf s.start s.joint s.lazy ns
 
 -- the nodes of a leaf
 abbrev pub leaf_nodes : Leaf → List Node
@@ -39,7 +39,7 @@ leaf_sizes l = length (arc_value l.nodes) ∷ []
 -- A leaf of 1 to 64 nodes.
 pub record IsLeafOf (s : Aggregate) (ns : List Node) : Type 0 where
   pub leaf : IsLeaf ns
-  pub told : IsTold s ns
+  pub reported : IsReported s ns
   pub some : 1 ≤ length (with_lazy s.lazy ns)
   pub sizes : AreSizesOf (length ns ∷ []) (with_lazy s.lazy ns)
 
@@ -72,7 +72,7 @@ pub record AreBranchSubtrees {P : Type 0} (nodes : P → List Node) (IsWhole : P
 pub record IsBranchOf {P : Type 0} (nodes : P → List Node) (sizes_in : P → List ℕ)
     (IsWhole : P → Type 0) (s : Aggregate) (ps : List P) : Type 0 where
   pub subtrees : AreFewSubtrees IsWhole ps
-  pub told : IsTold s (nodes_of (map nodes ps))
+  pub reported : IsReported s (nodes_of (map nodes ps))
   pub some : 1 ≤ length (with_lazy s.lazy (nodes_of (map nodes ps)))
   pub sizes : AreSizesOf (sizes_of (map sizes_in ps))
       (with_lazy s.lazy (nodes_of (map nodes ps)))

@@ -1,11 +1,13 @@
+//! Adds in place over several subtrees: the two at the ends change, and those between get a lazy
+//! value.
 ghost use Rattle.std.specs.Prelude.{◌≡◌, ◌≤◌, map, length, true, is_some, if◌then◌else◌};
 ghost use Rattle.tsc_span.specs.Span.{is_below};
 ghost use Rattle.tsc_page_nodes.specs.Insertions.{before_second};
 ghost use Rattle.tsc_page_tree.specs.Leaves.{AreSubtrees, AreSomeSubtrees, GoesBeyond, IsSubtree, nodes_of, start_of};
 ghost use Rattle.tsc_page_tree.specs.Copies.{KeepsSizes, AllKeepSizes};
-ghost use Rattle.tsc_page_tree.specs.Across.{IsAcrossTold, IsLastReached, IsOverTold};
+ghost use Rattle.tsc_page_tree.specs.Across.{IsAcrossReported, IsLastReached, IsOverReported};
 
-use crate::subtrees::places::{stops_at_next, subtree_at};
+use crate::subtrees::indices::{stops_at_next, subtree_at};
 use crate::subtrees::{Subtree, raise_all};
 use tsc_page_nodes::{Growth, PrefixedCut, PrefixedInsertion};
 
@@ -15,11 +17,11 @@ fn last_reached<P: Subtree>(subtrees: &[P], to: &PrefixedCut<'_>) -> usize
     requires some { 1 ≤ length subtrees.now }
     ensures { IsLastReached (map P.nodes subtrees.now) to.now result }
 {
-    let place = subtree_at(subtrees, to);
-    if place > 0 && !subtrees[place].starts_below(to) {
-        place - 1
+    let index = subtree_at(subtrees, to);
+    if index > 0 && !subtrees[index].starts_below(to) {
+        index - 1
     } else {
-        place
+        index
     }
 }
 
@@ -34,7 +36,7 @@ fn raise_ends<P: Subtree>(
     requires low { IsSubtree P.nodes P.IsWhole low.old }
     requires high { IsSubtree P.nodes P.IsWhole high.old }
     requires reaches { is_below (start_of (P.nodes high.old)) add.now.to ≡ true }
-    ensures told { IsAcrossTold (P.nodes low.old) (P.nodes low.new) (P.nodes high.old)
+    ensures reported { IsAcrossReported (P.nodes low.old) (P.nodes low.new) (P.nodes high.old)
         (P.nodes high.new) (if stops then before_second add.now else add.now) room result }
     ensures low { KeepsSizes P.sizes P.IsWhole low.old low.new (is_some result) }
     ensures high { KeepsSizes P.sizes P.IsWhole high.old high.new (is_some result) }
@@ -58,7 +60,8 @@ pub(crate) fn raise_two<P: Subtree>(
     requires low { AreSomeSubtrees P.nodes P.IsWhole low.old }
     requires high { AreSomeSubtrees P.nodes P.IsWhole high.old }
     requires reaches { is_below (start_of (nodes_of (map P.nodes high.old))) add.now.to ≡ true }
-    ensures told { IsAcrossTold (nodes_of (map P.nodes low.old)) (nodes_of (map P.nodes low.new))
+    ensures reported { IsAcrossReported (nodes_of (map P.nodes low.old))
+        (nodes_of (map P.nodes low.new))
         (nodes_of (map P.nodes high.old)) (nodes_of (map P.nodes high.new)) add.now room result }
     ensures low { AllKeepSizes P.sizes P.IsWhole low.old low.new (is_some result) }
     ensures high { AllKeepSizes P.sizes P.IsWhole high.old high.new (is_some result) }
@@ -86,7 +89,7 @@ pub(crate) fn raise_over<P: Subtree>(
 ) -> Option<Growth>
     requires subtrees { AreSubtrees P.nodes P.IsWhole subtrees.old }
     requires goes { GoesBeyond P.nodes subtrees.old add.now.from add.now.to first }
-    ensures told { IsOverTold (nodes_of (map P.nodes subtrees.old))
+    ensures reported { IsOverReported (nodes_of (map P.nodes subtrees.old))
         (nodes_of (map P.nodes subtrees.new)) add.now room result }
     ensures kept { AllKeepSizes P.sizes P.IsWhole subtrees.old subtrees.new (is_some result) }
 {

@@ -1,3 +1,5 @@
+//! What is known of all nodes below a subtree: where they begin, their joint value, and the value
+//! that they still lack.
 ghost use Rattle.std.specs.Prelude.{◌≡◌, ◌∷◌, [], Some, if◌then◌else◌};
 ghost use Rattle.tsc_time.specs.Joint.{joint};
 ghost use Rattle.tsc_page_tree.specs.Lazy.{merged, seen_with, joint_after};
@@ -44,7 +46,7 @@ impl Aggregate {
     }
 
     /// Heeds an Add below, where it was made: whether it reached the first node.
-    pub(crate) fn heed(
+    pub(crate) fn update(
         &mut self,
         made: &Result<Option<Growth>, NoMemory>,
         start: KeyPrefix,

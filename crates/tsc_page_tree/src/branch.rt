@@ -1,9 +1,11 @@
+//! A branch as a subtree: a list of subtrees that other pages may share, and what is known of all
+//! nodes below.
 ghost use Rattle.std.specs.Prelude.{◌≡◌, ◌≤◌, ◌++◌, length, map, take, drop, false, None, IfOk, OnOk, IfSome};
 ghost use Rattle.std.specs.List.{All};
 ghost use Rattle.tsc_page_nodes.specs.Nodes.{IsSorted};
 ghost use Rattle.tsc_page_tree.specs.Leaves.{AreSubtrees, HasNode, nodes_of};
 ghost use Rattle.tsc_page_tree.specs.Lazy.{with_lazy, all_joint};
-ghost use Rattle.tsc_page_tree.specs.Trees.{branch_nodes, branch_sizes, branch_copied, AreFewSubtrees, AreBranchSubtrees, IsWholeBranch, IsBranchCopy, IsTold, items_in, sibling_nodes, AreWholeSiblings};
+ghost use Rattle.tsc_page_tree.specs.Trees.{branch_nodes, branch_sizes, branch_copied, AreFewSubtrees, AreBranchSubtrees, IsWholeBranch, IsBranchCopy, IsReported, items_in, sibling_nodes, AreWholeSiblings};
 
 use crate::aggregate::Aggregate;
 use crate::leaf::{Leaf, SUBTREE_BYTES};
@@ -157,8 +159,8 @@ impl<P: Subtree> Subtree for Branch<P> {
         subtrees::key_above(&self.subtrees, cut)
     }
 
-    fn leaf_len(&self, place: usize) -> Result<usize, usize> {
-        subtrees::leaf_len(&self.subtrees, place)
+    fn leaf_len(&self, index: usize) -> Result<usize, usize> {
+        subtrees::leaf_len(&self.subtrees, index)
     }
 
     fn memory(&self) -> u64 {
@@ -202,7 +204,7 @@ impl<P: Subtree> Subtree for Branch<P> {
         self.aggregate.lazy = None;
         let made = subtrees::add_within(subtrees, add, room);
         let reached = subtrees::first_starts_below(subtrees, add.to);
-        self.aggregate.heed(&made, subtrees::start_prefix(subtrees), reached, add.value);
+        self.aggregate.update(&made, subtrees::start_prefix(subtrees), reached, add.value);
         made
     }
 
@@ -210,7 +212,7 @@ impl<P: Subtree> Subtree for Branch<P> {
         let subtrees = Arc::make_mut(&mut self.subtrees)?;
         let made = subtrees::add_key(subtrees, add, room);
         let start = self.aggregate.start;
-        self.aggregate.heed(&made, start, true, add.value());
+        self.aggregate.update(&made, start, true, add.value());
         made
     }
 
@@ -243,7 +245,7 @@ impl<P: Subtree> Subtree for Branch<P> {
 /// What is known of all nodes of subtrees without a lazy value.
 fn aggregate_of<P: Subtree>(subtrees: &[P]) -> Aggregate
     requires subtrees { AreBranchSubtrees P.nodes P.IsWhole subtrees.now }
-    ensures told { IsTold result (nodes_of (map P.nodes subtrees.now)) }
+    ensures reported { IsReported result (nodes_of (map P.nodes subtrees.now)) }
     ensures lazy { result.lazy ≡ None }
 {
     Aggregate {
@@ -260,7 +262,7 @@ fn aggregate_with<P: Subtree>(subtrees: &[P], before: &Aggregate, cut: bool) -> 
     requires subtrees { AreBranchSubtrees P.nodes P.IsWhole subtrees.now }
     requires kept { cut ≡ false → before.now.joint ≡ all_joint
         (nodes_of (map P.nodes subtrees.now)) }
-    ensures told { IsTold result (nodes_of (map P.nodes subtrees.now)) }
+    ensures reported { IsReported result (nodes_of (map P.nodes subtrees.now)) }
     ensures lazy { result.lazy ≡ None }
 {
     if cut {

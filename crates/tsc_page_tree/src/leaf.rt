@@ -1,11 +1,12 @@
+//! A leaf as a subtree: its nodes, and what is known of all of them.
 ghost use Rattle.std.specs.Prelude.{◌≡◌, ◌≤◌, ◌++◌, length, true, false, is_some, option_map, None, IfOk, OnOk, IfSome};
 ghost use Rattle.tsc_span.specs.Span.{last, is_below, between};
 ghost use Rattle.tsc_page_nodes.specs.Nodes.{IsSorted, raise_nodes};
 ghost use Rattle.tsc_page_tree.specs.Leaves.{IsLeaf, IsSubtree, HasNode, start_of};
 ghost use Rattle.tsc_page_tree.specs.Lazy.{with_lazy, all_joint};
-ghost use Rattle.tsc_page_tree.specs.Across.{HasKey, IsKnownTold, IsAcrossTold};
+ghost use Rattle.tsc_page_tree.specs.Across.{HasKey, IsKnownReported, IsAcrossReported};
 ghost use Rattle.tsc_page_tree.specs.Copies.{KeepsSizes};
-ghost use Rattle.tsc_page_tree.specs.Trees.{nodes_in, leaf_nodes, leaf_sizes, leaf_copied, IsWholeLeaf, IsLeafCopy, IsTold};
+ghost use Rattle.tsc_page_tree.specs.Trees.{nodes_in, leaf_nodes, leaf_sizes, leaf_copied, IsWholeLeaf, IsLeafCopy, IsReported};
 
 use crate::aggregate::Aggregate;
 use crate::subtrees::Subtree;
@@ -115,8 +116,8 @@ impl Subtree for Leaf {
         self.nodes.key_above(cut)
     }
 
-    fn leaf_len(&self, place: usize) -> Result<usize, usize> {
-        match place.checked_sub(1) {
+    fn leaf_len(&self, index: usize) -> Result<usize, usize> {
+        match index.checked_sub(1) {
             Some(rest) => Err(rest),
             None => Ok(self.nodes.len()),
         }
@@ -164,7 +165,7 @@ impl Subtree for Leaf {
         let made = nodes.insert_in_place(add, room);
         let reached = nodes.starts_below(add.to);
         self.aggregate
-            .heed(&made, nodes.start_prefix(), reached, add.value);
+            .update(&made, nodes.start_prefix(), reached, add.value);
         made
     }
 
@@ -176,7 +177,7 @@ impl Subtree for Leaf {
         };
         let made = nodes.add_key(add, room);
         let start = self.aggregate.start;
-        self.aggregate.heed(&made, start, true, add.value());
+        self.aggregate.update(&made, start, true, add.value());
         made
     }
 
@@ -203,7 +204,7 @@ impl Subtree for Leaf {
 /// What is known of nodes without a lazy value.
 fn aggregate_of(nodes: &Nodes) -> Aggregate
     requires some { 1 ≤ length nodes.now }
-    ensures told { IsTold result nodes.now }
+    ensures reported { IsReported result nodes.now }
     ensures lazy { result.lazy ≡ None }
 {
     let least = PrefixedCut::new(Cut::Before(&[]));
@@ -221,7 +222,7 @@ fn aggregate_of(nodes: &Nodes) -> Aggregate
 fn aggregate_with(nodes: &Nodes, before: &Aggregate, cut: bool) -> Aggregate
     requires some { 1 ≤ length nodes.now }
     requires kept { cut ≡ false → before.now.joint ≡ all_joint nodes.now }
-    ensures told { IsTold result nodes.now }
+    ensures reported { IsReported result nodes.now }
     ensures lazy { result.lazy ≡ None }
 {
     if cut {
@@ -254,12 +255,12 @@ fn raise_above(
     hint: Option<usize>,
     value: Value,
 )
-    requires told { IsTold aggregate.old nodes.old }
+    requires reported { IsReported aggregate.old nodes.old }
     requires sorted { IsSorted (with_lazy aggregate.old.lazy nodes.old) }
     requires order { is_below from.now last ≡ true }
     ensures raised { with_lazy aggregate.new.lazy nodes.new ≡
         raise_nodes (between from.now last) value (with_lazy aggregate.old.lazy nodes.old) }
-    ensures told { IsTold aggregate.new nodes.new }
+    ensures reported { IsReported aggregate.new nodes.new }
     ensures len { length nodes.new ≡ length nodes.old }
 {
     if nodes.starts_below(from) {
@@ -276,8 +277,8 @@ fn raise_known(low: &mut Leaf, high: &mut Leaf, add: &PrefixedInsertion<'_>) -> 
     requires low { IsSubtree leaf_nodes IsWholeLeaf low.old }
     requires high { IsSubtree leaf_nodes IsWholeLeaf high.old }
     requires reaches { is_below (start_of (leaf_nodes high.old)) add.now.to ≡ true }
-    ensures told { IsKnownTold (leaf_nodes low.old) (leaf_nodes low.new) (leaf_nodes high.old)
-        (leaf_nodes high.new) add.now result }
+    ensures reported { IsKnownReported (leaf_nodes low.old) (leaf_nodes low.new)
+        (leaf_nodes high.old) (leaf_nodes high.new) add.now result }
     ensures low { KeepsSizes leaf_sizes IsWholeLeaf low.old low.new false }
     ensures high { KeepsSizes leaf_sizes IsWholeLeaf high.old high.new false }
 {
@@ -287,10 +288,10 @@ fn raise_known(low: &mut Leaf, high: &mut Leaf, add: &PrefixedInsertion<'_>) -> 
     let Some(above) = Arc::get_mut(&mut high.nodes) else {
         return false
     };
-    let Some(start) = known_place(below, add.first) else {
+    let Some(start) = known_index(below, add.first) else {
         return false
     };
-    let Some(stop) = known_place(above, add.second) else {
+    let Some(stop) = known_index(above, add.second) else {
         return false
     };
     raise_above(below, &mut low.aggregate, add.from, start, add.value);
@@ -316,8 +317,8 @@ fn insert_ends(
     requires low { IsSubtree leaf_nodes IsWholeLeaf low.old }
     requires high { IsSubtree leaf_nodes IsWholeLeaf high.old }
     requires reaches { is_below (start_of (leaf_nodes high.old)) add.now.to ≡ true }
-    ensures told { IsAcrossTold (leaf_nodes low.old) (leaf_nodes low.new) (leaf_nodes high.old)
-        (leaf_nodes high.new) add.now room result }
+    ensures reported { IsAcrossReported (leaf_nodes low.old) (leaf_nodes low.new)
+        (leaf_nodes high.old) (leaf_nodes high.new) add.now room result }
     ensures low { KeepsSizes leaf_sizes IsWholeLeaf low.old low.new (is_some result) }
     ensures high { KeepsSizes leaf_sizes IsWholeLeaf high.old high.new (is_some result) }
 {
@@ -371,12 +372,12 @@ fn grow(nodes: &mut Nodes, key: &KeyRef<'_>) -> Result<Option<Nodes>, NoMemory>
 }
 
 /// Where a key stands, where it is one; `None` where it has no node.
-fn known_place(nodes: &Nodes, key: Option<&KeyRef<'_>>) -> Option<Option<usize>>
+fn known_index(nodes: &Nodes, key: Option<&KeyRef<'_>>) -> Option<Option<usize>>
     ensures { IfSome result (λ _. HasKey (option_map (λ k. k.now) key.entry) nodes.now) }
 {
     match key {
         Some(key) => match nodes.find(key) {
-            Ok(place) => Some(Some(place)),
+            Ok(index) => Some(Some(index)),
             Err(_) => None,
         },
         None => Some(None),

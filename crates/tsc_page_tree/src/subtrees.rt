@@ -1,27 +1,28 @@
+//! What leaves and branches have in common, and lists of them.
 ghost use Rattle.std.specs.Prelude.{◌≡◌, ℕ, List, ◌≤◌, ◌<◌, ◌+◌, ◌-◌, ◌++◌, [], map, length, slice_index_or, option_map, option_to_list, is_some, OnOk, IfOk, IfSome, not, true};
 ghost use Rattle.std.specs.List.{All};
 ghost use Rattle.tsc_time.specs.Joint.{joint};
 ghost use Rattle.tsc_span.specs.Span.{is_below, between, point};
 ghost use Rattle.tsc_span.specs.Cuts.{cut_of};
 ghost use Rattle.tsc_page_nodes.specs.Prefixes.{IsCutPrefix};
-ghost use Rattle.tsc_page_nodes.specs.PageView.{is_in};
-ghost use Rattle.tsc_page_nodes.specs.KeysAbove.{first_above};
+ghost use Rattle.tsc_page_model.specs.PageView.{is_in};
+ghost use Rattle.tsc_page_model.specs.KeysAbove.{first_above};
 ghost use Rattle.tsc_page_nodes.specs.Nodes.{Node, node_keys, answer_of, raise_nodes};
 ghost use Rattle.tsc_page_tree.specs.Leaves.{AreSubtrees, GoesBeyond, HasNode, IsSubtree, nodes_of, start_of};
-ghost use Rattle.tsc_page_tree.specs.Lazy.{everything, all_joint, sizes_of, AreSizesOf, TellsSize, IsAddTold};
+ghost use Rattle.tsc_page_tree.specs.Lazy.{everything, all_joint, sizes_of, AreSizesOf, ReportsSize, IsAddReported};
 ghost use Rattle.tsc_page_tree.specs.Copies.{IsSameAs, KeepsSizes};
-ghost use Rattle.tsc_page_tree.specs.Across.{IsAcrossTold};
-ghost use Rattle.tsc_page_tree.specs.KeyAdds.{IsKeyAddTold};
+ghost use Rattle.tsc_page_tree.specs.Across.{IsAcrossReported};
+ghost use Rattle.tsc_page_tree.specs.KeyAdds.{IsKeyAddReported};
 
+pub(crate) mod indices;
 mod joints;
-pub(crate) mod places;
 
 use crate::across;
 use crate::leaf::SUBTREE_BYTES;
+use crate::subtrees::indices::{goes_on, stops_at_next, subtree_at};
+pub(crate) use crate::subtrees::indices::{first_starts_above, first_starts_below};
 pub use crate::subtrees::joints::join_between;
 use crate::subtrees::joints::leaves_out;
-use crate::subtrees::places::{goes_on, stops_at_next, subtree_at};
-pub(crate) use crate::subtrees::places::{first_starts_above, first_starts_below};
 use std::alloc::Global;
 use tsc_page_nodes::memory::list_memory;
 use tsc_page_nodes::{
@@ -81,8 +82,8 @@ pub trait Subtree: Clone + Drop + Prefixed {
             (node_keys (nodes self.now)) };
 
     /// How many nodes a leaf has; `Err` tells how many places behind the last leaf this is.
-    fn leaf_len(&self, place: usize) -> Result<usize, usize>
-        ensures { TellsSize (sizes self.now) place result };
+    fn leaf_len(&self, index: usize) -> Result<usize, usize>
+        ensures { ReportsSize (sizes self.now) index result };
 
     /// How many bytes the blocks of memory have that hold what lies below the subtree, but for the
     /// keys themselves. It costs a step for each leaf. No clause can say what memory is taken.
@@ -127,8 +128,8 @@ pub trait Subtree: Clone + Drop + Prefixed {
         room: u32,
     ) -> Result<Option<Growth>, NoMemory>
         requires subtree { IsSubtree nodes IsWhole self.old }
-        ensures told { IsAddTold (nodes self.old) (nodes self.new) (sizes self.old) (sizes self.new)
-            add.now room result }
+        ensures reported { IsAddReported (nodes self.old) (nodes self.new) (sizes self.old)
+            (sizes self.new) add.now room result }
         ensures whole { IsWhole self.new };
 
     /// Adds at a single key in place, and tells what came in: where the key doesn't lie below the
@@ -137,7 +138,7 @@ pub trait Subtree: Clone + Drop + Prefixed {
     /// Lazy values on the way stay. What others hold on the way down is copied first.
     fn add_key(&mut self, add: &KeyInsertion<'_>, room: u32) -> Result<Option<Growth>, NoMemory>
         requires subtree { IsSubtree nodes IsWhole self.old }
-        ensures told { IsKeyAddTold (nodes self.old) (nodes self.new) (sizes self.old)
+        ensures reported { IsKeyAddReported (nodes self.old) (nodes self.new) (sizes self.old)
             (sizes self.new) add.now room result }
         ensures whole { IsWhole self.new };
 
@@ -157,7 +158,7 @@ pub trait Subtree: Clone + Drop + Prefixed {
         requires low { IsSubtree nodes IsWhole low.old }
         requires high { IsSubtree nodes IsWhole high.old }
         requires reaches { is_below (start_of (nodes high.old)) add.now.to ≡ true }
-        ensures told { IsAcrossTold (nodes low.old) (nodes low.new) (nodes high.old)
+        ensures reported { IsAcrossReported (nodes low.old) (nodes low.new) (nodes high.old)
             (nodes high.new) add.now room result }
         ensures low { KeepsSizes sizes IsWhole low.old low.new (is_some result) }
         ensures high { KeepsSizes sizes IsWhole high.old high.new (is_some result) };
@@ -200,20 +201,20 @@ pub fn key_above<'a, P: Subtree>(subtrees: &'a [P], cut: &PrefixedCut<'_>) -> Op
     ensures { option_map (λ k. k.now) result ≡ first_above cut.now
         (node_keys (nodes_of (map P.nodes subtrees.now))) }
 {
-    let place = subtree_at(subtrees, cut);
-    match key_in(subtrees, place, cut) {
+    let index = subtree_at(subtrees, cut);
+    match key_in(subtrees, index, cut) {
         Some(key) => Some(key),
-        None => key_in(subtrees, place + 1, cut),
+        None => key_in(subtrees, index + 1, cut),
     }
 }
 
 /// The least key above a cut in the subtree at a place, where there is one.
-fn key_in<'a, P: Subtree>(subtrees: &'a [P], place: usize, cut: &PrefixedCut<'_>) -> Option<&'a Key>
+fn key_in<'a, P: Subtree>(subtrees: &'a [P], index: usize, cut: &PrefixedCut<'_>) -> Option<&'a Key>
     requires subtrees { AreSubtrees P.nodes P.IsWhole subtrees.now }
     ensures { option_map (λ k. k.now) result ≡ first_above cut.now
-        (node_keys (slice_index_or (map P.nodes subtrees.now) place [])) }
+        (node_keys (slice_index_or (map P.nodes subtrees.now) index [])) }
 {
-    match subtrees.get(place) {
+    match subtrees.get(index) {
         Some(subtree) => subtree.key_above(cut),
         None => None,
     }
@@ -268,11 +269,11 @@ fn raise_beyond<P: Subtree>(
     let least = PrefixedCut::new(Cut::Before(&[]));
     let last = PrefixedCut::new(Cut::Last);
     raise_part(&mut subtrees[first], &PrefixedCut::new(from), &last, value)?;
-    for place in first + 1..subtrees.len() {
-        if !goes_on(subtrees, place, to) {
-            return raise_part(&mut subtrees[place], &least, to, value);
+    for index in first + 1..subtrees.len() {
+        if !goes_on(subtrees, index, to) {
+            return raise_part(&mut subtrees[index], &least, to, value);
         }
-        subtrees[place].raise_whole(value);
+        subtrees[index].raise_whole(value);
     }
     Ok(())
 }
@@ -307,8 +308,8 @@ pub(crate) fn raise_all<P: Subtree>(subtrees: &mut [P], value: Value)
     ensures whole { All P.IsWhole subtrees.new }
     ensures len { length subtrees.new ≡ length subtrees.old }
 {
-    for place in 0..subtrees.len() {
-        subtrees[place].raise_whole(value);
+    for index in 0..subtrees.len() {
+        subtrees[index].raise_whole(value);
     }
 }
 
@@ -327,9 +328,9 @@ pub fn make_node<P: Subtree>(
         (length subtrees.new.items ≤ length subtrees.old.items + 1)) }
 {
     let cut = PrefixedCut::new(Cut::Before(key.bytes()));
-    let place = subtree_at(subtrees, &cut);
-    if let Some(upper) = subtrees[place].make_node(alloc, key)? {
-        subtrees.insert(place + 1, upper)?;
+    let index = subtree_at(subtrees, &cut);
+    if let Some(upper) = subtrees[index].make_node(alloc, key)? {
+        subtrees.insert(index + 1, upper)?;
     }
     Ok(())
 }
@@ -359,17 +360,17 @@ pub(crate) fn joint<P: Subtree>(subtrees: &[P]) -> Value
 
 /// How many nodes a leaf has among those of subtrees; `Err` tells how many places behind the last
 /// leaf this is.
-pub fn leaf_len<P: Subtree>(subtrees: &[P], place: usize) -> Result<usize, usize>
-    ensures { TellsSize (sizes_of (map P.sizes subtrees.now)) place result }
+pub fn leaf_len<P: Subtree>(subtrees: &[P], index: usize) -> Result<usize, usize>
+    ensures { ReportsSize (sizes_of (map P.sizes subtrees.now)) index result }
 {
-    let mut place = place;
+    let mut index = index;
     for subtree in subtrees {
-        match subtree.leaf_len(place) {
+        match subtree.leaf_len(index) {
             Ok(len) => return Ok(len),
-            Err(rest) => place = rest,
+            Err(rest) => index = rest,
         }
     }
-    Err(place)
+    Err(index)
 }
 
 /// How many bytes the blocks of memory have that hold a list of subtrees and what lies below them,
@@ -390,24 +391,24 @@ pub fn add_within<P: Subtree>(
     room: u32,
 ) -> Result<Option<Growth>, NoMemory>
     requires subtrees { AreSubtrees P.nodes P.IsWhole subtrees.old }
-    ensures told { IsAddTold (nodes_of (map P.nodes subtrees.old))
+    ensures reported { IsAddReported (nodes_of (map P.nodes subtrees.old))
         (nodes_of (map P.nodes subtrees.new))
         (sizes_of (map P.sizes subtrees.old)) (sizes_of (map P.sizes subtrees.new)) add.now
         room result }
     ensures whole { All P.IsWhole subtrees.new }
     ensures len { length subtrees.new ≡ length subtrees.old }
 {
-    let place = subtree_at(subtrees, add.from);
-    if place >= subtrees.len() {
+    let index = subtree_at(subtrees, add.from);
+    if index >= subtrees.len() {
         return Ok(None);
     }
-    if goes_on(subtrees, place, add.to) {
-        return Ok(across::raise_over(subtrees, place, add, room));
+    if goes_on(subtrees, index, add.to) {
+        return Ok(across::raise_over(subtrees, index, add, room));
     }
-    if stops_at_next(subtrees, place, add.to) {
-        subtrees[place].add_within(&add.before_second(), room)
+    if stops_at_next(subtrees, index, add.to) {
+        subtrees[index].add_within(&add.before_second(), room)
     } else {
-        subtrees[place].add_within(add, room)
+        subtrees[index].add_within(add, room)
     }
 }
 
@@ -418,15 +419,15 @@ pub fn add_key<P: Subtree>(
     room: u32,
 ) -> Result<Option<Growth>, NoMemory>
     requires subtrees { AreSubtrees P.nodes P.IsWhole subtrees.old }
-    ensures told { IsKeyAddTold (nodes_of (map P.nodes subtrees.old))
+    ensures reported { IsKeyAddReported (nodes_of (map P.nodes subtrees.old))
         (nodes_of (map P.nodes subtrees.new)) (sizes_of (map P.sizes subtrees.old))
         (sizes_of (map P.sizes subtrees.new)) add.now room result }
     ensures whole { All P.IsWhole subtrees.new }
     ensures len { length subtrees.new ≡ length subtrees.old }
 {
-    let place = subtree_at(subtrees, add.search().at());
-    if place >= subtrees.len() {
+    let index = subtree_at(subtrees, add.search().at());
+    if index >= subtrees.len() {
         return Ok(None);
     }
-    subtrees[place].add_key(add, room)
+    subtrees[index].add_key(add, room)
 }

@@ -155,41 +155,41 @@ module _ (cache : SharedView) (others : List (List Call)) (calls : List Call)
   others_stopped fault.Gone stopped few = absurd stopped
   others_stopped fault.NoThread stopped few = absurd stopped
 
-  both_ran : (told more joined : RunResult) → Joins told more joined →
-      IfOk told (λ lines. RunsAll cache 0 others lines.items seats) →
+  both_ran : (reported more joined : RunResult) → Joins reported more joined →
+      IfOk reported (λ lines. RunsAll cache 0 others lines.items seats) →
       IfOk more (λ lines. Runs (new_seat cache (length others)) 0 calls lines.items seat)
       → IfOk joined (λ lines. RunsAll cache 0 all_lists lines.items all_seats)
-  both_ran (Ok told) (Ok more) (Ok joined) same runs run =
+  both_ran (Ok reported) (Ok more) (Ok joined) same runs run =
       subst (λ ls. RunsAll cache 0 all_lists ls all_seats) (sym same)
-      (one_list_more cache 0 others told.items more.items seats calls seat runs
+      (one_list_more cache 0 others reported.items more.items seats calls seat runs
       (subst (λ n. Runs (new_seat cache n) 0 calls more.items seat) (omega arith) run))
-  both_ran (Ok told) (Ok more) (Err why) same runs run = tt
-  both_ran (Ok told) (Err why) joined same runs run =
+  both_ran (Ok reported) (Ok more) (Err why) same runs run = tt
+  both_ran (Ok reported) (Err why) joined same runs run =
       subst (λ (t : RunResult). IfOk t (λ lines. RunsAll cache 0 all_lists lines.items all_seats))
       (sym same) tt
   both_ran (Err why) more joined same runs run =
       subst (λ (t : RunResult). IfOk t (λ lines. RunsAll cache 0 all_lists lines.items all_seats))
       (sym same) tt
 
-  one_stopped : (told more joined : RunResult) → Joins told more joined →
-      IfErr told (λ why. StopsLists why cache others seats) →
+  one_stopped : (reported more joined : RunResult) → Joins reported more joined →
+      IfErr reported (λ why. StopsLists why cache others seats) →
       IfErr more (λ why. StopsList why (new_seat cache (length others)) calls seat)
       → counted seats ≤ adds_of_lists others → seat.count ≤ adds_of_list calls →
       IfErr joined (λ why. StopsLists why cache all_lists all_seats)
-  one_stopped (Ok told) (Ok more) (Ok joined) same stop stopped few own = tt
-  one_stopped (Ok told) (Ok more) (Err why) same stop stopped few own =
+  one_stopped (Ok reported) (Ok more) (Ok joined) same stop stopped few own = tt
+  one_stopped (Ok reported) (Ok more) (Err why) same stop stopped few own =
       subst (λ w. StopsLists w cache all_lists all_seats) (sym same) tt
-  one_stopped (Ok told) (Err why) joined same stop stopped few own =
+  one_stopped (Ok reported) (Err why) joined same stop stopped few own =
       subst (λ (t : RunResult). IfErr t (λ w. StopsLists w cache all_lists all_seats)) (sym same)
       (list_stopped why stopped few)
   one_stopped (Err why) more joined same stop stopped few own =
       subst (λ (t : RunResult). IfErr t (λ w. StopsLists w cache all_lists all_seats)) (sym same)
       (others_stopped why stop own)
 
-  list_joined : (told more joined : RunResult) → EndsLists cache others told seats →
-      EndsList (new_seat cache (length others)) calls more seat → Joins told more joined →
+  list_joined : (reported more joined : RunResult) → EndsLists cache others reported seats →
+      EndsList (new_seat cache (length others)) calls more seat → Joins reported more joined →
       EndsLists cache all_lists joined all_seats
-  list_joined told more joined ends end same = record {
+  list_joined reported more joined ends end same = record {
     of_cache = All-append (λ (s : SeatView). s.cache ≡ cache) seats (seat ∷ []) ends.of_cache
         (All-cons (λ (s : SeatView). s.cache ≡ cache) seat [] end.cache
         (All-nil (λ (s : SeatView). s.cache ≡ cache)));
@@ -200,8 +200,8 @@ module _ (cache : SharedView) (others : List (List Call)) (calls : List Call)
       length-append others (calls ∷ []),
     );
     few = omega (arith, ends.few, end.few, count_push, adds_push others calls);
-    ran = both_ran told more joined same ends.ran end.ran;
-    stopped = one_stopped told more joined same ends.stopped end.stopped ends.few
+    ran = both_ran reported more joined same ends.ran end.ran;
+    stopped = one_stopped reported more joined same ends.stopped end.stopped ends.few
         (omega (arith, end.few));
   }
 
@@ -223,20 +223,20 @@ no_lists cache (calls ∷ lists) lines before seats new parted none empty =
 
 -- the runs with that of the last list
 pub one_list_joined : (cache : SharedView) (lists others : List (Vec Call Global))
-    (calls : List Call) (told more joined : RunResult) (seats seats' : List SeatView)
+    (calls : List Call) (reported more joined : RunResult) (seats seats' : List SeatView)
     (from seat : SeatView)
     → calls_in lists ≡ calls_in others ++ calls ∷ [] → from ≡ new_seat cache (length others) →
-    EndsLists cache (calls_in others) told seats → EndsList from calls more seat →
-    Joins told more joined
+    EndsLists cache (calls_in others) reported seats → EndsList from calls more seat →
+    Joins reported more joined
     → seats' ≡ seats ++ seat ∷ [] → EndsLists cache (calls_in lists) joined seats'
-one_list_joined cache lists others calls told more joined seats seats' from seat parted new ends end
-    same pushed =
+one_list_joined cache lists others calls reported more joined seats seats' from seat parted new ends
+    end same pushed =
     let long : length others ≡ length (calls_in others) =
     sym (length-map others (λ (calls : Vec Call Global). calls.items)) in
     let at : EndsList (new_seat cache (length (calls_in others))) calls more seat =
     subst (λ s. EndsList s calls more seat) (new ∙ ap (new_seat cache) long) end in
-    rw (parted, pushed) (list_joined cache (calls_in others) calls seats seat told more joined ends
-    at same)
+    rw (parted, pushed) (list_joined cache (calls_in others) calls seats seat reported more joined
+    ends at same)
 
 -- ---- closing
 

@@ -5,7 +5,7 @@ use Rattle.std.specs.Prelude.{◌==◌, cond}
 use Rattle.std.proofs.lemmas.Bool.Decides.{nat_tests}
 use Rattle.std.proofs.lemmas.List.Sums.{sum_by-cons}
 use Rattle.std.proofs.lemmas.List.Elements.{All-head, All-tail}
-use Rattle.tsc_cache.specs.Settings.{Settings}
+use Rattle.tsc_cache.specs.ConfigView.{ConfigView}
 use Rattle.tsc_cache.specs.declared.history.Entry.{Entry}
 use Rattle.tsc_cache.specs.History.{History, own_count, state_of, BeginsWith, IsLegal}
 use Rattle.tsc_trace_format.specs.Calls.{Addition, one_mark, several_marks, adds}
@@ -69,64 +69,64 @@ taken old mid a receipt goes acc =
 
 -- What a call was answered is what it answers after a first part of what its seat has seen then,
 -- and reaches just what it has seen then.
-record IsTold (old mid : SeatView) (call : Call) (answer : CallAnswer) : Type 0 where
+record IsReported (old mid : SeatView) (call : Call) (answer : CallAnswer) : Type 0 where
   before : History
-  told : answer ≡ said_after old.cache.config before call
+  reported : answer ≡ said_after old.cache.config before call
   part : BeginsWith mid.seen (after_call old.number before call)
   later : length old.seen ≤ length before
   reached : reach answer ≡ length mid.seen
   count : mid.count ≡ old.count + cond (adds call) 1 0
 
-is_told : (old mid : SeatView) (call : Call) (answer : CallAnswer) → GoesOn old mid →
-    AnswersCall old mid call answer → IsTold old mid call answer
-is_told old mid (Add span value now) (said.Add place added) goes says =
+is_reported : (old mid : SeatView) (call : Call) (answer : CallAnswer) → GoesOn old mid →
+    AnswersCall old mid call answer → IsReported old mid call answer
+is_reported old mid (Add span value now) (said.Add place added) goes says =
     let t = taken old mid (one_mark span value now)
     (record { place = place; added = added; front = says.0 }) goes says.1 in
     let at = t.place in
     let what = t.added in
     record {
       before = t.before;
-      told = λ i. said.Add (at i) (what i);
+      reported = λ i. said.Add (at i) (what i);
       part = t.part;
       later = t.later;
       reached = t.reached;
       count = says.1.count;
     }
-is_told old mid (Batch marks now) (said.Batch place added) goes says =
+is_reported old mid (Batch marks now) (said.Batch place added) goes says =
     let t = taken old mid (several_marks marks now)
     (record { place = place; added = added; front = says.0 }) goes says.1 in
     let at = t.place in
     let what = t.added in
     record {
       before = t.before;
-      told = λ i. said.Batch (at i) (what i);
+      reported = λ i. said.Batch (at i) (what i);
       part = t.part;
       later = t.later;
       reached = t.reached;
       count = says.1.count;
     }
-is_told old mid (Get span) (said.Get front value) goes says = record {
+is_reported old mid (Get span) (said.Get front value) goes says = record {
   before = mid.seen;
-  told = ap (λ n. said.Get n value) says.front ∙ ap (said.Get (length mid.seen)) says.value;
+  reported = ap (λ n. said.Get n value) says.front ∙ ap (said.Get (length mid.seen)) says.value;
   part = begins_itself mid.seen;
   later = begins_length mid.seen old.seen goes.begins;
   reached = says.front;
   count = omega (arith, says.count);
 }
-is_told old mid Low (said.Low front time) goes says = record {
+is_reported old mid Low (said.Low front time) goes says = record {
   before = mid.seen;
-  told = ap (λ n. said.Low n time) says.front ∙ ap (said.Low (length mid.seen)) says.time;
+  reported = ap (λ n. said.Low n time) says.front ∙ ap (said.Low (length mid.seen)) says.time;
   part = begins_itself mid.seen;
   later = begins_length mid.seen old.seen goes.begins;
   reached = says.front;
   count = omega (arith, says.count);
 }
-is_told old mid call answer goes says = absurd says
+is_reported old mid call answer goes says = absurd says
 
 -- an Add that is accepted counts
 pub count_after : (old mid : SeatView) (call : Call) (answer : CallAnswer) → GoesOn old mid →
     AnswersCall old mid call answer → mid.count ≡ old.count + cond (adds call) 1 0
-count_after old mid call answer goes says = (is_told old mid call answer goes says).count
+count_after old mid call answer goes says = (is_reported old mid call answer goes says).count
 
 -- ---- each list
 
@@ -140,30 +140,33 @@ went_on start seat index (call ∷ calls) (line ∷ lines) run =
     begins_on seat.seen run.2.seen start.seen (went_on run.2 seat (suc index) calls lines run.5)
     run.3.begins
 
-true_lines : (settings : Settings) (h : History) (start seat : SeatView) (thread index : ℕ)
-    (calls : List Call) (lines : List Line) → start.cache.config ≡ settings →
+true_lines : (config : ConfigView) (h : History) (start seat : SeatView) (thread index : ℕ)
+    (calls : List Call) (lines : List Line) → start.cache.config ≡ config →
     start.number ≡ thread → BeginsWith h seat.seen
     → Runs start index calls lines seat →
-    AreTrueLines settings h thread index (length start.seen) calls lines
-true_lines settings h start seat thread index [] [] set num begins run = tt
-true_lines settings h start seat thread index [] (line ∷ lines) set num begins run = run
-true_lines settings h start seat thread index (call ∷ calls) [] set num begins run = run
-true_lines settings h start seat thread index (call ∷ calls) (line ∷ lines) set num begins run =
+    AreTrueLines config h thread index (length start.seen) calls lines
+true_lines config h start seat thread index [] [] set num begins run = tt
+true_lines config h start seat thread index [] (line ∷ lines) set num begins run = run
+true_lines config h start seat thread index (call ∷ calls) [] set num begins run = run
+true_lines config h start seat thread index (call ∷ calls) (line ∷ lines) set num begins run =
     let mid = run.2 in
-    let told = is_told start mid call line.said run.3 run.4 in
+    let reported = is_reported start mid call line.said run.3 run.4 in
     let seen : BeginsWith h mid.seen =
     begins_on h seat.seen mid.seen begins (went_on mid seat (suc index) calls lines run.5) in
-    let rest = true_lines settings h mid seat thread (suc index) calls lines
+    let rest = true_lines config h mid seat thread (suc index) calls lines
     (ap (λ (c : SharedView). c.config) run.3.cache ∙ set) (run.3.number ∙ num) begins run.5 in (
       record {
-        before = told.before;
-        told = same_line line thread index (said_after settings told.before call) (run.0 ∙ num)
-            run.1 (told.told ∙ ap (λ s. said_after s told.before call) set);
-        part = begins_on h mid.seen (after_call thread told.before call) seen
-            (subst (λ n. BeginsWith mid.seen (after_call n told.before call)) num told.part);
-        later = told.later;
+        before = reported.before;
+        reported = same_line line thread index (said_after config reported.before call)
+            (run.0 ∙ num)
+            run.1 (reported.reported ∙ ap (λ s. said_after s reported.before call) set);
+        part = begins_on h mid.seen (after_call thread reported.before call) seen
+            (subst (λ n. BeginsWith mid.seen (after_call n reported.before call)) num
+            reported.part);
+        later = reported.later;
       },
-      subst (λ n. AreTrueLines settings h thread (suc index) n calls lines) (sym told.reached) rest,
+      subst (λ n. AreTrueLines config h thread (suc index) n calls lines) (sym reported.reached)
+          rest,
     )
 
 true_lists : (cache : SharedView) (h : History) (thread : ℕ) (lists : List (List Call))
@@ -232,13 +235,13 @@ of_one_of_them from (suc n) e h low high =
     ]
 
 -- a legal history has no entries but those of its seats
-all_are_of_seats : (settings : Settings) (seats : ℕ) (done left : History) →
-    IsLegal settings seats (done ++ left) → length left ≡ of_seats 0 seats left
-all_are_of_seats settings seats done [] legal = sym (none_at_all 0 seats)
-all_are_of_seats settings seats done (e ∷ left) legal =
+all_are_of_seats : (config : ConfigView) (seats : ℕ) (done left : History) →
+    IsLegal config seats (done ++ left) → length left ≡ of_seats 0 seats left
+all_are_of_seats config seats done [] legal = sym (none_at_all 0 seats)
+all_are_of_seats config seats done (e ∷ left) legal =
     let next = legal done e (left, sym (append_assoc done (e ∷ []) left)) in
-    let rest = all_are_of_seats settings seats (done ++ e ∷ []) left
-    (subst (IsLegal settings seats) (sym (append_assoc done (e ∷ []) left)) legal) in
+    let rest = all_are_of_seats config seats (done ++ e ∷ []) left
+    (subst (IsLegal config seats) (sym (append_assoc done (e ∷ []) left)) legal) in
     omega (arith, rest, of_one_of_them 0 seats e left (omega arith) (omega (arith, next.seat)))
 
 counted : (start seat : SeatView) (index : ℕ) (calls : List Call) (lines : List Line) →
@@ -254,7 +257,7 @@ counted start seat index (call ∷ calls) (line ∷ lines) run =
       omega (
         arith,
         rest.1,
-        (is_told start run.2 call line.said run.3 run.4).count,
+        (is_reported start run.2 call line.said run.3 run.4).count,
         sum_by-cons (λ (c : Call). cond (adds c) 1 0) call calls,
       ),
     )

@@ -93,12 +93,12 @@ StopsList other old calls new = ⊥
 
 -- How a list's run ends: its seat stays at its cache and gets at most the list's Adds, whatever the
 -- run comes to.
-pub record EndsList (old : SeatView) (calls : List Call) (told : RunResult) (new : SeatView) : Type
-    0 where
+pub record EndsList (old : SeatView) (calls : List Call) (reported : RunResult) (new : SeatView) :
+    Type 0 where
   pub cache : new.cache ≡ old.cache
   pub few : new.count ≤ old.count + adds_of_list calls
-  pub ran : IfOk told (λ lines. Runs old 0 calls lines.items new)
-  pub stopped : IfErr told (λ why. StopsList why old calls new)
+  pub ran : IfOk reported (λ lines. Runs old 0 calls lines.items new)
+  pub stopped : IfErr reported (λ why. StopsList why old calls new)
 
 -- how many Adds some seats count together
 abbrev pub counted : List SeatView → ℕ
@@ -121,13 +121,13 @@ StopsLists other cache lists seats = ⊥
 
 -- How the runs of lists end, each at a new seat of the cache: all seats come back, with at most the
 -- lists' Adds, whatever the runs come to.
-pub record EndsLists (cache : SharedView) (lists : List (List Call)) (told : RunResult)
+pub record EndsLists (cache : SharedView) (lists : List (List Call)) (reported : RunResult)
     (seats : List SeatView) : Type 0 where
   pub of_cache : All (λ (seat : SeatView). seat.cache ≡ cache) seats
   pub as_many : length seats ≡ length lists
   pub few : counted seats ≤ adds_of_lists lists
-  pub ran : IfOk told (λ lines. RunsAll cache 0 lists lines.items seats)
-  pub stopped : IfErr told (λ why. StopsLists why cache lists seats)
+  pub ran : IfOk reported (λ lines. RunsAll cache 0 lists lines.items seats)
+  pub stopped : IfErr reported (λ why. StopsLists why cache lists seats)
 
 -- What some runs and one more come to together: all lines in a row, or why one of them ended early,
 -- or want of memory.

@@ -1,6 +1,7 @@
+//! Why a run ends without a log.
 use std::alloc::{AllocError, AllocFailed};
 use thiserror::Error;
-use tsc_shared::{Gone, OpenFault};
+use tsc_shared::OpenFault;
 use tsc_time::NoMemory;
 
 /// Why there is no log of a run.
@@ -32,17 +33,6 @@ impl From<OpenFault> for RunFault {
 
     fn from(why: OpenFault) -> RunFault {
         RunFault::Open(why)
-    }
-}
-
-impl From<Gone> for RunFault {
-    ghost use Rattle.std.specs.Prelude.{◌≡◌};
-    ghost use Rattle.tsc_run.specs.declared.fault.RunFault.TheVariants.{Gone};
-
-    ghost from_gives = { λ _ fault. fault ≡ Gone };
-
-    fn from(_why: Gone) -> RunFault {
-        RunFault::Gone
     }
 }
 

@@ -16,7 +16,7 @@ use tsc_trace::{Call, CallAnswer, Line};
 #[derive(Drop)]
 pub(crate) struct ListRun {
     pub seat: Seat,
-    pub told: Result<Vec<Line>, RunFault>,
+    pub reported: Result<Vec<Line>, RunFault>,
 }
 
 /// How a refused Add ends a run. All that the calls of a trace add fits a page.
@@ -67,14 +67,14 @@ fn answer<R: Wait, G: Gate>(
             }
         }
         Call::Get { span } => {
-            let answer = cache.get_max(seat, span)?;
+            let answer = cache.get_max_ref(seat, &span.borrowed());
             Ok(CallAnswer::Get {
                 front: answer.front,
                 value: answer.value,
             })
         }
         Call::Low => {
-            let answer = cache.low_water(seat)?;
+            let answer = cache.floor(seat);
             Ok(CallAnswer::Low {
                 front: answer.front,
                 time: answer.time,
@@ -123,8 +123,8 @@ pub(crate) fn run_list<R: Wait, G: Gate>(
     gate: &G,
 ) -> ListRun
     requires { CanRun cache.now seat calls.now }
-    ensures { EndsList seat calls.now result.told result.seat }
+    ensures { EndsList seat calls.now result.reported result.seat }
 {
-    let told = make_calls(rt, alloc, cache, &mut seat, calls, gate);
-    ListRun { seat, told }
+    let reported = make_calls(rt, alloc, cache, &mut seat, calls, gate);
+    ListRun { seat, reported }
 }

@@ -1,3 +1,4 @@
+//! Runs of a trace: a thread and a seat for each list of calls.
 ghost use Rattle.std.specs.Prelude.{◌≡◌, ◌≤◌, Err, IfOk, IfErr, length, map};
 ghost use Rattle.std.specs.List.{sum_by};
 ghost use Rattle.tsc_trace_format.specs.Limits.{most_calls};
@@ -68,7 +69,7 @@ pub fn run_trace<R: RefusesThreads + Threads + Wait + Sync, G: Gate + Sync>(
     let Ok(_closed) = cache.close(rt, runs.seats) else {
         unreachable!()
     };
-    let lines = runs.told?;
+    let lines = runs.reported?;
     Ok(Log {
         lines: Lines::of(lines),
     })

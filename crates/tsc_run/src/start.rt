@@ -53,7 +53,7 @@ pub(crate) struct ListOf<'a> {
 impl<'a> Promise<ListRun> for ListOf<'a> {
     ghost use Rattle.tsc_run.specs.Runs.{EndsList};
 
-    ghost kept_by = { λ p r. EndsList p.seat.value p.calls.now r.told r.seat };
+    ghost kept_by = { λ p r. EndsList p.seat.value p.calls.now r.reported r.seat };
 }
 
 /// What the threads of a run share: by what they are started and wait, where their memory is from,
@@ -90,7 +90,7 @@ pub(crate) fn start_list<'s, E, R: Threads + Wait + Sync, G: Gate + Sync>(
             promise,
             move || -> ListRun
                 requires { CanRun cache.now seat calls.now }
-                ensures { EndsList seat calls.entry.now result.told result.seat }
+                ensures { EndsList seat calls.entry.now result.reported result.seat }
             { run_list(rt, alloc, cache, seat, calls, gate) },
         )
         .map_err(|_| NotStarted { seal: () })

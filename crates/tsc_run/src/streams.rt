@@ -34,14 +34,14 @@ pub enum RunStop {
 
 impl RunStop {
     /// Writes the text of why the run ended. It takes no memory.
-    pub fn tell<W: Sink>(self, writer: &mut W) -> Result<(), WriteFailed>
+    pub fn report<W: Sink>(self, writer: &mut W) -> Result<(), WriteFailed>
         ensures ok { OnOk result (HasWritten (W.known writer.old) (W.known writer.new)
             (stop_text self)) }
         ensures err { OnErr result
             (CouldNotWrite (W.known writer.old) (W.known writer.new) (stop_text self)) }
     {
         match self {
-            RunStop::Stream(fault) => fault.tell(writer),
+            RunStop::Stream(fault) => fault.report(writer),
             RunStop::NoView => write_output(writer, b"no view"),
             RunStop::NoPlace => write_output(writer, b"no place"),
             RunStop::HistoryFull => write_output(writer, b"history full"),

@@ -17,18 +17,18 @@ use tsc_trace::{Call, Line};
 #[derive(Drop)]
 pub(crate) struct AllRuns {
     pub seats: Vec<Seat>,
-    pub told: Result<Vec<Line>, RunFault>,
+    pub reported: Result<Vec<Line>, RunFault>,
 }
 
 /// The lines of some lists with those of one more behind them, or why one of these runs ended
 /// early.
 fn joined(
-    told: Result<Vec<Line>, RunFault>,
+    reported: Result<Vec<Line>, RunFault>,
     more: Result<Vec<Line>, RunFault>,
 ) -> Result<Vec<Line>, RunFault>
-    ensures { Joins told more result }
+    ensures { Joins reported more result }
 {
-    let mut lines = told?;
+    let mut lines = reported?;
     let mut last = more?;
     lines.append(&mut last)?;
     Ok(lines)
@@ -53,13 +53,13 @@ fn run_in<'s, E, R: Threads + Wait + Sync, G: Gate + Sync>(
 ) -> Result<AllRuns, NotStarted>
     requires { CanRunAll run.now.cache.now seats.items lists.now }
     ensures runs { IfOk result (λ runs. EndsLists run.now.cache.now
-        (map (λ calls. calls.items) lists.now) runs.told runs.seats.items) }
+        (map (λ calls. calls.items) lists.now) runs.reported runs.seats.items) }
     ensures room { IfOk result (λ runs. vec_capacity seats ≤ vec_capacity runs.seats) }
 {
     let Some(seat) = seats.pop() else {
         return Ok(AllRuns {
             seats,
-            told: Ok(Vec::new(run.alloc)),
+            reported: Ok(Vec::new(run.alloc)),
         });
     };
     let Some((calls, others)) = split_last(lists) else {
@@ -68,14 +68,20 @@ fn run_in<'s, E, R: Threads + Wait + Sync, G: Gate + Sync>(
     let child = start_list(scope, run, seat, calls)?;
     let runs = run_in(scope, run, seats, others);
     let last = child.join(run.rt);
-    let AllRuns { mut seats, told } = runs?;
-    let ListRun { seat, told: more } = last;
+    let AllRuns {
+        mut seats,
+        reported,
+    } = runs?;
+    let ListRun {
+        seat,
+        reported: more,
+    } = last;
     let Ok(()) = seats.push(seat) else {
         unreachable!()
     };
     Ok(AllRuns {
         seats,
-        told: joined(told, more),
+        reported: joined(reported, more),
     })
 }
 
@@ -90,7 +96,7 @@ pub(crate) fn run_lists<R: RefusesThreads + Threads + Wait + Sync, G: Gate + Syn
 ) -> Result<AllRuns, RunFault>
     requires { CanRunAll cache.now seats.items lists.now }
     ensures runs { IfOk result (λ runs. EndsLists cache.now (map (λ calls. calls.items) lists.now)
-        runs.told runs.seats.items) }
+        runs.reported runs.seats.items) }
     ensures why { IfErr result (λ why. (why ≡ RunFault.NoThread) × R.HasRefused rt.now) }
 {
     let ended = thread::scope(
@@ -99,7 +105,7 @@ pub(crate) fn run_lists<R: RefusesThreads + Threads + Wait + Sync, G: Gate + Syn
         |scope| -> Result<AllRuns, NotStarted>
             requires { CanRunAll cache.now seats.items lists.now }
             ensures { IfOk result (λ runs. EndsLists cache.entry.now
-                (map (λ calls. calls.items) lists.entry.now) runs.told runs.seats.items) }
+                (map (λ calls. calls.items) lists.entry.now) runs.reported runs.seats.items) }
         {
             let run = RunContext {
                 rt,

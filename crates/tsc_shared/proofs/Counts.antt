@@ -7,7 +7,7 @@ use native.Mathlib.Decide.{ℕ_discrete}
 use Rattle.std.proofs.lemmas.Bool.Decides.{nat_tests}
 use Rattle.std.proofs.lemmas.List.Sums.{sum_by-cons}
 use Rattle.tsc_cache.specs.declared.history.Entry.{Entry}
-use Rattle.tsc_cache.specs.Settings.{Settings}
+use Rattle.tsc_cache.specs.ConfigView.{ConfigView}
 use Rattle.tsc_cache.specs.History.{History, own_count, BeginsWith, IsLegal}
 use Rattle.tsc_left_right.specs.Rule.{one_if}
 use Rattle.tsc_shared.specs.Seats.{SeatView}
@@ -73,10 +73,10 @@ as_counted h (s ∷ seats) own =
     )
 
 -- where each seat is there once, and counts its own Adds of a legal history
-pub all_counts : (settings : Settings) (seats : List SeatView) (n : ℕ) →
+pub all_counts : (config : ConfigView) (seats : List SeatView) (n : ℕ) →
     ((number : ℕ) → number < n → count_by (λ (seat : SeatView). seat.number == number) seats ≡ 1) →
-    (h : History) → IsLegal settings n h
+    (h : History) → IsLegal config n h
     → All (λ (seat : SeatView). own_count seat.number h ≡ seat.count) seats →
     sum_by (λ (seat : SeatView). seat.count) seats ≡ length h
-all_counts settings seats n each h legal own = as_counted h seats own ∙
+all_counts config seats n each h legal own = as_counted h seats own ∙
     all_own seats n each h (λ before e b. (legal before e b).seat)

@@ -2,7 +2,7 @@
 use Rattle.std.proofs.Common.{◌≡◌, ◌∙◌, sym, ap, subst, rules, ℕ, List, Bool, false}
 use Rattle.std.specs.Prelude.{Ok, Err, Result, IfOk, IfErr, OnErr, IsErrOf, ◌↔◌, Option, Some, None}
 use Rattle.tsc_time.specs.Time.{Time}
-use Rattle.tsc_page_nodes.specs.Page.{Mark}
+use Rattle.tsc_page_model.specs.Page.{Mark}
 use Rattle.tsc_shared.specs.declared.answers.Receipt.{Receipt}
 use Rattle.tsc_shared.specs.declared.answers.AddFault.{AddFault}
 use Rattle.tsc_shared.specs.declared.answers.AddFault.TheVariants.{TooLarge}

@@ -3,7 +3,7 @@ use Rattle.std.proofs.Common.{refl, ◌≡◌, ◌∙◌, sym, ap, subst, true, 
 use Rattle.std.specs.Prelude.{Bool, Option, Err, Result, List}
 use Rattle.atomic_table.specs.Seated.{TableId}
 use Rattle.tsc_time.specs.Time.{Time}
-use Rattle.tsc_page_nodes.specs.Page.{Mark}
+use Rattle.tsc_page_model.specs.Page.{Mark}
 use Rattle.tsc_shared.specs.declared.adds.UnappliedAdd.{UnappliedAdd}
 use Rattle.tsc_shared.specs.Copying.{IsCopyOf}
 use Rattle.tsc_left_right.specs.Steps.{seen_of}
@@ -67,11 +67,11 @@ pub why_refused : (old new : Participant) (tries : Option ℕ) (seen : ℕ) (why
     → IsNotApplied caches tries old.me.0 new.me seen why →
     fault ≡ fault_for why (record { cache = cache_of new; seen = seen_of new.me.0 }) →
     TryRefusedFor s s' fault
-why_refused old new tries seen why fault s s' is is' table seat n told =
+why_refused old new tries seen why fault s s' is is' table seat n reported =
     let r = rests_unadded old new tries seen why seat table n in
     let same : fault ≡ fault_for why (record { cache = cache_of old; seen = seen_of new.me.0 })
-    = told ∙ ap (λ (x : SharedView). fault_for why (record { cache = x; seen = seen_of new.me.0 }))
-    r.cache in
+    = reported ∙ ap (λ (x : SharedView). fault_for why
+    (record { cache = x; seen = seen_of new.me.0 })) r.cache in
     subst (λ (x : SeatView). TryRefusedFor x s' fault) is
     (subst (λ (x : SeatView). TryRefusedFor (seat_view old) x fault) (sym is')
     (subst (λ (x : TryAddFault). TryRefusedFor (seat_view old) (seat_view new) x) (sym same)
@@ -88,8 +88,8 @@ gives_up_for tries v me seen SeatInside front n = n.why_is.1
 pub gives_up : (v : Knowledge) (me : At) (tries : Option ℕ) (seen : ℕ) (why : NotApplied)
     (front : FrontView) (fault : TryAddFault) → IsNotApplied caches tries v me seen why →
     fault ≡ fault_for why front → GivesUp tries fault
-gives_up v me tries seen why front fault n told =
-    subst (GivesUp tries) (sym told) (gives_up_for tries v me seen why front n)
+gives_up v me tries seen why front fault n reported =
+    subst (GivesUp tries) (sym reported) (gives_up_for tries v me seen why front n)
 
 -- whether an Add was refused for its size
 abbrev pub is_too_large : Result Receipt TryAddFault → Bool
@@ -108,5 +108,5 @@ fits_for SeatInside front = refl
 pub fault_fits : (why : NotApplied) (front : FrontView) (fault : TryAddFault) →
     fault ≡ fault_for why front → ◌≡◌ {A = Result Receipt TryAddFault} (Err fault)
     (Err (Refused TooLarge)) → ⊥
-fault_fits why front fault told = not_too_large (Err fault)
-    (ap (λ (x : TryAddFault). is_too_large (Err x)) told ∙ fits_for why front)
+fault_fits why front fault reported = not_too_large (Err fault)
+    (ap (λ (x : TryAddFault). is_too_large (Err x)) reported ∙ fits_for why front)

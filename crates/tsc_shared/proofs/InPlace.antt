@@ -6,12 +6,12 @@ use Rattle.std.specs.Result.{is_err}
 use Rattle.std.proofs.lemmas.Bool.{cases_Bool}
 use Rattle.std.proofs.lemmas.List.{take_all}
 use Rattle.tsc_time.specs.Time.{Time}
-use Rattle.tsc_page_nodes.specs.Page.{Mark}
+use Rattle.tsc_page_model.specs.Page.{Mark}
 use Rattle.tsc_cache.specs.declared.added.Added.{Added}
 use Rattle.tsc_cache.specs.State.{is_kept, not_kept}
-use Rattle.tsc_cache.specs.CacheView.{CacheView, TellsAddedAll, Adds, AddsWithoutRotation, front_has_room_for}
+use Rattle.tsc_cache.specs.CacheView.{CacheView, ReportsAddedAll, Adds, AddsWithoutRotation, front_has_room_for}
 use Rattle.tsc_cache.specs.Batch.{AddsAll, AddsSome}
-use Rattle.tsc_cache.proofs.Batches.{settings_stay}
+use Rattle.tsc_cache.proofs.Batches.{config_stays}
 use Rattle.tsc_cache.proofs.Steps.{answer_alone}
 use Rattle.tsc_cache.proofs.AddsSeen.{adds_are_steps}
 use Rattle.tsc_shared.specs.declared.adds.UnappliedAdd.{UnappliedAdd}
@@ -45,9 +45,9 @@ had_some old new ms now (Ok added) all some = had_all old new ms now added all
 had_some old new ms now (Err e) all some = (some.0, some.1, some.3)
 
 -- what an Add of the one mark tells
-pub told_one : (old new : CacheView) (m : Mark) (now : Time) (added : Added) →
-    Adds old new m now added → TellsAddedAll old (m ∷ []) now added
-told_one old new m now added adds = adds_are_steps.all_answer old new (m ∷ []) now added (
+pub reported_one : (old new : CacheView) (m : Mark) (now : Time) (added : Added) →
+    Adds old new m now added → ReportsAddedAll old (m ∷ []) now added
+reported_one old new m now added adds = adds_are_steps.all_answer old new (m ∷ []) now added (
   new,
   added,
   not_kept,
@@ -57,11 +57,11 @@ told_one old new m now added adds = adds_are_steps.all_answer old new (m ∷ [])
 )
 
 -- who catches up stays set up as it is
-pub caught_up_settings : (late : Option UnappliedAdd) (old new : CacheView)
-    → CatchesUp late old new → new.settings ≡ old.settings
-caught_up_settings None old new some = ap (λ (v : CacheView). v.settings) some
-caught_up_settings (Some p) old new some =
-    settings_stay old new (take some.0 (marks_in p.marks)) p.moment some.1 some.2
+pub caught_up_config : (late : Option UnappliedAdd) (old new : CacheView)
+    → CatchesUp late old new → new.config ≡ old.config
+caught_up_config None old new some = ap (λ (v : CacheView). v.config) some
+caught_up_config (Some p) old new some =
+    config_stays old new (take some.0 (marks_in p.marks)) p.moment some.1 some.2
 
 -- who has had nothing of what it lacked
 pub caught_none : (late : Option UnappliedAdd) (v : CacheView) → CatchesUp late v v
@@ -80,19 +80,19 @@ no_part_then late (One m) Spoiled old between new first left =
 no_part_then late (Many ms) Spoiled old between new first left = tt
 
 -- an Add that never rotates tells of no rotation
-pub told_no_rotation : (old new : CacheView) (m : Mark) (made : Option Added) (added : Added)
+pub reported_no_rotation : (old new : CacheView) (m : Mark) (made : Option Added) (added : Added)
     (now : Time) → made ≡ Some added → AddsWithoutRotation old new m made → added.rotated ≡ false
-told_no_rotation old new m made added now is seen =
+reported_no_rotation old new m made added now is seen =
     by_cases (subst (AddsWithoutRotation old new m) is seen)
   where
     by_cases : AddsWithoutRotation old new m (Some added) → added.rotated ≡ false
-    by_cases told = elim (cases_Bool (is_kept old.floor m)) [
-      | inr lost ↦ ap (λ (a : Added). a.rotated) ((told.1 now).not_kept lost).1
+    by_cases reported = elim (cases_Bool (is_kept old.floor m)) [
+      | inr lost ↦ ap (λ (a : Added). a.rotated) ((reported.1 now).not_kept lost).1
       | inl kept ↦ elim (cases_Bool (front_has_room_for old.pages m.span)) [
-        | inl room ↦ ap (λ (a : Added). a.rotated) ((told.1 now).in_place kept room).3
+        | inl room ↦ ap (λ (a : Added). a.rotated) ((reported.1 now).in_place kept room).3
         | inr full ↦ absurd (let both : true ≡ false =
             sym (ap (λ (b : Bool). b && not (front_has_room_for old.pages m.span)) kept ∙
-            ap (λ (b : Bool). not b) full) ∙ told.0 in cc)
+            ap (λ (b : Bool). not b) full) ∙ reported.0 in cc)
       ]
     ]
 

@@ -2,8 +2,8 @@
 use Rattle.std.specs.Prelude.{◌≡◌, ℕ, List, Bool, Option, Some, Result, Ok, Err, is_ok}
 use Rattle.std.specs.Prelude.{IfOk, OnOk, IfErr, OnErr, IsErrOf}
 use Rattle.tsc_time.specs.Time.{Time}
-use Rattle.tsc_page_nodes.specs.Page.{Mark}
-use Rattle.tsc_cache.specs.Settings.{Settings, fits}
+use Rattle.tsc_page_model.specs.Page.{Mark}
+use Rattle.tsc_cache.specs.ConfigView.{ConfigView, fits}
 use Rattle.tsc_cache.specs.Batch.{all_fit}
 use Rattle.tsc_shared.specs.declared.adds.MarksRef.{MarksRef}
 use Rattle.tsc_shared.specs.declared.adds.MarksRef.TheVariants.{One, Many}
@@ -19,9 +19,9 @@ use Rattle.tsc_shared.specs.Seats.{SeatView, FrontView}
 use Rattle.tsc_shared.specs.Answers.{Accepts, GoesOn, Refuses, TryRefusedFor}
 
 -- whether the span of each mark that a caller asks to add fits the largest page
-abbrev pub fits_asked : Settings → MarksRef → Bool
-fits_asked settings (One span value) = fits settings span.now
-fits_asked settings (Many marks) = all_fit settings marks.now
+abbrev pub fits_asked : ConfigView → MarksRef → Bool
+fits_asked config (One span value) = fits config span.now
+fits_asked config (Many marks) = all_fit config marks.now
 
 -- An Add is given up only where the tries have an end.
 abbrev pub GivesUp : Option ℕ → TryAddFault → Type 0
@@ -33,8 +33,8 @@ GivesUp tries (Refused fault) = Unit {0}
 -- it then. It is accepted, or refused for one of the reasons, but not as too large. Without a try
 -- it reports that the lock is busy.
 pub record AnswersFitting (ms : List Mark) (now : Time) (tries : Option ℕ) (old new : SeatView)
-    (told : Bool) (HasHeard : Type 0) (result : Result Receipt TryAddFault) : Type 0 where
-  pub told_is : told ≡ is_ok result
+    (reported : Bool) (HasHeard : Type 0) (result : Result Receipt TryAddFault) : Type 0 where
+  pub reported_is : reported ≡ is_ok result
   pub gate : OnOk result HasHeard
   pub accepted : IfOk result (λ receipt. Accepts old new ms now receipt)
   pub seat : GoesOn old new

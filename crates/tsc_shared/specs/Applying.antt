@@ -6,7 +6,7 @@ use Rattle.std.specs.Arc.{arc_value}
 use Rattle.std.specs.declared.sync.Arc.{Arc}
 use Rattle.std.specs.declared.alloc.Global.{Global}
 use Rattle.tsc_time.specs.Time.{Time}
-use Rattle.tsc_page_nodes.specs.Page.{Mark}
+use Rattle.tsc_page_model.specs.Page.{Mark}
 use Rattle.tsc_cache.specs.declared.added.Added.{Added}
 use Rattle.tsc_cache.specs.Batch.{all_fit, AddsAll}
 use Rattle.tsc_cache.specs.State.{step_all}
@@ -15,7 +15,7 @@ use Rattle.tsc_cache.specs.CacheView.{CacheView, RepresentsState}
 use Rattle.tsc_shared.specs.declared.adds.MarkList.{MarkList}
 use Rattle.tsc_shared.specs.declared.adds.MarkList.TheVariants.{One, Many}
 use Rattle.tsc_shared.specs.declared.adds.UnappliedAdd.{UnappliedAdd}
-use Rattle.tsc_cache.specs.Settings.{Settings}
+use Rattle.tsc_cache.specs.ConfigView.{ConfigView}
 use Rattle.tsc_left_right.specs.Copies.{LagsBy, Stand}
 use Rattle.tsc_shared.specs.Caches.{Copies, caches, marks_in}
 use Rattle.tsc_shared.specs.declared.applying.InPlace.{InPlace}
@@ -24,12 +24,12 @@ use Rattle.tsc_shared.specs.declared.applying.InPlace.TheVariants.{Made, Untouch
 -- The Add that a cache has not had yet, if there is one, fits a page of it.
 abbrev pub LateFits : CacheView → Option UnappliedAdd → Type 0
 LateFits cache None = Unit {0}
-LateFits cache (Some p) = all_fit cache.settings (marks_in p.marks) ≡ true
+LateFits cache (Some p) = all_fit cache.config (marks_in p.marks) ≡ true
 
 -- A cache can have the Add that it lacks, and then another.
 abbrev pub CanTake : CacheView → Option UnappliedAdd → UnappliedAdd → Type 0
 CanTake cache late add =
-    (all_fit cache.settings (marks_in add.marks) ≡ true) × LateFits cache late
+    (all_fit cache.config (marks_in add.marks) ≡ true) × LateFits cache late
 
 -- The copy behind a handle, if there is one, can have the Add that it lacks, and then another.
 abbrev pub HandleFits : Option (Arc CacheView Global) → Option UnappliedAdd → UnappliedAdd → Type 0
@@ -39,44 +39,44 @@ HandleFits (Some handle) late add = CanTake (arc_value handle) late add
 -- An Add fits a page of either copy, and the Add that the standby copy has not had yet fits one of
 -- its pages.
 pub record AllFit (copies : Copies) (add : UnappliedAdd) : Type 0 where
-  pub active : all_fit (arc_value copies.active).settings (marks_in add.marks) ≡ true
+  pub active : all_fit (arc_value copies.active).config (marks_in add.marks) ≡ true
   pub standby : HandleFits copies.standby copies.lagging add
 
 -- A cache that lagged stands for all that was added so far, and for this Add behind it.
 abbrev pub StandsAfterAdd : Option UnappliedAdd → CacheView → CacheView → UnappliedAdd → Type 0
 StandsAfterAdd late old new add =
-    (settings : Settings) (h : History) → LagsBy caches settings h late old
-    → RepresentsState new settings
-    (step_all settings (state_of settings h) (marks_in add.marks) add.moment).state
+    (config : ConfigView) (h : History) → LagsBy caches config h late old
+    → RepresentsState new config
+    (step_all config (state_of config h) (marks_in add.marks) add.moment).state
 
 -- what this Add did
-abbrev pub TellsAdd : Option UnappliedAdd → CacheView → UnappliedAdd → Added → Type 0
-TellsAdd late old add added =
-    (settings : Settings) (h : History) → LagsBy caches settings h late old
-    → added ≡ (step_all settings (state_of settings h) (marks_in add.marks) add.moment).added
+abbrev pub ReportsAdd : Option UnappliedAdd → CacheView → UnappliedAdd → Added → Type 0
+ReportsAdd late old add added =
+    (config : ConfigView) (h : History) → LagsBy caches config h late old
+    → added ≡ (step_all config (state_of config h) (marks_in add.marks) add.moment).added
 
 -- a cache stands for what it stood for, and what it lacks then is said
 abbrev pub StillLags : Option UnappliedAdd → Option UnappliedAdd → CacheView → CacheView → Type 0
-StillLags late later old new = (settings : Settings) (h : History)
-    → LagsBy caches settings h late old →
-    LagsBy caches settings h later new
+StillLags late later old new = (config : ConfigView) (h : History)
+    → LagsBy caches config h late old →
+    LagsBy caches config h later new
 
 -- A cache that lagged has had all that it lacked and then this Add, which brought no new page.
 pub record HasTaken (late : Option UnappliedAdd) (old new : CacheView) (add : UnappliedAdd)
     (lagging : Option UnappliedAdd) (added : Added) : Type 0 where
   pub stands : StandsAfterAdd late old new add
-  pub tells : TellsAdd late old add added
+  pub reports : ReportsAdd late old add added
   pub no_page : added.rotated ≡ false
   pub caught_up : lagging ≡ None
 
 -- A cache is the next one after an Add, whatever history the copies stood for.
 pub record IsNext (copies : Copies) (add : UnappliedAdd) (next : CacheView) (added : Added)
     : Type 0 where
-  pub stands : (settings : Settings) (h : History) → Stand caches settings h copies
-      → RepresentsState next settings
-      (step_all settings (state_of settings h) (marks_in add.marks) add.moment).state
-  pub tells : (settings : Settings) (h : History) → Stand caches settings h copies
-      → added ≡ (step_all settings (state_of settings h) (marks_in add.marks) add.moment).added
+  pub stands : (config : ConfigView) (h : History) → Stand caches config h copies
+      → RepresentsState next config
+      (step_all config (state_of config h) (marks_in add.marks) add.moment).state
+  pub reports : (config : ConfigView) (h : History) → Stand caches config h copies
+      → added ≡ (step_all config (state_of config h) (marks_in add.marks) add.moment).added
 
 -- Whether the Add that the standby copy has not had yet brought no new page, since it has rotated
 -- as often as the active one.

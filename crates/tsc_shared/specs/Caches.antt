@@ -1,8 +1,8 @@
 -- What the seats of a shared cache replicate. (For private contracts.)
 use Rattle.std.specs.Prelude.{refl, ℕ, List, [], ◌∷◌}
 use Rattle.tsc_time.specs.Time.{zero_time}
-use Rattle.tsc_page_nodes.specs.Page.{Mark}
-use Rattle.tsc_cache.specs.Settings.{Settings}
+use Rattle.tsc_page_model.specs.Page.{Mark}
+use Rattle.tsc_cache.specs.ConfigView.{ConfigView}
 use Rattle.tsc_cache.specs.State.{step_all}
 use Rattle.tsc_cache.specs.CacheView.{CacheView, RepresentsState}
 use Rattle.tsc_cache.specs.declared.added.Added.{Added}
@@ -23,7 +23,7 @@ use Rattle.tsc_shared.specs.declared.caches.Caches.{Caches}
 
 -- the types of left-right, over copies of a cache
 abbrev pub Setup : Type 0
-Setup = SetupOf Settings
+Setup = SetupOf ConfigView
 
 abbrev pub Copies : Type 0
 Copies = CopiesOf CacheView UnappliedAdd
@@ -35,13 +35,13 @@ abbrev pub SeatState : Type 0
 SeatState = SeatStateOf Entry
 
 abbrev pub Knowledge : Type 0
-Knowledge = KnowledgeOf Settings Entry
+Knowledge = KnowledgeOf ConfigView Entry
 
 abbrev pub At : Type 0
-At = AtOf CacheView UnappliedAdd Settings Entry
+At = AtOf CacheView UnappliedAdd ConfigView Entry
 
 abbrev pub Participant : Type 0
-Participant = ParticipantOf CacheView UnappliedAdd Settings Entry
+Participant = ParticipantOf CacheView UnappliedAdd ConfigView Entry
 
 -- the marks of an Add as a list
 abbrev pub marks_in : MarkList → List Mark
@@ -54,14 +54,14 @@ entry_of number count add =
     record { seat = number; number = count; marks = marks_in add.marks; now = add.moment }
 
 -- what an Add did
-abbrev pub answer_of : Settings → History → UnappliedAdd → Added
-answer_of settings h add =
-    (step_all settings (state_of settings h) (marks_in add.marks) add.moment).added
+abbrev pub answer_of : ConfigView → History → UnappliedAdd → Added
+answer_of config h add =
+    (step_all config (state_of config h) (marks_in add.marks) add.moment).added
 
 -- A copy stands for the state of a history.
-abbrev pub caches : Ghosts Caches CacheView UnappliedAdd Settings Entry
+abbrev pub caches : Ghosts Caches CacheView UnappliedAdd ConfigView Entry
 caches = record {
-  stands = λ settings h cache. RepresentsState cache settings (state_of settings h);
+  stands = λ config h cache. RepresentsState cache config (state_of config h);
   is_next = IsNext;
   seat_of = λ e. e.seat;
   entry_of = entry_of;

@@ -1,7 +1,7 @@
 -- What a caller asks to add, and a copy of it. (For private contracts.)
 use Rattle.std.specs.Prelude.{◌≡◌, List, [], ◌∷◌}
 use Rattle.tsc_time.specs.Time.{Time}
-use Rattle.tsc_page_nodes.specs.Page.{Mark}
+use Rattle.tsc_page_model.specs.Page.{Mark}
 use Rattle.tsc_shared.specs.declared.adds.MarksRef.{MarksRef}
 use Rattle.tsc_shared.specs.declared.adds.MarksRef.TheVariants.{One, Many}
 use Rattle.tsc_shared.specs.declared.adds.UnappliedAdd.{UnappliedAdd}

@@ -11,7 +11,7 @@ use Rattle.tsc_shared.specs.Seats.{SharedView, SeatView, FrontView, IsSeat}
 abbrev pub shared_view : TableId → Setup → SharedView
 shared_view table setup = record {
   table = table;
-  config = setup.settings;
+  config = setup.config;
   seats = setup.seats;
   limit = setup.limit;
 }

@@ -3,10 +3,10 @@ ghost use Rattle.std.specs.Prelude.{◌≡◌, ◌∷◌, [], ℕ, true, false, 
 ghost use Rattle.std.specs.Prelude.{None};
 ghost use Rattle.std.specs.Arc.{arc_value};
 ghost use Rattle.tsc_cache.specs.Batch.{all_fit};
-ghost use Rattle.tsc_cache.specs.CacheView.{StandsAfterAll, TellsAddedAll};
+ghost use Rattle.tsc_cache.specs.CacheView.{StandsAfterAll, ReportsAddedAll};
 ghost use Rattle.tsc_left_right.specs.Copies.{StillStand};
 ghost use Rattle.tsc_shared.specs.Caches.{caches, marks_in};
-ghost use Rattle.tsc_shared.specs.Applying.{LateFits, AllFit, StandsAfterAdd, TellsAdd};
+ghost use Rattle.tsc_shared.specs.Applying.{LateFits, AllFit, StandsAfterAdd, ReportsAdd};
 ghost use Rattle.tsc_shared.specs.Applying.{StillLags, HasHadSome, CatchesUp, HandleCatchesUp};
 ghost use Rattle.tsc_shared.specs.Applying.{HasNoPart, HandsOut, IfMade, IsUntouched};
 ghost use Rattle.tsc_shared.specs.Applying.{keeps_pages, CanTake, HasTaken, IsNext};
@@ -22,9 +22,9 @@ use tsc_time::{NoMemory, Timestamp};
 /// Adds marks of which each fits a page of the cache, in place, so that only memory may be refused.
 /// Some of them are there then.
 fn add_many(cache: &mut Cache, marks: &[Mark], moment: Timestamp) -> Result<Added, NoMemory>
-    requires fits { all_fit cache.old.settings marks.now ≡ true }
+    requires fits { all_fit cache.old.config marks.now ≡ true }
     ensures stands { OnOk result (StandsAfterAll cache.old cache.new marks.now moment) }
-    ensures added { IfOk result (TellsAddedAll cache.old marks.now moment) }
+    ensures added { IfOk result (ReportsAddedAll cache.old marks.now moment) }
     ensures some { HasHadSome cache.old cache.new marks.now moment }
 {
     cache.add_fitting(marks, moment)
@@ -33,10 +33,11 @@ fn add_many(cache: &mut Cache, marks: &[Mark], moment: Timestamp) -> Result<Adde
 /// Adds what fits a page of the cache, in place, so that only memory may be refused. A part of it
 /// may be there then.
 fn add_fitting(cache: &mut Cache, add: &UnappliedAdd) -> Result<Added, NoMemory>
-    requires fits { all_fit cache.old.settings (marks_in add.now.marks) ≡ true }
+    requires fits { all_fit cache.old.config (marks_in add.now.marks) ≡ true }
     ensures stands { OnOk result
         (StandsAfterAll cache.old cache.new (marks_in add.now.marks) add.now.moment) }
-    ensures added { IfOk result (TellsAddedAll cache.old (marks_in add.now.marks) add.now.moment) }
+    ensures added { IfOk result
+        (ReportsAddedAll cache.old (marks_in add.now.marks) add.now.moment) }
     ensures some { HasHadSome cache.old cache.new (marks_in add.now.marks) add.now.moment }
 {
     add_many(cache, add.marks.as_slice(), add.moment)
@@ -44,11 +45,11 @@ fn add_fitting(cache: &mut Cache, add: &UnappliedAdd) -> Result<Added, NoMemory>
 
 /// The cache after an Add that fits a page of it, so that only memory may be refused.
 fn next_fitting(cache: &Cache, add: &UnappliedAdd) -> Result<(Cache, Added), NoMemory>
-    requires fits { all_fit cache.now.settings (marks_in add.now.marks) ≡ true }
+    requires fits { all_fit cache.now.config (marks_in add.now.marks) ≡ true }
     ensures stands { IfOk result (λ next.
         StandsAfterAll cache.now next.0 (marks_in add.now.marks) add.now.moment) }
     ensures added { IfOk result (λ next.
-        TellsAddedAll cache.now (marks_in add.now.marks) add.now.moment next.1) }
+        ReportsAddedAll cache.now (marks_in add.now.marks) add.now.moment next.1) }
 {
     cache.next_fitting(add.marks.as_slice(), add.moment)
 }
@@ -88,10 +89,10 @@ fn renew(
     active: &Arc<Cache>,
     add: &UnappliedAdd,
 ) -> Result<(Arc<Cache>, Added), NoMemory>
-    requires fits { all_fit (arc_value active.now).settings (marks_in add.now.marks) ≡ true }
+    requires fits { all_fit (arc_value active.now).config (marks_in add.now.marks) ≡ true }
     ensures stands { IfOk result (λ made.
         StandsAfterAdd None (arc_value active.now) (arc_value made.0) add.now) }
-    ensures added { IfOk result (λ made. TellsAdd None (arc_value active.now) add.now made.1) }
+    ensures added { IfOk result (λ made. ReportsAdd None (arc_value active.now) add.now made.1) }
 {
     let (next, added) = next_fitting(active, add)?;
     Ok((Arc::new(alloc, next)?, added))
@@ -113,7 +114,7 @@ pub(crate) enum InPlace {
 fn add_one_in_place(cache: &mut Cache, mark: &Mark, moment: Timestamp) -> InPlace
     ensures stands { IfMade result (λ added.
         StandsAfterAll cache.old cache.new (mark.now ∷ []) moment) }
-    ensures added { IfMade result (TellsAddedAll cache.old (mark.now ∷ []) moment) }
+    ensures added { IfMade result (ReportsAddedAll cache.old (mark.now ∷ []) moment) }
     ensures pages { IfMade result (λ added. added.rotated ≡ false) }
     ensures left { HasNoPart None (MarkList.One mark.now) result cache.old cache.new }
 {
@@ -126,9 +127,9 @@ fn add_one_in_place(cache: &mut Cache, mark: &Mark, moment: Timestamp) -> InPlac
 /// Adds marks of which each fits a page of the cache, in place. If one brings a new page, or
 /// memory is refused, the cache is spoiled.
 fn add_many_in_place(cache: &mut Cache, marks: &[Mark], moment: Timestamp) -> InPlace
-    requires fits { all_fit cache.old.settings marks.now ≡ true }
+    requires fits { all_fit cache.old.config marks.now ≡ true }
     ensures stands { IfMade result (λ added. StandsAfterAll cache.old cache.new marks.now moment) }
-    ensures added { IfMade result (TellsAddedAll cache.old marks.now moment) }
+    ensures added { IfMade result (ReportsAddedAll cache.old marks.now moment) }
     ensures pages { IfMade result (λ added. added.rotated ≡ false) }
     ensures touched { IsUntouched result → ⊥ }
 {
@@ -140,11 +141,11 @@ fn add_many_in_place(cache: &mut Cache, marks: &[Mark], moment: Timestamp) -> In
 
 /// Adds to a cache that lacks nothing, in place, if that brings no new page.
 fn add_up_to_date(cache: &mut Cache, add: &UnappliedAdd) -> InPlace
-    requires fits { all_fit cache.old.settings (marks_in add.now.marks) ≡ true }
+    requires fits { all_fit cache.old.config (marks_in add.now.marks) ≡ true }
     ensures stands { IfMade result (λ added.
         StandsAfterAll cache.old cache.new (marks_in add.now.marks) add.now.moment) }
     ensures added { IfMade result
-        (TellsAddedAll cache.old (marks_in add.now.marks) add.now.moment) }
+        (ReportsAddedAll cache.old (marks_in add.now.marks) add.now.moment) }
     ensures pages { IfMade result (λ added. added.rotated ≡ false) }
     ensures left { HasNoPart None add.now.marks result cache.old cache.new }
 {
@@ -198,7 +199,7 @@ fn add_in_place(
 }
 
 /// Lays the standby copy back if nothing of the Add is in it, and else hands it out.
-fn lay_aside(copies: &mut Copies, standby: Arc<Cache>, tried: &InPlace) -> Option<Arc<Cache>>
+fn set_aside(copies: &mut Copies, standby: Arc<Cache>, tried: &InPlace) -> Option<Arc<Cache>>
     requires { copies.old.standby ≡ None }
     ensures kept { IsUntouched tried.now
         → (copies.new ≡ record copies.old { standby = Some standby }) × (result ≡ None) }
@@ -219,11 +220,11 @@ fn take_new(
     copies: &mut Copies,
     add: &UnappliedAdd,
 ) -> Result<(Arc<Cache>, Added), NoMemory>
-    requires fits { all_fit (arc_value copies.old.active).settings (marks_in add.now.marks) ≡ true }
+    requires fits { all_fit (arc_value copies.old.active).config (marks_in add.now.marks) ≡ true }
     ensures stands { IfOk result (λ made.
         StandsAfterAdd None (arc_value copies.old.active) (arc_value made.0) add.now) }
     ensures added { IfOk result (λ made.
-        TellsAdd None (arc_value copies.old.active) add.now made.1) }
+        ReportsAdd None (arc_value copies.old.active) add.now made.1) }
     ensures taken { OnOk result ((copies.new.active ≡ copies.old.active)
         × (copies.new.lagging ≡ None) × (copies.new.standby ≡ copies.old.standby)) }
     ensures same { OnErr result (copies.new ≡ copies.old) }
@@ -275,6 +276,6 @@ pub(crate) fn take_next(
             answer,
             retired: Some(standby),
         }),
-        Err(_refused) => Err(lay_aside(copies, standby, &tried)),
+        Err(_refused) => Err(set_aside(copies, standby, &tried)),
     }
 }

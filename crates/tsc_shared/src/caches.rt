@@ -36,7 +36,7 @@ impl Replicated for Caches {
 
     type Operation = UnappliedAdd;
 
-    type Settings = Config;
+    type ConfigView = Config;
 
     type Entry = Entry;
 

@@ -19,10 +19,10 @@ use tsc_time::NoMemory;
 
 /// A cache to which nothing was added, and a handle on it.
 fn empty_cache(alloc: Global, setup: &Setup) -> Result<Arc<Cache>, NoMemory>
-    ensures { IfOk result (λ cache. RepresentsState (arc_value cache) setup.now.settings
-        (state_of setup.now.settings [])) }
+    ensures { IfOk result (λ cache. RepresentsState (arc_value cache) setup.now.config
+        (state_of setup.now.config [])) }
 {
-    let cache = Cache::new(alloc, setup.settings)?;
+    let cache = Cache::new(alloc, setup.config)?;
     Ok(Arc::new(alloc, cache)?)
 }
 
@@ -52,7 +52,7 @@ pub(crate) fn seat_all(
         new_seats (shared_view shared.now.table_id setup.now) 0 setup.now.seats) }
 {
     let count = setup.seats;
-    let _first = setup.settings.page_first();
+    let _first = setup.config.page_first();
     let mut seats = Vec::with_capacity(alloc, count as usize)?;
     for number in 0..count {
         let participant = split_off(shared, &mut all);

@@ -1,98 +1,87 @@
--- The order of cuts is a total one, in which nothing stands between the two sides of a key.
-use Rattle.std.proofs.Common.{◌≡◌, ◌∙◌, refl, sym, ap, List, [], ◌∷◌, true, not}
+-- What the order of cuts gives, as steps from one comparison to the next.
+use Rattle.std.proofs.Common.{◌≡◌, ◌⊎◌, inl, inr, ◌∙◌, refl, sym, ap, true, false, ◌&&◌}
+use mathlib.Core.Bool.{true≢false}
 use Rattle.std.specs.declared.cmp.Ordering.{Ordering}
 use Rattle.std.specs.declared.cmp.Ordering.TheVariants.{Less, Equal, Greater}
-use Rattle.std.specs.Ordering.{is_lt, is_eq, ordering_then, ordering_reverse}
-use Rattle.std.specs.Cmp.{IsTotalOrder}
-use Rattle.std.specs.Cmp.Lexicographic.{slice_cmp}
-use Rattle.std.proofs.lemmas.Cmp.{nat_list_cmp_total, lists_total, on_total, tied_itself}
-use Rattle.std.proofs.lemmas.Map.Text.{is_eq-slice_cmp}
-use Rattle.std.proofs.lemmas.Slice.Eq.{bytes_eq-Decides}
-use Rattle.tsc_span.specs.Span.{KeyBytes, key_cmp, Cut, before, after, last, cut_cmp, is_below}
+use Rattle.std.specs.Ordering.{is_lt, ordering_then, ordering_reverse}
+use Rattle.std.proofs.lemmas.Bool.{cases_Bool, and_parts}
+use Rattle.tsc_span.specs.Span.{KeyBytes, key_cmp, Cut, before, after, last, is_below, between, overlaps}
+use Rattle.tsc_span.proofs.CutsTotal.{sides_in_order, key_cmp_back}
+use Rattle.tsc_span.proofs.Overlaps.{is_below-opposite, is_below-transitive, no_lower-transitive, overlaps-each}
 
--- what the keys the other way round answer
-pub key_cmp_back : (from to : KeyBytes) → key_cmp to from ≡ ordering_reverse (key_cmp from to)
-key_cmp_back from to = nat_list_cmp_total.antisymm to from
+-- one cut is below another
+abbrev pub Lt : Cut → Cut → Type 0
+Lt a b = is_below a b ≡ true
 
--- only the same keys are equal
-pub key_cmp-same : (k m : KeyBytes) → key_cmp k m ≡ Equal → k ≡ m
-key_cmp-same k m e = (bytes_eq-Decides k m).0 (sym (is_eq-slice_cmp k m) ∙ ap is_eq e)
+-- one cut is not above another
+abbrev pub Le : Cut → Cut → Type 0
+Le a b = is_below b a ≡ false
 
-never_less : (o : Ordering) → ordering_then o Less ≡ Equal → ⊥
-never_less Less e = cc
-never_less Equal e = cc
-never_less Greater e = cc
+pub Lt-or_Le : (a b : Cut) → Lt a b ⊎ Le b a
+Lt-or_Le a b = cases_Bool (is_below a b)
 
-never_greater : (o : Ordering) → ordering_then o Greater ≡ Equal → ⊥
-never_greater Less e = cc
-never_greater Equal e = cc
-never_greater Greater e = cc
+pub Lt-not_Le : (a b : Cut) → Lt a b → Le b a → ⊥
+Lt-not_Le a b h g = true≢false (sym h ∙ g)
 
--- a cut as texts whose order is that of cuts: whether it is the last, its key, and the side
-spelled : Cut → List KeyBytes
-spelled (before k) = (0 ∷ []) ∷ k ∷ (0 ∷ []) ∷ []
-spelled (after k) = (0 ∷ []) ∷ k ∷ (1 ∷ []) ∷ []
-spelled last = (1 ∷ []) ∷ []
+pub Le-from_Lt : (a b : Cut) → Lt a b → Le a b
+Le-from_Lt a b h = is_below-opposite a b h
 
-then_equal : (o : Ordering) → o ≡ ordering_then o Equal
-then_equal Less = refl
-then_equal Equal = refl
-then_equal Greater = refl
+pub Le-itself : (a : Cut) → Le a a
+Le-itself a = elim (Lt-or_Le a a) [ inl h ↦ Le-from_Lt a a h | inr h ↦ h ]
 
-spelled_order : (a b : Cut) → cut_cmp a b ≡ slice_cmp key_cmp (spelled a) (spelled b)
-unfolding spelled
-spelled_order (before k) (before m) = then_equal (key_cmp k m)
-spelled_order (before k) (after m) = refl
-spelled_order (before k) last = refl
-spelled_order (after k) (before m) = refl
-spelled_order (after k) (after m) = then_equal (key_cmp k m)
-spelled_order (after k) last = refl
-spelled_order last (before m) = refl
-spelled_order last (after m) = refl
-spelled_order last last = refl
+pub Le-chain : (a b c : Cut) → Le a b → Le b c → Le a c
+Le-chain a b c h g = no_lower-transitive a b c h g
 
-spelled_total : IsTotalOrder (λ (a b : Cut). slice_cmp key_cmp (spelled a) (spelled b))
-spelled_total = on_total spelled (lists_total nat_list_cmp_total)
+pub Lt-chain : (a b c : Cut) → Lt a b → Lt b c → Lt a c
+Lt-chain a b c h g = is_below-transitive a b c h g
 
-pub cut_cmp-total : IsTotalOrder cut_cmp
-cut_cmp-total = record {
-  antisymm = λ a b. spelled_order a b ∙ spelled_total.antisymm a b ∙
-      ap ordering_reverse (sym (spelled_order b a));
-  trans = λ a b c p q. spelled_order a c ∙
-      spelled_total.trans a b c (sym (spelled_order a b) ∙ p) (sym (spelled_order b c) ∙ q);
-  congr = λ a b c p. spelled_order a c ∙ spelled_total.congr a b c (sym (spelled_order a b) ∙ p) ∙
-      sym (spelled_order b c);
-}
+pub Le_Lt-chain : (a b c : Cut) → Le a b → Lt b c → Lt a c
+Le_Lt-chain a b c h g = elim (Lt-or_Le a c)
+    [ inl l ↦ l | inr l ↦ absurd (Lt-not_Le b c g (Le-chain c a b l h)) ]
 
--- only the same cuts are equal
-pub cut_cmp-same : (a b : Cut) → cut_cmp a b ≡ Equal → a ≡ b
-cut_cmp-same (before k) (before m) e = ap before (key_cmp-same k m e)
-cut_cmp-same (before k) (after m) e = absurd (never_less (key_cmp k m) e)
-cut_cmp-same (before k) last e = cc
-cut_cmp-same (after k) (before m) e = absurd (never_greater (key_cmp k m) e)
-cut_cmp-same (after k) (after m) e = ap after (key_cmp-same k m e)
-cut_cmp-same (after k) last e = cc
-cut_cmp-same last (before m) e = cc
-cut_cmp-same last (after m) e = cc
-cut_cmp-same last last e = refl
+pub Lt_Le-chain : (a b c : Cut) → Lt a b → Le b c → Lt a c
+Lt_Le-chain a b c h g = elim (Lt-or_Le a c)
+    [ inl l ↦ l | inr l ↦ absurd (Lt-not_Le a b h (Le-chain b c a g l)) ]
 
--- the place before a key is below the place after it
-pub sides_in_order : (k : KeyBytes) → is_below (before k) (after k) ≡ true
-sides_in_order k = simp (tied_itself nat_list_cmp_total k)
+-- a key's two cuts
+pub before-after : (k : KeyBytes) → Lt (before k) (after k)
+before-after k = sides_in_order k
 
--- and what is below the place after it is not above the place before it
-pub no_cut_between_sides : (a : Cut) (k : KeyBytes) →
-    is_below a (after k) ≡ not (is_below (before k) a)
-no_cut_between_sides (before m) k = rw (key_cmp_back m k) (turned (key_cmp m k))
+-- both stand below those of a greater key
+pub after-before : (k m : KeyBytes) → key_cmp k m ≡ Less → Lt (after k) (before m)
+after-before k m h = ap (λ o. is_lt (ordering_then o Greater)) h
+
+-- no cut of two keys is the same on different sides
+pub Lt-from_Le_sides : (k m : KeyBytes) → Le (after k) (before m) → Lt (after k) (before m)
+Lt-from_Le_sides k m = by (key_cmp m k) (key_cmp k m) (key_cmp_back m k)
   where
-    turned : (o : Ordering) → is_lt (ordering_then o Less) ≡ not (is_lt (ordering_reverse o))
-    turned Less = refl
-    turned Equal = refl
-    turned Greater = refl
-no_cut_between_sides (after m) k = rw (key_cmp_back m k) (turned (key_cmp m k))
-  where
-    turned : (o : Ordering) → is_lt o ≡ not (is_lt (ordering_then (ordering_reverse o) Less))
-    turned Less = refl
-    turned Equal = refl
-    turned Greater = refl
-no_cut_between_sides last k = refl
+    by : (back forth : Ordering) → forth ≡ ordering_reverse back →
+        is_lt (ordering_then back Less) ≡ false → is_lt (ordering_then forth Greater) ≡ true
+    by Less forth e h = absurd (true≢false h)
+    by Equal forth e h = absurd (true≢false h)
+    by Greater forth e h = rw e refl
+
+pub below_last : (k : KeyBytes) → Lt (after k) last
+below_last k = refl
+
+pub none_above_last : (a : Cut) → Le a last
+none_above_last (before k) = refl
+none_above_last (after k) = refl
+none_above_last last = refl
+
+-- each of two spans begins before either stops
+abbrev pub Meet : Cut → Cut → Cut → Cut → Type 0
+Meet from to first end = Lt from to × Lt from end × Lt first to × Lt first end
+
+pub overlaps-from : (from to first end : Cut) → Meet from to first end →
+    overlaps (between from to) (between first end) ≡ true
+overlaps-from from to first end m = overlaps-each from to first end ∙ rw (m.0, m.1, m.2, m.3) refl
+
+pub overlaps-reports : (from to first end : Cut) →
+    overlaps (between from to) (between first end) ≡ true → Meet from to first end
+overlaps-reports from to first end h =
+    let all = and_parts (is_below from to && is_below from end)
+    (is_below first to && is_below first end) (sym (overlaps-each from to first end) ∙ h) in
+    let one = and_parts (is_below from to) (is_below from end) all.0 in
+    let two = and_parts (is_below first to) (is_below first end) all.1 in
+    (one.0, one.1, two.0, two.1)

@@ -1,6 +1,7 @@
-pub mod CutOrder
+pub mod CutsTotal
 pub mod Spelling
 pub mod Ranges
 pub mod Overlaps
 pub mod AllKeys
 pub mod MadeSpans
+pub mod CutOrder

@@ -9,9 +9,9 @@ use Rattle.std.proofs.lemmas.Bool.{le-leb}
 use Rattle.std.proofs.lemmas.Option.{same_Some}
 use Rattle.std.proofs.lemmas.List.Elements.{All-nil}
 use Rattle.tsc_span.specs.Limits.{longest_key}
-use Rattle.tsc_span.specs.Span.{KeyBytes, key_cmp, before, after, last, Interval, nothing, between, point, start_cut, end_cut, range, onward}
+use Rattle.tsc_span.specs.Span.{KeyBytes, key_cmp, before, after, last, SpanView, nothing, between, point, start_cut, end_cut, range, onward}
 use Rattle.tsc_span.specs.MadeSpan.{IsKey, IsMadeSpan, IsOfRange, IsOnward, MadeByConstructor}
-use Rattle.tsc_span.proofs.CutOrder.{key_cmp-same, sides_in_order}
+use Rattle.tsc_span.proofs.CutsTotal.{key_cmp-same, sides_in_order}
 use Rattle.tsc_span.proofs.Ranges.{range_of_greater, range_of_equal, range_of_less}
 
 pub is_key : (k : KeyBytes) → length k ≤ longest_key → All (λ b. b < 256) k → IsKey k
@@ -57,7 +57,7 @@ of_same k m h equal = (
 empty_key : IsKey []
 empty_key = record { fits = refl; bytes = All-nil (λ b. b < 256) }
 
-given : (s : Interval) → IsMadeSpan s → IsOfRange s ⊎ IsOnward s
+given : (s : SpanView) → IsMadeSpan s → IsOfRange s ⊎ IsOnward s
 given nothing m = inl ([], [], true, true, empty_key, empty_key, refl)
 given (between (before k) (before n)) m =
     inl (of_smaller k n false true m.0 m.1 (only_less (key_cmp k n) m.2))
@@ -89,7 +89,7 @@ made_between from to true false f t less = (f, t, rw less refl)
 made_between from to false true f t less = (f, t, rw less refl)
 made_between from to false false f t less = (f, t, rw less refl)
 
-made_range : (s : Interval) (from to : KeyBytes) (xf xt : Bool) → IsKey from → IsKey to →
+made_range : (s : SpanView) (from to : KeyBytes) (xf xt : Bool) → IsKey from → IsKey to →
     range from to xf xt ≡ Some s → IsMadeSpan s
 made_range s from to xf xt f t e = by_order (key_cmp from to) refl
   where

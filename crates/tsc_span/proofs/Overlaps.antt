@@ -8,10 +8,10 @@ use Rattle.std.proofs.lemmas.Bool.{cases_Bool}
 use Rattle.std.proofs.Math.Bool.{and_comm}
 use Rattle.std.specs.Prelude.{Option, Some, None, IfSome}
 use Rattle.tsc_span.specs.declared.cut.Cut as code
-use Rattle.tsc_span.specs.Cuts.{cut_of, interval_of_cuts}
-use Rattle.tsc_span.specs.Span.{KeyBytes, Cut, before, after, cut_cmp, is_below, greater_cut, smaller_cut, is_empty_span, Interval, nothing, between, overlaps}
+use Rattle.tsc_span.specs.Cuts.{cut_of, span_of_cuts}
+use Rattle.tsc_span.specs.Span.{KeyBytes, Cut, before, after, cut_cmp, is_below, greater_cut, smaller_cut, is_empty_span, SpanView, nothing, between, overlaps}
 use Rattle.tsc_span.specs.Laws.{CoversIsOverlap, OverlapBothWays}
-use Rattle.tsc_span.proofs.CutOrder.{cut_cmp-total, sides_in_order, no_cut_between_sides}
+use Rattle.tsc_span.proofs.CutsTotal.{cut_cmp-total, sides_in_order, no_cut_between_sides}
 
 is_lt_back : (o : Ordering) → is_lt (ordering_reverse o) ≡ is_gt o
 is_lt_back Less = refl
@@ -147,8 +147,8 @@ covers_as_it_overlaps (between from to) k =
     (begins_before k from to))
 
 -- a span whose cuts are in order overlaps itself, unless it is empty
-pub overlaps_itself : (cuts : Option (code.Cut × code.Cut)) (s : Interval) →
-    interval_of_cuts cuts ≡ s → IfSome cuts (λ c. is_below (cut_of c.0) (cut_of c.1) ≡ true) →
+pub overlaps_itself : (cuts : Option (code.Cut × code.Cut)) (s : SpanView) →
+    span_of_cuts cuts ≡ s → IfSome cuts (λ c. is_below (cut_of c.0) (cut_of c.1) ≡ true) →
     overlaps s s ≡ not (is_empty_span s)
 overlaps_itself None s e h = rw (← e) refl
 overlaps_itself (Some c) s e h = rw (

@@ -5,7 +5,7 @@ use Rattle.std.specs.Ordering.{is_lt, is_eq, ordering_reverse}
 use Rattle.std.proofs.lemmas.Map.Text.{is_eq-slice_cmp}
 use Rattle.std.specs.Str.{bytes_eq}
 use Rattle.tsc_span.specs.Span.{KeyBytes, key_cmp, nothing, between, point, start_cut, end_cut, is_inverted, range, end_keys}
-use Rattle.tsc_span.proofs.CutOrder.{key_cmp_back}
+use Rattle.tsc_span.proofs.CutsTotal.{key_cmp_back}
 
 pub range_of_greater : (from to : KeyBytes) (xf xt : Bool) → key_cmp from to ≡ Greater →
     range from to xf xt ≡ None

@@ -8,7 +8,7 @@ use Rattle.std.specs.List.{All}
 use Rattle.std.proofs.lemmas.List.{take_all}
 use Rattle.tsc_span.specs.Span.{KeyBytes, key_cmp}
 use Rattle.tsc_span.specs.Spelled.{spelled}
-use Rattle.tsc_span.proofs.CutOrder.{key_cmp_back}
+use Rattle.tsc_span.proofs.CutsTotal.{key_cmp_back}
 
 -- each byte is one
 abbrev pub Small : KeyBytes → Type 0

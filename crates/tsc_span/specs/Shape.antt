@@ -1,17 +1,17 @@
 -- How the code keeps a span.
 use Rattle.std.specs.Prelude.{◌≡◌, true}
 use Rattle.std.specs.Ordering.{is_lt}
-use Rattle.tsc_span.specs.Span.{Interval, nothing, between, point, onward, key_cmp, start_cut, end_cut}
+use Rattle.tsc_span.specs.Span.{SpanView, nothing, between, point, onward, key_cmp, start_cut, end_cut}
 use Rattle.tsc_span.specs.declared.span.Shape.{Shape}
 use Rattle.tsc_span.specs.declared.span.Shape.TheVariants as shape
 
 -- the span that it stands for
-abbrev pub interval_of : Shape → Interval
-interval_of shape.Nothing = nothing
-interval_of (shape.Point key) = point key
-interval_of (shape.Range from to ends) =
+abbrev pub span_of : Shape → SpanView
+span_of shape.Nothing = nothing
+span_of (shape.Point key) = point key
+span_of (shape.Range from to ends) =
     between (start_cut from ends.exclude_from) (end_cut to ends.exclude_to)
-interval_of (shape.Onward from excluded) = onward from excluded
+span_of (shape.Onward from excluded) = onward from excluded
 
 -- a range has two different keys, the smaller one first
 abbrev pub IsShape : Shape → Type 0

@@ -53,12 +53,12 @@ abbrev pub smaller_cut : Cut → Cut → Cut
 smaller_cut a b = if is_below a b then a else b
 
 -- A span lies between two cuts, unless it is empty.
-pub data Interval : Type 0 where
-  nothing : Interval
-  between : Cut → Cut → Interval
+pub data SpanView : Type 0 where
+  nothing : SpanView
+  between : Cut → Cut → SpanView
 
 -- the single key
-abbrev pub point : KeyBytes → Interval
+abbrev pub point : KeyBytes → SpanView
 point k = between (before k) (after k)
 
 -- where a span begins at a key: an excluded one is left below it
@@ -70,11 +70,11 @@ abbrev pub end_cut : KeyBytes → Bool → Cut
 end_cut k excluded = if excluded then before k else after k
 
 -- from a key on, without an end
-abbrev pub onward : KeyBytes → Bool → Interval
+abbrev pub onward : KeyBytes → Bool → SpanView
 onward k excluded = between (start_cut k excluded) last
 
 -- all keys: from the empty one on
-abbrev pub all_keys : Interval
+abbrev pub all_keys : SpanView
 all_keys = onward [] false
 
 -- whether the first of two ends is the greater
@@ -83,41 +83,41 @@ is_inverted from to = is_lt (key_cmp to from)
 
 -- From one key to another that is not smaller. Equal keys are the empty span where both are
 -- excluded, and else the single key.
-abbrev pub from_to : KeyBytes → KeyBytes → Bool → Bool → Interval
+abbrev pub from_to : KeyBytes → KeyBytes → Bool → Bool → SpanView
 from_to from to from_excluded to_excluded =
     if bytes_eq from to
     then (if from_excluded && to_excluded then nothing else point from)
     else between (start_cut from from_excluded) (end_cut to to_excluded)
 
 -- a range of keys, unless it is inverted
-abbrev pub range : KeyBytes → KeyBytes → Bool → Bool → Option Interval
+abbrev pub range : KeyBytes → KeyBytes → Bool → Bool → Option SpanView
 range from to from_excluded to_excluded =
     if is_inverted from to then None else Some (from_to from to from_excluded to_excluded)
 
 -- in a lookup an inverted range is the empty span
-abbrev pub range_for_lookup : KeyBytes → KeyBytes → Bool → Bool → Interval
+abbrev pub range_for_lookup : KeyBytes → KeyBytes → Bool → Bool → SpanView
 range_for_lookup from to from_excluded to_excluded =
     unwrap_or (range from to from_excluded to_excluded) nothing
 
 -- the span of a start and an end as the cache's callers name them: an empty end means the start
 -- alone, and any other end is excluded
-abbrev pub start_to_end : KeyBytes → KeyBytes → Option Interval
+abbrev pub start_to_end : KeyBytes → KeyBytes → Option SpanView
 start_to_end start [] = Some (point start)
 start_to_end start (b ∷ bs) = range start (b ∷ bs) false true
 
 -- whether a span is the empty one
-abbrev pub is_empty_span : Interval → Bool
+abbrev pub is_empty_span : SpanView → Bool
 is_empty_span nothing = true
 is_empty_span (between from to) = false
 
 -- A key lies in a span where the places right before it and right after it do.
-abbrev pub covers : Interval → KeyBytes → Bool
+abbrev pub covers : SpanView → KeyBytes → Bool
 covers nothing k = false
 covers (between from to) k = not (is_below (before k) from) && not (is_below to (after k))
 
 -- Two spans overlap where both begin before either stops. There may be no key in what they share,
 -- and the empty span overlaps nothing.
-abbrev pub overlaps : Interval → Interval → Bool
+abbrev pub overlaps : SpanView → SpanView → Bool
 overlaps nothing t = false
 overlaps (between from to) nothing = false
 overlaps (between from to) (between first end) =
@@ -137,7 +137,7 @@ different_keys (Some k) None = k ∷ []
 different_keys (Some k) (Some m) = if bytes_eq k m then k ∷ [] else k ∷ m ∷ []
 
 -- the different keys of a span's cuts, for which it needs nodes on a page
-abbrev pub end_keys : Interval → List KeyBytes
+abbrev pub end_keys : SpanView → List KeyBytes
 end_keys nothing = []
 end_keys (between from to) = different_keys (key_of_cut from) (key_of_cut to)
 
@@ -150,5 +150,5 @@ abbrev pub cost_of : List KeyBytes → ℕ
 cost_of ks = sum_by key_cost ks
 
 -- what a span costs on a page that has none of its keys; the empty span costs nothing
-abbrev pub span_cost : Interval → ℕ
+abbrev pub span_cost : SpanView → ℕ
 span_cost s = cost_of (end_keys s)

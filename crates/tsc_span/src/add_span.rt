@@ -1,8 +1,9 @@
+//! Spans for Adds, over keys that lie elsewhere. Each key is short enough to be added.
 ghost use Rattle.std.specs.Prelude.{◌≡◌, ◌++◌, IfErr, IfSome, true, option_map, option_to_list, slice_get};
 ghost use Rattle.std.specs.Ordering.{is_lt};
 ghost use Rattle.std.specs.Result.{result_ok};
 ghost use Rattle.tsc_span.specs.Span.{nothing, between, point, range, onward, start_cut, end_cut, is_empty_span, is_below, end_keys, key_cmp};
-ghost use Rattle.tsc_span.specs.Cuts.{cut_of, interval_of_cuts};
+ghost use Rattle.tsc_span.specs.Cuts.{cut_of, span_of_cuts};
 
 use crate::span_ref::{end_cut, start_cut};
 use crate::{Cut, Ends, KeyRef, SpanFault};
@@ -25,12 +26,12 @@ enum AddShape<'a> {
 }
 
 impl<'a> Model for AddSpan<'a> {
-    ghost use Rattle.tsc_span.specs.Span.{Interval};
-    ghost use Rattle.tsc_span.specs.AddShape.{interval_of, IsShape};
+    ghost use Rattle.tsc_span.specs.Span.{SpanView};
+    ghost use Rattle.tsc_span.specs.AddShape.{span_of, IsShape};
 
-    ghost Value = { Interval };
+    ghost Value = { SpanView };
 
-    ghost view = { λ s. interval_of s.shape };
+    ghost view = { λ s. span_of s.shape };
 
     ghost invariant = { λ s. IsShape s.shape };
 }
@@ -102,7 +103,7 @@ impl<'a> AddSpan<'a> {
 
     /// Where the span starts and where it stops, or `None` for the empty span.
     pub fn cuts(&self) -> Option<(Cut<'a>, Cut<'a>)>
-        ensures value { interval_of_cuts result ≡ self.now }
+        ensures value { span_of_cuts result ≡ self.now }
         ensures order { IfSome result (λ cuts. is_below (cut_of cuts.0) (cut_of cuts.1) ≡ true) }
     {
         match &self.shape {

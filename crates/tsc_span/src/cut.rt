@@ -1,3 +1,4 @@
+//! Cuts: the places before and after each key, by which all spans are compared.
 ghost use Rattle.std.specs.Prelude.{◌≡◌};
 
 /// A place between keys, where a span starts or stops.

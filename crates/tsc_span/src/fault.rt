@@ -1,3 +1,4 @@
+//! Why a key or a span is refused.
 use thiserror::Error;
 
 /// Why a key or a span could not be made.

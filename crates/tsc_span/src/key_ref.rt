@@ -1,3 +1,4 @@
+//! Keys for Adds whose bytes lie elsewhere.
 ghost use Rattle.std.specs.Prelude.{◌≡◌, ◌<◌, ◌≤◌, ◌↔◌, length, IfOk, IfErr};
 ghost use Rattle.std.specs.Result.{IsErr};
 ghost use Rattle.tsc_span.specs.Limits.{longest_key};

@@ -24,21 +24,21 @@ pub fn compares_keys(a: &Key, b: &Key) -> Ordering
 }
 
 /// `<` on keys says which is the smaller.
-pub fn tells_smaller(a: &Key, b: &Key) -> bool
+pub fn reports_smaller(a: &Key, b: &Key) -> bool
     ensures { result ≡ is_lt (key_cmp a.now b.now) }
 {
     a < b
 }
 
 /// `==` on keys compares their bytes.
-pub fn tells_same_key(a: &Key, b: &Key) -> bool
+pub fn reports_same_key(a: &Key, b: &Key) -> bool
     ensures { IsTrue result ↔ (a.now ≡ b.now) }
 {
     a == b
 }
 
 /// `==` on spans says whether they are one span, however each was made.
-pub fn tells_same_span(a: &Span, b: &Span) -> bool
+pub fn reports_same_span(a: &Span, b: &Span) -> bool
     ensures { IsTrue result ↔ (a.now ≡ b.now) }
 {
     a == b

@@ -1,9 +1,10 @@
+//! Spans that own their keys. What a pair of keys and two ends means is decided here alone.
 ghost use Rattle.std.specs.Prelude.{◌≡◌, ◌≤◌, ◌++◌, IfOk, IfErr, IfSome, true, option_map, option_to_list, slice_get};
 ghost use Rattle.std.specs.Result.{result_ok, IsOk};
 ghost use Rattle.std.specs.Cmp.{partial_equiv_from_equiv};
 ghost use Rattle.tsc_span.specs.Span.{point, range, range_for_lookup, start_to_end, start_cut, onward, all_keys, is_empty_span, is_below, overlaps, covers, end_keys, cost_of, span_cost};
 ghost use Rattle.tsc_span.specs.MadeSpan.{IsMadeCut, IsMadeSpan};
-ghost use Rattle.tsc_span.specs.Cuts.{cut_of, interval_of_cuts};
+ghost use Rattle.tsc_span.specs.Cuts.{cut_of, span_of_cuts};
 ghost use Rattle.tsc_span.specs.Same.{is_same_span};
 ghost use Rattle.tsc_span.specs.Sameness.{is_same_span-equivalence};
 
@@ -39,13 +40,13 @@ enum Shape {
 }
 
 impl Model for Span {
-    ghost use Rattle.tsc_span.specs.Span.{Interval};
+    ghost use Rattle.tsc_span.specs.Span.{SpanView};
 
-    ghost Value = { Interval };
+    ghost Value = { SpanView };
 
-    ghost use Rattle.tsc_span.specs.Shape.{interval_of, IsShape};
+    ghost use Rattle.tsc_span.specs.Shape.{span_of, IsShape};
 
-    ghost view = { λ s. interval_of s.shape };
+    ghost view = { λ s. span_of s.shape };
 
     ghost invariant = { λ s. IsShape s.shape };
 }
@@ -135,7 +136,7 @@ impl Span {
     /// Where the span starts and where it stops, or `None` for the empty span. Whoever has a span
     /// also learns here that it can be made of keys.
     pub fn cuts(&self) -> Option<(Cut<'_>, Cut<'_>)>
-        ensures value { interval_of_cuts result ≡ self.now }
+        ensures value { span_of_cuts result ≡ self.now }
         ensures order { IfSome result (λ cuts. is_below (cut_of cuts.0) (cut_of cuts.1) ≡ true) }
         ensures made { IsMadeSpan self.now }
     {

@@ -1,7 +1,8 @@
+//! Spans for lookups, over keys that lie elsewhere and may be of any length.
 ghost use Rattle.std.specs.Prelude.{◌≡◌, IfSome, true, option_map};
 ghost use Rattle.tsc_span.specs.Span.{point, range_for_lookup, onward, start_cut, end_cut, is_below};
 ghost use Rattle.tsc_span.specs.LookupSpan.{span_for_lookup};
-ghost use Rattle.tsc_span.specs.Cuts.{cut_of, interval_of_cuts};
+ghost use Rattle.tsc_span.specs.Cuts.{cut_of, span_of_cuts};
 
 use crate::{Cut, Ends};
 use std::cmp::Ordering;
@@ -25,12 +26,12 @@ enum Form<'a> {
 }
 
 impl<'a> Model for SpanRef<'a> {
-    ghost use Rattle.tsc_span.specs.Span.{Interval};
-    ghost use Rattle.tsc_span.specs.Form.{interval_of, IsForm};
+    ghost use Rattle.tsc_span.specs.Span.{SpanView};
+    ghost use Rattle.tsc_span.specs.Form.{span_of, IsForm};
 
-    ghost Value = { Interval };
+    ghost Value = { SpanView };
 
-    ghost view = { λ s. interval_of s.form };
+    ghost view = { λ s. span_of s.form };
 
     ghost invariant = { λ s. IsForm s.form };
 }
@@ -92,7 +93,7 @@ impl<'a> SpanRef<'a> {
     /// The span between two cuts, or the empty one.
     pub(crate) fn of_cuts(cuts: Option<(Cut<'a>, Cut<'a>)>) -> SpanRef<'a>
         requires { IfSome cuts (λ cuts. is_below (cut_of cuts.0) (cut_of cuts.1) ≡ true) }
-        ensures { result ≡ interval_of_cuts cuts.entry }
+        ensures { result ≡ span_of_cuts cuts.entry }
     {
         let form = match cuts {
             Some((from, to)) => Form::Between(from, to),
@@ -103,7 +104,7 @@ impl<'a> SpanRef<'a> {
 
     /// Where the span starts and where it stops, or `None` for the empty span.
     pub fn cuts(&self) -> Option<(Cut<'a>, Cut<'a>)>
-        ensures value { interval_of_cuts result ≡ self.now }
+        ensures value { span_of_cuts result ≡ self.now }
         ensures order { IfSome result (λ cuts. is_below (cut_of cuts.0) (cut_of cuts.1) ≡ true) }
     {
         match self.form {

@@ -46,7 +46,7 @@ pub HasFilled-more : (old mid new : KnownReader) (buffer xs part after tail : Li
     → new.phase ≡ phase.Open → AfterRead mid new (Ok count) → count ≢ 0
     → HasFilled old new (take len ((take filled xs ++ (part ++ after)) ++ tail)) (filled + count)
 HasFilled-more old mid new buffer xs part after tail filled count len so_far front within fits read
-    room small open_still told some =
+    room small open_still reported some =
     let front_read = subst (Consumes old.bytes mid.bytes) (sym front) so_far.consumed in
     record {
       within = omega (
@@ -62,9 +62,9 @@ HasFilled-more old mid new buffer xs part after tail filled count len so_far fro
           (sym (take-read_behind xs part after tail filled count len within fits room))
           (Consumes-trans _ _ _ _ _ front_read read);
       goes_on = inr open_still;
-      troubles = told.troubles ∙ so_far.troubles;
+      troubles = reported.troubles ∙ so_far.troubles;
       each_gave = λ calm. let before = so_far.each_gave calm in let turn =
-          told.turn in omega (arith, some);
+          reported.turn in omega (arith, some);
     }
 
 -- What one more read gave is too much.
@@ -99,14 +99,14 @@ HasReadWithin-filled old new buffer filled so_far = record {
 why_not_read : (old mid new : KnownReader) (buffer : List ℕ) (filled : ℕ) →
     HasFilled old mid buffer filled → AfterRead mid new (Err Failed)
     → IsSpentReader mid ⊎ (mid.troubles Failed ≡ true) → WhyNotRead old new (take filled buffer)
-why_not_read old mid new buffer filled so_far told (inr may) =
+why_not_read old mid new buffer filled so_far reported (inr may) =
     inr (inl (sym (ap (λ troubles. troubles Failed) so_far.troubles) ∙ may))
-why_not_read old mid new buffer filled so_far told (inl (inl failed)) = elim so_far.goes_on [
+why_not_read old mid new buffer filled so_far reported (inl (inl failed)) = elim so_far.goes_on [
   | inl same ↦ inl (sym (ap (λ (reader : KnownReader). reader.phase) same) ∙ failed)
   | inr goes_on ↦ let no = sym goes_on ∙ failed in absurd cc
 ]
-why_not_read old mid new buffer filled so_far told (inl (inr none)) =
-    let left = told.turn in
+why_not_read old mid new buffer filled so_far reported (inl (inr none)) =
+    let left = reported.turn in
     let last = none.0 in
     inr (inr (record {
       none_left = omega arith;
@@ -120,15 +120,15 @@ pub CouldNotRead-filled : (old mid new : KnownReader) (buffer : List ℕ) (fille
     → HasFilled old mid buffer filled → Keeps mid.bytes new.bytes
     → AfterRead mid new (Err trouble) → IsSpentReader mid ⊎ (mid.troubles trouble ≡ true) →
     CouldNotRead old new
-CouldNotRead-filled old mid new buffer filled Interrupted is so_far kept told why = absurd cc
-CouldNotRead-filled old mid new buffer filled Failed is so_far kept told why = record {
+CouldNotRead-filled old mid new buffer filled Interrupted is so_far kept reported why = absurd cc
+CouldNotRead-filled old mid new buffer filled Failed is so_far kept reported why = record {
   begun = record {
     read = take filled buffer;
     consumed = Consumes-kept _ _ _ _ so_far.consumed kept;
     within = omega (arith, so_far.small, length-take-le filled buffer so_far.within);
   };
-  failed = told.phase;
-  why = why_not_read old mid new buffer filled so_far told why;
+  failed = reported.phase;
+  why = why_not_read old mid new buffer filled so_far reported why;
 }
 
 -- A read that gave bytes leaves the reader open.

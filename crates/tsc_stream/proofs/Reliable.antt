@@ -5,11 +5,11 @@ use Rattle.tsc_stream.specs.StreamLaws.{IsReliable, ReliableReadsDoNotFail}
 use Rattle.tsc_stream.specs.declared.stream.StreamFault.TheVariants.{Interrupted, Failed}
 
 pub reliable_reads_do_not_fail : ReliableReadsDoNotFail
-reliable_reads_do_not_fail old new sure told = elim told.why [
+reliable_reads_do_not_fail old new sure reported = elim reported.why [
   | inl failed ↦ sure.unfailed failed
   | inr (inl may) ↦ let no = sym (sure.calm Failed) ∙ may in absurd cc
   | inr (inr used) ↦ let gave = used.each_gave (sure.calm Interrupted) in omega
-      (arith, sure.calls, told.begun.within)
+      (arith, sure.calls, reported.begun.within)
 ]
 
 -- Such is a reader that was not called yet.

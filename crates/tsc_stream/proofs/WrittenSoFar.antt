@@ -34,7 +34,7 @@ pub IsWriting-more : (old mid new : KnownWriter) (text rest : List ℕ) (count p
     new.has_failed ≡ mid.has_failed → mid.has_failed ≢ true
     → AfterWrite mid new (Ok count) → 0 < count → count ≤ length rest
     → IsWriting old new text (take (length rest - place) (drop place rest))
-IsWriting-more old mid new text rest count place so_far more same unfailed able told some fits =
+IsWriting-more old mid new text rest count place so_far more same unfailed able reported some fits =
     let done = so_far.written in record {
       written = done ++ take place rest;
       split = so_far.split ∙ ap (λ l. done ++ l) (sym (take-append-drop place rest)) ∙
@@ -44,10 +44,10 @@ IsWriting-more old mid new text rest count place so_far more same unfailed able 
           (subst (λ n. Appends mid.bytes new.bytes (take n rest)) (sym same) more);
       unfailed = unfailed ∙ so_far.unfailed;
       taken = λ _. unfailed ∙ is_false _ able;
-      troubles = told.troubles ∙ so_far.troubles;
+      troubles = reported.troubles ∙ so_far.troubles;
       each_took = λ calm.
           let before = so_far.each_took calm in
-          let turn = told.turn in
+          let turn = reported.turn in
           omega (
             arith,
             length-append done (take place rest),
@@ -60,12 +60,12 @@ why_not_written : (old mid new : KnownWriter) (text rest : List ℕ)
     (so_far : IsWriting old mid text rest) → AfterWrite mid new (Err Failed)
     → IsSpentWriter mid ⊎ (mid.troubles Failed ≡ true) →
     WhyNotWritten old new (length so_far.written)
-why_not_written old mid new text rest so_far told (inr may) =
+why_not_written old mid new text rest so_far reported (inr may) =
     inr (inl (sym (ap (λ troubles. troubles Failed) so_far.troubles) ∙ may))
-why_not_written old mid new text rest so_far told (inl (inl failed)) =
+why_not_written old mid new text rest so_far reported (inl (inl failed)) =
     inl (sym so_far.unfailed ∙ failed)
-why_not_written old mid new text rest so_far told (inl (inr none)) =
-    let left = told.turn in
+why_not_written old mid new text rest so_far reported (inl (inr none)) =
+    let left = reported.turn in
     inr (inr (record {
       none_left = omega arith;
       each_took = λ calm. let before = so_far.each_took calm in omega arith;
@@ -78,8 +78,9 @@ pub CouldNotWrite-kept : (old mid new : KnownWriter) (text rest : List ℕ) (tro
     new.has_failed ≡ true
     → AfterWrite mid new (Err trouble) → IsSpentWriter mid ⊎ (mid.troubles trouble ≡ true) →
     CouldNotWrite old new text
-CouldNotWrite-kept old mid new text rest Interrupted is so_far left kept failed told why = absurd cc
-CouldNotWrite-kept old mid new text rest Failed is so_far left kept failed told why =
+CouldNotWrite-kept old mid new text rest Interrupted is so_far left kept failed reported why =
+    absurd cc
+CouldNotWrite-kept old mid new text rest Failed is so_far left kept failed reported why =
     let done = so_far.written in record {
       written = length done;
       part =
@@ -90,7 +91,7 @@ CouldNotWrite-kept old mid new text rest Failed is so_far left kept failed told 
           (sym (ap (take (length done)) so_far.split ∙ take-append_seam done rest))
           (Appends-kept _ _ _ _ so_far.appended kept);
       failed = failed;
-      why = why_not_written old mid new text rest so_far told why;
+      why = why_not_written old mid new text rest so_far reported why;
     }
 
 -- What two texts leave, of which one has no bytes.

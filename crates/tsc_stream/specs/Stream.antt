@@ -31,9 +31,9 @@ only_failures Failed = true
 
 -- A call that ended in an error ended in one of these troubles: every kind of error but an
 -- interruption is a failure.
-pub record ErrsWithin (troubles : Troubles) (told : Result ℕ ErrorKind) : Type 0 where
-  pub interrupted : told ≡ Err kind.Interrupted → troubles Interrupted ≡ true
-  pub failed : IfErr told (λ error. error ≢ kind.Interrupted → troubles Failed ≡ true)
+pub record ErrsWithin (troubles : Troubles) (reported : Result ℕ ErrorKind) : Type 0 where
+  pub interrupted : reported ≡ Err kind.Interrupted → troubles Interrupted ≡ true
+  pub failed : IfErr reported (λ error. error ≢ kind.Interrupted → troubles Failed ≡ true)
 
 -- What is known of a reader: the bytes that it has left, where they are known, with which troubles
 -- a read may end, whether it may be read on, has told its end or has failed, and how many more
@@ -93,19 +93,19 @@ abbrev pub IsSpentWriter : KnownWriter → Type 0
 IsSpentWriter writer = (writer.has_failed ≡ true) ⊎ (writer.turns ≡ 0)
 
 -- A reader that has told its end tells it again, and one that is spent fails.
-pub record StaysAtEnd (reader : KnownReader) (told : Result ℕ StreamFault) : Type 0 where
-  pub ended : reader.phase ≡ phase.Ended → told ≡ Ok 0
-  pub failed : IsSpentReader reader → told ≡ Err Failed
+pub record StaysAtEnd (reader : KnownReader) (reported : Result ℕ StreamFault) : Type 0 where
+  pub ended : reader.phase ≡ phase.Ended → reported ≡ Ok 0
+  pub failed : IsSpentReader reader → reported ≡ Err Failed
 
 -- What one read makes of a reader, beside the bytes.
-pub record AfterRead (old new : KnownReader) (told : Result ℕ StreamFault) : Type 0 where
-  pub phase : new.phase ≡ phase_after told
+pub record AfterRead (old new : KnownReader) (reported : Result ℕ StreamFault) : Type 0 where
+  pub phase : new.phase ≡ phase_after reported
   pub turn : new.turns ≡ old.turns - 1
   pub troubles : new.troubles ≡ old.troubles
 
 -- What one write makes of a writer, beside the bytes.
-pub record AfterWrite (old new : KnownWriter) (told : Result ℕ StreamFault) : Type 0 where
-  pub remembers : new.has_failed ≡ (old.has_failed || is_failure told)
+pub record AfterWrite (old new : KnownWriter) (reported : Result ℕ StreamFault) : Type 0 where
+  pub remembers : new.has_failed ≡ (old.has_failed || is_failure reported)
   pub turn : new.turns ≡ old.turns - 1
   pub troubles : new.troubles ≡ old.troubles
 

@@ -62,7 +62,7 @@ impl<T> Limited<T> {
             ((phase_in self.now ≡ Phase.Open) × (0 < turns_of self.now)) }
         ensures ended { phase_in self.now ≡ Phase.Ended → result ≡ Some (Ok 0) }
         ensures failed { phase_in self.now ≢ Phase.Ended →
-            IfSome result (λ told. told ≡ Err StreamFault.Failed) }
+            IfSome result (λ reported. reported ≡ Err StreamFault.Failed) }
     {
         match self.phase {
             Phase::Ended => Some(Ok(0)),
@@ -125,10 +125,10 @@ fn settled_write(gave: Result<usize, ErrorKind>) -> Result<usize, StreamFault>
 }
 
 /// Where a reader is after a read that gave this.
-fn phase_after(told: Result<usize, StreamFault>) -> Phase
-    ensures { result ≡ phase_after told }
+fn phase_after(reported: Result<usize, StreamFault>) -> Phase
+    ensures { result ≡ phase_after reported }
 {
-    match told {
+    match reported {
         Ok(0) => Phase::Ended,
         Ok(_) | Err(StreamFault::Interrupted) => Phase::Open,
         Err(StreamFault::Failed) => Phase::Failed,
@@ -143,12 +143,12 @@ impl<R: LimitedRead> Source for Limited<R> {
     fn read(&mut self, buf: &mut [u8]) -> Result<usize, StreamFault> {
         let unasked = self.read_unasked();
         self.count_call();
-        let told = match unasked {
-            Some(told) => told,
+        let reported = match unasked {
+            Some(reported) => reported,
             None => settled(self.inner.read_once(buf)),
         };
-        self.phase = phase_after(told);
-        told
+        self.phase = phase_after(reported);
+        reported
     }
 }
 
@@ -164,10 +164,10 @@ impl<W: LimitedWrite> Sink for Limited<W> {
             self.phase = Phase::Failed;
             return Err(StreamFault::Failed);
         }
-        let told = settled_write(self.inner.write_once(buf));
-        if told == Err(StreamFault::Failed) {
+        let reported = settled_write(self.inner.write_once(buf));
+        if reported == Err(StreamFault::Failed) {
             self.phase = Phase::Failed;
         }
-        told
+        reported
     }
 }

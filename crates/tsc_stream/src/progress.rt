@@ -1,3 +1,5 @@
+//! How far a long call is, for whoever shows that to a user.
+
 /// Is told how far the calls of a trace are.
 ///
 /// What it makes of that is its own: it changes nothing of what is answered, read or written.

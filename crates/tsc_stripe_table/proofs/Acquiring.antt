@@ -18,7 +18,7 @@ use Rattle.tsc_cache.proofs.Beginnings.{begins_itself}
 use Rattle.tsc_stripe_table.specs.declared.table.SeatState.{SeatState}
 use Rattle.tsc_stripe_table.specs.declared.table.Knowledge.{Knowledge}
 use Rattle.tsc_stripe_table.specs.Stripes.{Terms, stripe_count, IsStateOn}
-use Rattle.tsc_stripe_table.specs.Rule.{LaidStripe, keeping, one_if, lock_word, times_held, holders}
+use Rattle.tsc_stripe_table.specs.Rule.{StoredStripe, keeping, one_if, lock_word, times_held, holders}
 use Rattle.tsc_stripe_table.specs.Rule.{Descends, StripesRule, IsHome}
 use Rattle.tsc_stripe_table.specs.Steps.{At, acquired, acquires, Acquires, AgreeOn, state_in}
 use Rattle.tsc_stripe_table.specs.Participating.{CanAcquire}
@@ -44,13 +44,13 @@ unmoved setup s k id v i at = subst (λ (vs : List Knowledge). StripesRule setup
       views = s.views;
     })) (sym (set-get_or s.words i 0)) k)
 
-module _ (setup : Terms) (slots : ℕ) (st : Step LaidStripe) (id : ℕ) (t : Terms) (p : SeatState)
-    (hand : List (ℕ × LaidStripe)) (stripe : ℕ) where
+module _ (setup : Terms) (slots : ℕ) (st : Step StoredStripe) (id : ℕ) (t : Terms) (p : SeatState)
+    (hand : List (ℕ × StoredStripe)) (stripe : ℕ) where
   abbrev who : Knowledge
   who = keeping t (p ∷ [])
 
   abbrev Goes : Board → ℕ → Type 0
-  Goes s n = (w : Knowledge) × (a : Act LaidStripe) × Valid s.homes hand a
+  Goes s n = (w : Knowledge) × (a : Act StoredStripe) × Valid s.homes hand a
       × StripesRule setup
       (stepped s (lock_word stripe) (either (n == 0) 1 n) id hand w a)
       × acquires st (who, hand) n (w, carried_after hand a)
@@ -186,7 +186,7 @@ module _ (setup : Terms) (slots : ℕ) (st : Step LaidStripe) (id : ℕ) (t : Te
       ))
 
 -- the same, as the calls have it
-pub acquire_at : (key : Terms) (slots : ℕ) (st : Step LaidStripe) (id : ℕ) (me : At)
+pub acquire_at : (key : Terms) (slots : ℕ) (st : Step StoredStripe) (id : ℕ) (me : At)
     (stripe word : ℕ) → word ≡ lock_word stripe → st.word ≡ lock_word stripe
     → CanAcquire me.0 stripe → Allows (StripesRule key) slots id me word (λ n. either (n == 0) 1 n) (acquires st me)
 acquire_at key slots st id me stripe word is its can =
@@ -205,8 +205,8 @@ pub is_some : (n : ℕ) → (n == 0) ≡ false → n ≢ 0
 is_some n is = grind (arith, nat_tests)
 
 -- what was acquired is the stripe that was asked for
-pub acquired_then : (st : Step LaidStripe) (me me' : At) (found stripe : ℕ)
-    → st.word ≡ lock_word stripe → acquires st me found me' → found ≡ 0 → (x : LaidStripe)
+pub acquired_then : (st : Step StoredStripe) (me me' : At) (found stripe : ℕ)
+    → st.word ≡ lock_word stripe → acquires st me found me' → found ≡ 0 → (x : StoredStripe)
     × Acquires me.0 me'.0 stripe x.value.cache × (me'.1 ≡ (stripe, x) ∷ me.1)
 acquired_then st me me' found stripe is done none =
     let got = done.0 none in

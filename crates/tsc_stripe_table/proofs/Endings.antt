@@ -19,7 +19,7 @@ use Rattle.tsc_left_right.proofs.Plain.{some_part}
 use Rattle.tsc_stripe_table.specs.declared.table.SeatState.{SeatState}
 use Rattle.tsc_stripe_table.specs.declared.table.Knowledge.{Knowledge}
 use Rattle.tsc_stripe_table.specs.Stripes.{Terms, stripe_count, IsStateOn}
-use Rattle.tsc_stripe_table.specs.Rule.{LaidStripe, StripesRule, one_if, states_of, holders}
+use Rattle.tsc_stripe_table.specs.Rule.{StoredStripe, StripesRule, one_if, states_of, holders}
 use Rattle.tsc_stripe_table.specs.Rule.{times_held, lock_word}
 use Rattle.tsc_stripe_table.specs.Closing.{IsEnd, EndFits}
 use Rattle.tsc_stripe_table.proofs.Totals.{part, two_parts}
@@ -153,13 +153,13 @@ lock_is_free setup s k id v stripe at none long =
 
 -- What lay in the slots of a table that was closed, of which the first caches were taken: all are
 -- after one history, which fits all states.
-pub record Gathers (key : Terms) (states : List SeatState) (items : List LaidStripe)
+pub record Gathers (key : Terms) (states : List SeatState) (items : List StoredStripe)
     (caches : List CacheView) (taken : ℕ) : Type 0 where
   pub each : (number : ℕ) → number < key.seats → of_seat number states ≡ 1
   pub history : History
   pub legal : IsLegal key.config key.seats history
   pub fits : (i : ℕ) (p : SeatState) → get_elem? states i ≡ maybe.some p → EndFits history p
-  pub laid : (i : ℕ) (x : LaidStripe) → i < stripe_count key.bounds
+  pub stored : (i : ℕ) (x : StoredStripe) → i < stripe_count key.bounds
       → get_elem? items i ≡ maybe.some x → IsStateOn key i history x.value.cache
   pub count : length caches ≡ taken
   pub stands : (i : ℕ) (cache : CacheView) → get_elem? caches i ≡ maybe.some cache
@@ -168,8 +168,8 @@ pub record Gathers (key : Terms) (states : List SeatState) (items : List LaidStr
 -- before the first is taken
 pub gathers_none : (key : Terms) (s : Board) (k : StripesRule key s) (id : ℕ) (v : Knowledge)
     → get_elem? s.views id ≡ maybe.some v → ((stripe : ℕ) → holders stripe v ≡ 0)
-    → length v.states ≡ key.seats → (items : List LaidStripe)
-    → ((i : ℕ) (y : LaidStripe) → get_elem? s.homes i ≡ maybe.some (maybe.some y)
+    → length v.states ≡ key.seats → (items : List StoredStripe)
+    → ((i : ℕ) (y : StoredStripe) → get_elem? s.homes i ≡ maybe.some (maybe.some y)
     → get_elem? items i ≡ maybe.some y) → (caches : List CacheView) → caches ≡ []
     → Gathers key v.states items caches 0
 gathers_none key s k id v at none long items get caches no_cache = record {
@@ -180,9 +180,9 @@ gathers_none key s k id v at none long items get caches no_cache = record {
     begins = f.begins;
     own = f.own;
   };
-  laid = λ i x low e.
+  stored = λ i x low e.
       let here = k.homes i low (lock_is_free key s k id v i at (none i) long) in
-      subst (λ (y : LaidStripe). IsStateOn key i k.history y.value.cache)
+      subst (λ (y : StoredStripe). IsStateOn key i k.history y.value.cache)
       (some-injective here.0 x (sym (get i here.0 here.1) ∙ e)) here.2;
   count = ap length no_cache;
   stands = λ i cache e. absurd (some-ne-none cache
@@ -190,19 +190,19 @@ gathers_none key s k id v at none long items get caches no_cache = record {
 }
 
 -- one more is taken
-pub gathers_more : (key : Terms) (states : List SeatState) (items items' : List LaidStripe)
-    (caches caches' : List CacheView) (taken : ℕ) (x : LaidStripe) (cache : CacheView)
+pub gathers_more : (key : Terms) (states : List SeatState) (items items' : List StoredStripe)
+    (caches caches' : List CacheView) (taken : ℕ) (x : StoredStripe) (cache : CacheView)
     → Gathers key states items caches taken → taken < stripe_count key.bounds → items' ≡ items
     → get_elem? items taken ≡ maybe.some x → cache ≡ x.value.cache
     → caches' ≡ caches ++ cache ∷ [] → Gathers key states items' caches' (taken + 1)
 gathers_more key states items items' caches caches' taken x cache g low same at is more =
-    subst (λ (xs : List LaidStripe). Gathers key states xs caches' (taken + 1)) (sym same)
+    subst (λ (xs : List StoredStripe). Gathers key states xs caches' (taken + 1)) (sym same)
     (subst (λ (cs : List CacheView). Gathers key states items cs (taken + 1)) (sym more) (record {
       each = g.each;
       history = g.history;
       legal = g.legal;
       fits = g.fits;
-      laid = g.laid;
+      stored = g.stored;
       count = omega (arith, length_push caches cache, g.count);
       stands = λ i c e. stands_at i c (same_or_not i taken) e;
     }))
@@ -229,13 +229,13 @@ gathers_more key states items items' caches caches' taken x cache g low same at 
     stands_at i c (inl here) e =
         subst (λ (d : CacheView). IsStateOn key i g.history d)
         (sym is ∙ at_end caches cache c i (g.count ∙ sym here) e)
-        (g.laid i x (omega (arith, here, low))
+        (g.stored i x (omega (arith, here, low))
         (subst (λ (n : ℕ). get_elem? items n ≡ maybe.some x) (sym here) at))
     stands_at i c (inr apart) e =
         g.stands i c (before_end caches cache c i taken g.count apart e)
 
 -- all are taken
-pub gathers_all : (key : Terms) (states : List SeatState) (items : List LaidStripe)
+pub gathers_all : (key : Terms) (states : List SeatState) (items : List StoredStripe)
     (caches : List CacheView) (taken : ℕ) → Gathers key states items caches taken
     → taken ≡ stripe_count key.bounds → IsEnd key states caches
 gathers_all key states items caches taken g all = record {

@@ -14,17 +14,17 @@ use Rattle.tsc_cache.specs.History.{History, IsLegal}
 use Rattle.tsc_stripe_table.specs.declared.table.SeatState.{SeatState}
 use Rattle.tsc_stripe_table.specs.declared.table.Knowledge.{Knowledge}
 use Rattle.tsc_stripe_table.specs.Stripes.{Terms, stripe_count}
-use Rattle.tsc_stripe_table.specs.Rule.{LaidStripe, keeping, one_if, StripesRule, KnowledgeFits}
+use Rattle.tsc_stripe_table.specs.Rule.{StoredStripe, keeping, one_if, StripesRule, KnowledgeFits}
 use Rattle.tsc_stripe_table.specs.Rule.{StateFits, states_of, holders, times_held, lock_word}
 use Rattle.tsc_stripe_table.specs.Rule.{word_count, IsHome}
 use Rattle.tsc_stripe_table.proofs.Prefixes.{begins_empty}
 use Rattle.tsc_stripe_table.proofs.Totals.{part, two_parts, total_set}
 
 abbrev pub Board : Type 0
-Board = State LaidStripe Knowledge
+Board = State StoredStripe Knowledge
 
 abbrev pub Homes : Type 0
-Homes = List (maybe.Option LaidStripe)
+Homes = List (maybe.Option StoredStripe)
 
 -- whether the lock of a stripe is held, as 1 or 0
 abbrev pub busy_in : List ℕ → ℕ → ℕ

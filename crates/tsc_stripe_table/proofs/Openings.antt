@@ -13,7 +13,7 @@ use Rattle.atomic_table.specs.Table.{opening}
 use Rattle.tsc_stripe_table.specs.declared.table.SeatState.{SeatState}
 use Rattle.tsc_stripe_table.specs.declared.table.Knowledge.{Knowledge}
 use Rattle.tsc_stripe_table.specs.Stripes.{Terms, stripe_count}
-use Rattle.tsc_stripe_table.specs.Rule.{LaidStripe, at_rest, fresh_states, first_knowledge, one_if}
+use Rattle.tsc_stripe_table.specs.Rule.{StoredStripe, at_rest, fresh_states, first_knowledge, one_if}
 use Rattle.tsc_stripe_table.specs.Rule.{StripesRule, KnowledgeFits, StateFits, states_of, holders}
 use Rattle.tsc_stripe_table.specs.Rule.{times_held, lock_word, word_count}
 use Rattle.tsc_stripe_table.specs.Opening.{IsOpened, AreOpened}
@@ -93,13 +93,13 @@ blank_at (suc n) zero = refl
 blank_at (suc n) (suc i) = blank_at n i
 
 -- what is at a place of a list
-laid_at : (xs : List LaidStripe) (i : ℕ) → i < length xs → (x : LaidStripe)
+stored_at : (xs : List StoredStripe) (i : ℕ) → i < length xs → (x : StoredStripe)
     × (get_elem? xs i ≡ maybe.some x)
-laid_at [] i low = absurd (omega (arith, low))
-laid_at (x ∷ xs) zero low = (x, refl)
-laid_at (x ∷ xs) (suc i) low = laid_at xs i (omega (arith, low))
+stored_at [] i low = absurd (omega (arith, low))
+stored_at (x ∷ xs) zero low = (x, refl)
+stored_at (x ∷ xs) (suc i) low = stored_at xs i (omega (arith, low))
 
-opening_kept : (setup : Terms) (slots : List LaidStripe)
+opening_kept : (setup : Terms) (slots : List StoredStripe)
     → length slots ≡ stripe_count setup.bounds → AreOpened setup slots
     → StripesRule setup (opening (replicate (word_count (stripe_count setup.bounds)) 0) slots
     (first_knowledge setup))
@@ -108,7 +108,7 @@ opening_kept setup slots long opened =
       history = [];
       legal = legal_empty setup.config setup.seats;
       wide = length-replicate words 0;
-      deep = length-map slots (λ (x : LaidStripe). maybe.some x) ∙ long;
+      deep = length-map slots (λ (x : StoredStripe). maybe.some x) ∙ long;
       views = at;
       each = λ number. omega (
         arith,
@@ -121,7 +121,7 @@ opening_kept setup slots long opened =
         nobody_fresh stripe 0 setup.seats,
         ap (λ (n : ℕ). one_if (nat_lt 0 n)) (blank_at words (lock_word stripe)),
       );
-      homes = λ stripe low free. let x = laid_at slots stripe (omega (arith, low, long)) in (
+      homes = λ stripe low free. let x = stored_at slots stripe (omega (arith, low, long)) in (
         x.0,
         at_map maybe.some slots stripe x.0 x.1,
         opened stripe x.0 x.1,
@@ -154,7 +154,7 @@ opening_kept setup slots long opened =
     by_number number false is = fresh_after 0 setup.seats number (grind (arith, nat_tests))
 
 -- the rule at the opening
-pub opens : (setup : Terms) (stripes : ℕ) (words : List ℕ) (slots : List LaidStripe)
+pub opens : (setup : Terms) (stripes : ℕ) (words : List ℕ) (slots : List StoredStripe)
     → stripes ≡ stripe_count setup.bounds → words ≡ replicate (word_count stripes) 0
     → length slots ≡ stripes → AreOpened setup slots
     → StripesRule setup (opening words slots (first_knowledge setup))
@@ -164,10 +164,10 @@ opens setup stripes words slots count blank long opened =
     (opening_kept setup slots (long ∙ count) opened)
 
 -- no stripe yet, and one more
-pub opened_none : (setup : Terms) (xs : List LaidStripe) → xs ≡ [] → AreOpened setup xs
+pub opened_none : (setup : Terms) (xs : List StoredStripe) → xs ≡ [] → AreOpened setup xs
 opened_none setup xs is = subst (AreOpened setup) (sym is) (λ i x e. absurd (some-ne-none x (sym e)))
 
-pub opened_more : (setup : Terms) (xs ys : List LaidStripe) (y : LaidStripe)
+pub opened_more : (setup : Terms) (xs ys : List StoredStripe) (y : StoredStripe)
     → AreOpened setup xs → ys ≡ xs ++ y ∷ [] → IsOpened setup y → AreOpened setup ys
 opened_more setup xs ys y before is one = subst (AreOpened setup) (sym is)
     (λ i x e. elim (at_snoc xs y x i e) [

@@ -1,7 +1,7 @@
 -- Examples of what lies of spans and of entries in stripes.
 use Rattle.std.specs.Prelude.{◌≡◌, List, [], ◌∷◌, false, codes, refl}
 use Rattle.tsc_time.specs.Time.{zero_time}
-use Rattle.tsc_time.specs.OwnedTime.{unowned}
+use Rattle.tsc_time.specs.ValueView.{unowned}
 use Rattle.tsc_span.specs.Span.{KeyBytes, before, after, last, nothing, between, point, onward}
 use Rattle.tsc_cache.specs.declared.history.Entry.{Entry}
 use Rattle.tsc_stripe_table.specs.Stripes.{piece_of, entry_in}

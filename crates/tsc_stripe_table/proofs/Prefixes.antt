@@ -5,7 +5,7 @@ use Rattle.std.specs.Prelude.{◌==◌}
 use Rattle.std.proofs.lemmas.List.{length-append, same_from_push}
 use Rattle.std.proofs.lemmas.List.Sums.{sum_by-append}
 use Rattle.std.proofs.lemmas.Bool.Decides.{nat_tests}
-use Rattle.tsc_cache.specs.Settings.{Settings}
+use Rattle.tsc_cache.specs.ConfigView.{ConfigView}
 use Rattle.tsc_cache.specs.declared.history.Entry.{Entry}
 use Rattle.tsc_cache.specs.History.{History, own_count, BeginsWith, IsNext, IsLegal}
 
@@ -59,8 +59,8 @@ begins_push (a ∷ h) (f ∷ g) e b =
     ]
 
 -- a history without entries is legal
-pub legal_empty : (settings : Settings) (seats : ℕ) → IsLegal settings seats []
-legal_empty settings seats before e c =
+pub legal_empty : (config : ConfigView) (seats : ℕ) → IsLegal config seats []
+legal_empty config seats before e c =
     absurd (omega (
       arith,
       ap length c.1,
@@ -69,14 +69,14 @@ legal_empty settings seats before e c =
     ))
 
 -- and a legal history with the next entry is
-pub legal_push : (settings : Settings) (seats : ℕ) (h : History) (e : Entry)
-    → IsLegal settings seats h → IsNext settings seats h e → IsLegal settings seats (h ++ e ∷ [])
-legal_push settings seats h e legal next before f c =
+pub legal_push : (config : ConfigView) (seats : ℕ) (h : History) (e : Entry)
+    → IsLegal config seats h → IsNext config seats h e → IsLegal config seats (h ++ e ∷ [])
+legal_push config seats h e legal next before f c =
     elim (begins_push h (before ++ f ∷ []) e c) [
       | inl b ↦ legal before f b
       | inr same ↦ let s = same_from_push before h f e same in
-          subst (λ (g : History). IsNext settings seats g f) (sym s.0)
-          (subst (IsNext settings seats h) (sym s.1) next)
+          subst (λ (g : History). IsNext config seats g f) (sym s.0)
+          (subst (IsNext config seats h) (sym s.1) next)
     ]
 
 -- counts add up

@@ -17,7 +17,7 @@ use Rattle.tsc_cache.proofs.Beginnings.{begins_itself, begins_on}
 use Rattle.tsc_stripe_table.specs.declared.table.SeatState.{SeatState}
 use Rattle.tsc_stripe_table.specs.declared.table.Knowledge.{Knowledge}
 use Rattle.tsc_stripe_table.specs.Stripes.{Terms, stripe_count, part_of, entry_in, IsStateOn}
-use Rattle.tsc_stripe_table.specs.Rule.{LaidStripe, keeping, one_if, lock_word, times_held, holders}
+use Rattle.tsc_stripe_table.specs.Rule.{StoredStripe, keeping, one_if, lock_word, times_held, holders}
 use Rattle.tsc_stripe_table.specs.Rule.{states_of, StateFits, KnowledgeFits, StripesRule, IsHome}
 use Rattle.tsc_stripe_table.specs.Steps.{At, state_in, with_state, holds_of, reached_of, earlier}
 use Rattle.tsc_stripe_table.specs.Steps.{reached_with, released, released_seen, committed}
@@ -148,26 +148,27 @@ held_first stripe others = omega (
 )
 
 module _ (setup : Terms) (id : ℕ) (t : Terms) (p : SeatState) (stripe : ℕ) (others : List ℕ)
-    (x : LaidStripe) where
+    (x : StoredStripe) where
   abbrev v : Knowledge
   v = keeping t (holding p stripe others ∷ [])
 
   -- A stripe is laid back, after a history that differs on no stripe that is free.
-  pub record Lays (s : Board) (k : StripesRule setup s) (h : History) (q : SeatState) : Type 0 where
-    pub at : get_elem? s.views id ≡ maybe.some v
-    pub low : stripe < stripe_count setup.bounds
-    pub number : q.number ≡ p.number
-    pub holds : q.holds ≡ others
-    pub legal : IsLegal setup.config setup.seats h
-    pub fits : KnowledgeFits setup h (keeping t (q ∷ []))
-    pub others_fit : (other : ℕ) (u : Knowledge) → other ≢ id
-        → get_elem? s.views other ≡ maybe.some u → KnowledgeFits setup h u
-    pub parts : (j : ℕ) → slice_index s.words (lock_word j) ≡ 0
-        → part_of setup.bounds j h ≡ part_of setup.bounds j k.history
-    pub stands : IsStateOn setup stripe h x.value.cache
+  pub record PutsBack (s : Board) (k : StripesRule setup s) (h : History) (q : SeatState) : Type 0
+    where
+      pub at : get_elem? s.views id ≡ maybe.some v
+      pub low : stripe < stripe_count setup.bounds
+      pub number : q.number ≡ p.number
+      pub holds : q.holds ≡ others
+      pub legal : IsLegal setup.config setup.seats h
+      pub fits : KnowledgeFits setup h (keeping t (q ∷ []))
+      pub others_fit : (other : ℕ) (u : Knowledge) → other ≢ id
+          → get_elem? s.views other ≡ maybe.some u → KnowledgeFits setup h u
+      pub parts : (j : ℕ) → slice_index s.words (lock_word j) ≡ 0
+          → part_of setup.bounds j h ≡ part_of setup.bounds j k.history
+      pub stands : IsStateOn setup stripe h x.value.cache
 
   locks_then : (s : Board) (k : StripesRule setup s) (h : History) (q : SeatState)
-      → Lays s k h q → (j : ℕ) → sum_by (holders j) s.views + holders j (keeping t (q ∷ []))
+      → PutsBack s k h q → (j : ℕ) → sum_by (holders j) s.views + holders j (keeping t (q ∷ []))
       ≡ busy_in (set s.words (lock_word stripe) 0) j + holders j v
   locks_then s k h q l j =
       let left : times_held j q.holds ≡ times_held j others = ap (times_held j) l.holds in
@@ -204,7 +205,7 @@ module _ (setup : Terms) (id : ℕ) (t : Terms) (p : SeatState) (stripe : ℕ) (
       ]
 
   homes_then : (s : Board) (k : StripesRule setup s) (h : History) (q : SeatState)
-      → Lays s k h q → (j : ℕ) → j < stripe_count setup.bounds
+      → PutsBack s k h q → (j : ℕ) → j < stripe_count setup.bounds
       → slice_index (set s.words (lock_word stripe) 0) (lock_word j) ≡ 0
       → IsHome setup h (set s.homes stripe (maybe.some x)) j
   homes_then s k h q l j lower free =
@@ -223,13 +224,13 @@ module _ (setup : Terms) (id : ℕ) (t : Terms) (p : SeatState) (stripe : ℕ) (
             ))
       ]
 
-  pub laid_back : (s : Board) (k : StripesRule setup s) (h : History) (q : SeatState)
-      → Lays s k h q → StripesRule setup (record {
+  pub put_back : (s : Board) (k : StripesRule setup s) (h : History) (q : SeatState)
+      → PutsBack s k h q → StripesRule setup (record {
         words = set s.words (lock_word stripe) 0;
         homes = set s.homes stripe (maybe.some x);
         views = set s.views id (keeping t (q ∷ []));
       })
-  laid_back s k h q l =
+  put_back s k h q l =
       let words : List ℕ = set s.words (lock_word stripe) 0 in
       let homes : Homes = set s.homes stripe (maybe.some x) in
       let w : Knowledge = keeping t (q ∷ []) in
@@ -246,7 +247,7 @@ module _ (setup : Terms) (id : ℕ) (t : Terms) (p : SeatState) (stripe : ℕ) (
       } in
       moved_kept setup s k id v w h words homes moved
 
-  module _ (slots : ℕ) (st : Step LaidStripe) (hand : List (ℕ × LaidStripe)) where
+  module _ (slots : ℕ) (st : Step StoredStripe) (hand : List (ℕ × StoredStripe)) where
     abbrev me : At
     me = (v, (stripe, x) ∷ hand)
 
@@ -264,7 +265,7 @@ module _ (setup : Terms) (id : ℕ) (t : Terms) (p : SeatState) (stripe : ℕ) (
           keeping t (q ∷ []),
           act_gives,
           tt,
-          laid_back s k k.history q (record {
+          put_back s k k.history q (record {
             at = at;
             low = subst (λ (y : Terms). stripe < stripe_count y.bounds) same low;
             number = refl;
@@ -295,7 +296,7 @@ module _ (setup : Terms) (id : ℕ) (t : Terms) (p : SeatState) (stripe : ℕ) (
           keeping t (q ∷ []),
           act_gives,
           tt,
-          laid_back s k k.history q (record {
+          put_back s k k.history q (record {
             at = at;
             low = subst (λ (y : Terms). stripe < stripe_count y.bounds) same low;
             number = refl;
@@ -350,7 +351,7 @@ module _ (setup : Terms) (id : ℕ) (t : Terms) (p : SeatState) (stripe : ℕ) (
           keeping t (q ∷ []),
           act_gives,
           tt,
-          laid_back s k g q (record {
+          put_back s k g q (record {
             at = at;
             low = subst (λ (y : Terms). stripe < stripe_count y.bounds) same low;
             number = refl;
@@ -396,7 +397,7 @@ module _ (setup : Terms) (id : ℕ) (t : Terms) (p : SeatState) (stripe : ℕ) (
         )
 
 -- what a participant is that has a stripe in hand
-whole : (me : At) (stripe : ℕ) (x : LaidStripe) → HasStripe me stripe x → me ≡ (
+whole : (me : At) (stripe : ℕ) (x : StoredStripe) → HasStripe me stripe x → me ≡ (
   keeping me.0.setup (holding (state_in me.0) stripe (earlier (holds_of me.0)) ∷ []),
   (stripe, x) ∷ rest me.1,
 )
@@ -408,8 +409,8 @@ whole me stripe x has = λ i. (
 )
 
 -- the same, as the calls have it
-pub release_at : (key : Terms) (slots : ℕ) (st : Step LaidStripe) (id : ℕ) (me : At)
-    (stripe word : ℕ) → word ≡ lock_word stripe → (x : LaidStripe) → CanRelease me stripe x
+pub release_at : (key : Terms) (slots : ℕ) (st : Step StoredStripe) (id : ℕ) (me : At)
+    (stripe word : ℕ) → word ≡ lock_word stripe → (x : StoredStripe) → CanRelease me stripe x
     → Allows (StripesRule key) slots id me word (λ _. 0) (λ _. releases st me 0)
 release_at key slots st id me stripe word is x can =
     subst (λ (i : ℕ). Allows (StripesRule key) slots id me i (λ _. 0) (λ _. releases st me 0))
@@ -419,8 +420,8 @@ release_at key slots st id me stripe word is x can =
     (release_allowed key id me.0.setup (state_in me.0) stripe (earlier (holds_of me.0)) x slots st
     (rest me.1) can.has.is_stripe can.stands))
 
-pub release_seen_at : (key : Terms) (slots : ℕ) (st : Step LaidStripe) (id : ℕ) (me : At)
-    (stripe word : ℕ) → word ≡ lock_word stripe → (x : LaidStripe) → CanRelease me stripe x
+pub release_seen_at : (key : Terms) (slots : ℕ) (st : Step StoredStripe) (id : ℕ) (me : At)
+    (stripe word : ℕ) → word ≡ lock_word stripe → (x : StoredStripe) → CanRelease me stripe x
     → Allows (StripesRule key) slots id me word (λ _. 0) (λ _. releases_seen st me 0)
 release_seen_at key slots st id me stripe word is x can =
     subst (λ (i : ℕ). Allows (StripesRule key) slots id me i (λ _. 0)
@@ -430,8 +431,8 @@ release_seen_at key slots st id me stripe word is x can =
     (release_seen_allowed key id me.0.setup (state_in me.0) stripe (earlier (holds_of me.0)) x
     slots st (rest me.1) can.has.is_stripe can.stands))
 
-pub commit_at : (key : Terms) (slots : ℕ) (st : Step LaidStripe) (id : ℕ) (me : At)
-    (stripe word : ℕ) → word ≡ lock_word stripe → (x : LaidStripe) → CanCommit me stripe x
+pub commit_at : (key : Terms) (slots : ℕ) (st : Step StoredStripe) (id : ℕ) (me : At)
+    (stripe word : ℕ) → word ≡ lock_word stripe → (x : StoredStripe) → CanCommit me stripe x
     → Allows (StripesRule key) slots id me word (λ _. 0) (λ _. commits st me 0)
 commit_at key slots st id me stripe word is x can =
     let e : Entry = entry_of (state_in me.0) x.value.pending in
@@ -444,8 +445,8 @@ commit_at key slots st id me stripe word is x can =
     (subst (λ (hs : List ℕ). IsCovered me.0.setup.bounds hs e) can.has.holds can.covered)
     can.stands))
 
-pub commit_batch_at : (key : Terms) (slots : ℕ) (st : Step LaidStripe) (id : ℕ) (me : At)
-    (stripe word : ℕ) → word ≡ lock_word stripe → (x : LaidStripe) → CanCommitBatch me stripe x
+pub commit_batch_at : (key : Terms) (slots : ℕ) (st : Step StoredStripe) (id : ℕ) (me : At)
+    (stripe word : ℕ) → word ≡ lock_word stripe → (x : StoredStripe) → CanCommitBatch me stripe x
     → Allows (StripesRule key) slots id me word (λ _. 0) (λ _. commits_batch st me 0)
 commit_batch_at key slots st id me stripe word is x can =
     let e : Entry = entry_of_batch (state_in me.0) x.value.batch in

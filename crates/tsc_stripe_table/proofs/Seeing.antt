@@ -16,7 +16,7 @@ use Rattle.tsc_cache.proofs.Beginnings.{begins_itself, legal_beginning}
 use Rattle.tsc_stripe_table.specs.declared.table.SeatState.{SeatState}
 use Rattle.tsc_stripe_table.specs.declared.table.Knowledge.{Knowledge}
 use Rattle.tsc_stripe_table.specs.Stripes.{Terms}
-use Rattle.tsc_stripe_table.specs.Rule.{LaidStripe, keeping, at_rest, one_if, StripesRule, holders}
+use Rattle.tsc_stripe_table.specs.Rule.{StoredStripe, keeping, at_rest, one_if, StripesRule, holders}
 use Rattle.tsc_stripe_table.specs.Rule.{KnowledgeFits, states_of, times_held}
 use Rattle.tsc_stripe_table.specs.Steps.{At, front_of, spent, longer, CatchesUp, catches_up, seated}
 use Rattle.tsc_stripe_table.specs.Steps.{number_of, seen_of, count_of, state_in, first_state}
@@ -197,7 +197,7 @@ front_joins setup id t p other u seen s k at apart at_other =
     (λ n. omega arith) (λ n. omega arith)
 
 -- That one has then seen the longer of both.
-catch_up_allowed : (setup : Terms) (slots : ℕ) (st : Step LaidStripe) (id : ℕ) (t : Terms)
+catch_up_allowed : (setup : Terms) (slots : ℕ) (st : Step StoredStripe) (id : ℕ) (t : Terms)
     (number : ℕ) (seen : History) (count : ℕ) (other : History)
     → Allows (StripesRule setup) slots id (with_front t (at_rest number seen count) other, []) 0
     (λ n. n) (catches_up st (with_front t (at_rest number seen count) other, []))
@@ -323,7 +323,7 @@ joined_then me me' front rested is = is ∙ (λ i. (
   (rested i).1,
 ))
 
-pub catch_up_at : (key : Terms) (slots : ℕ) (st : Step LaidStripe) (id : ℕ) (me : At) (t : Terms)
+pub catch_up_at : (key : Terms) (slots : ℕ) (st : Step StoredStripe) (id : ℕ) (me : At) (t : Terms)
     (number : ℕ) (seen : History) (count : ℕ) (other : History)
     → me ≡ (with_front t (at_rest number seen count) other, [])
     → Allows (StripesRule key) slots id me 0 (λ n. n) (catches_up st me)
@@ -332,7 +332,7 @@ catch_up_at key slots st id me t number seen count other is =
     (catch_up_allowed key slots st id t number seen count other)
 
 -- It has caught up then.
-pub caught_up_then : (st : Step LaidStripe) (found : ℕ) (me was me' : At) (other : History)
+pub caught_up_then : (st : Step StoredStripe) (found : ℕ) (me was me' : At) (other : History)
     → was ≡ (
       with_front me.0.setup (at_rest (number_of me.0) (seen_of me.0) (count_of me.0)) other,
       [],

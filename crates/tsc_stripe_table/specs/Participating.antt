@@ -7,14 +7,14 @@ use Rattle.tsc_span.specs.Span.{KeyBytes}
 use Rattle.tsc_cache.specs.History.{CanBeAdded, CanAllBeAdded}
 use Rattle.tsc_stripe_table.specs.declared.table.Knowledge.{Knowledge}
 use Rattle.tsc_stripe_table.specs.Stripes.{stripe_count, IsStateOn}
-use Rattle.tsc_stripe_table.specs.Rule.{LaidStripe, word_count, keeping, Descends}
+use Rattle.tsc_stripe_table.specs.Rule.{StoredStripe, word_count, keeping, Descends}
 use Rattle.tsc_stripe_table.specs.Steps.{At, state_in, with_state, number_of, seen_of, count_of}
 use Rattle.tsc_stripe_table.specs.Steps.{holds_of, reached_of, seated, front_of, earlier}
 use Rattle.tsc_stripe_table.specs.Steps.{first_state, mark_of, entry_of, entry_of_batch}
 use Rattle.tsc_stripe_table.specs.Steps.{IsCovered}
 
 abbrev pub Participant : Type 0
-Participant = TableSeat LaidStripe Knowledge
+Participant = TableSeat StoredStripe Knowledge
 
 -- the table has a lock and a slot for each stripe
 pub record IsSized (table : TableId) (bounds : List KeyBytes) : Type 0 where
@@ -57,20 +57,20 @@ pub record CanAcquire (v : Knowledge) (stripe : ℕ) : Type 0 where
   pub order : Descends (stripe ∷ holds_of v)
 
 -- The seat acquired the lock of a stripe last, and has that stripe in hand.
-pub record HasStripe (me : At) (stripe : ℕ) (x : LaidStripe) : Type 0 where
+pub record HasStripe (me : At) (stripe : ℕ) (x : StoredStripe) : Type 0 where
   pub one : KeepsOne me.0
   pub is_stripe : IsStripe me.0 stripe
   pub holds : holds_of me.0 ≡ stripe ∷ earlier (holds_of me.0)
   pub hand : me.1 ≡ (stripe, x) ∷ rest me.1
 
 -- It may lay the stripe back as after the history that it has reached.
-pub record CanRelease (me : At) (stripe : ℕ) (x : LaidStripe) : Type 0 where
+pub record CanRelease (me : At) (stripe : ℕ) (x : StoredStripe) : Type 0 where
   pub has : HasStripe me stripe x
   pub stands : IsStateOn me.0.setup stripe (reached_of me.0) x.value.cache
 
 -- It may lay the stripe back as after the Add that was made there. The seat holds all stripes on
 -- which the Add lies.
-pub record CanCommit (me : At) (stripe : ℕ) (x : LaidStripe) : Type 0 where
+pub record CanCommit (me : At) (stripe : ℕ) (x : StoredStripe) : Type 0 where
   pub has : HasStripe me stripe x
   pub made : CanBeAdded me.0.setup.config (mark_of x.value.pending) x.value.pending.moment.value
   pub covered : IsCovered me.0.setup.bounds (holds_of me.0)
@@ -79,7 +79,7 @@ pub record CanCommit (me : At) (stripe : ℕ) (x : LaidStripe) : Type 0 where
       (reached_of me.0 ++ entry_of (state_in me.0) x.value.pending ∷ []) x.value.cache
 
 -- The same, for a batch that was made there.
-pub record CanCommitBatch (me : At) (stripe : ℕ) (x : LaidStripe) : Type 0 where
+pub record CanCommitBatch (me : At) (stripe : ℕ) (x : StoredStripe) : Type 0 where
   pub has : HasStripe me stripe x
   pub made : CanAllBeAdded me.0.setup.config x.value.batch.marks.value.items
       x.value.batch.moment.value

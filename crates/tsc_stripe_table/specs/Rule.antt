@@ -94,18 +94,18 @@ pub record KnowledgeFits (setup : Terms) (history : History) (v : Knowledge) : T
   pub front : BeginsWith history v.front
 
 -- what lies in a slot
-abbrev pub LaidStripe : Type 0
-LaidStripe = Box Stripe Global
+abbrev pub StoredStripe : Type 0
+StoredStripe = Box Stripe Global
 
 -- A slot is at home, and its cache stands for the state that the history leaves on the stripe.
-abbrev pub IsHome : Terms → History → List (maybe.Option LaidStripe) → ℕ → Type 0
-IsHome setup history homes stripe = (x : LaidStripe)
+abbrev pub IsHome : Terms → History → List (maybe.Option StoredStripe) → ℕ → Type 0
+IsHome setup history homes stripe = (x : StoredStripe)
     × (get_elem? homes stripe ≡ maybe.some (maybe.some x))
     × IsStateOn setup stripe history x.value.cache
 
 -- There is one legal history. What each participant knows fits, and each seat has one state. Where
 -- the lock of a stripe is free, nobody holds it, and the stripe is at home. Else one seat holds it.
-pub record StripesRule (setup : Terms) (s : State LaidStripe Knowledge) : Type 0 where
+pub record StripesRule (setup : Terms) (s : State StoredStripe Knowledge) : Type 0 where
   pub history : History
   pub legal : IsLegal setup.config setup.seats history
   pub wide : length s.words ≡ word_count (stripe_count setup.bounds)

@@ -4,7 +4,7 @@ use Rattle.std.specs.Prelude.{◌++◌, length, Bool, true, false, if◌then◌e
 use Rattle.atomic_table.specs.Table.{Me, Step, rest}
 use Rattle.tsc_time.specs.Time.{zero_time}
 use Rattle.tsc_span.specs.Span.{KeyBytes}
-use Rattle.tsc_page_nodes.specs.Page.{Mark}
+use Rattle.tsc_page_model.specs.Page.{Mark}
 use Rattle.tsc_cache.specs.CacheView.{CacheView}
 use Rattle.tsc_cache.specs.declared.history.Entry.{Entry}
 use Rattle.tsc_cache.specs.History.{History, own_count, entry_of_mark, BeginsWith, IsLegal}
@@ -13,11 +13,11 @@ use Rattle.tsc_stripe_table.specs.declared.stripe.PendingBatch.{PendingBatch}
 use Rattle.tsc_stripe_table.specs.declared.table.SeatState.{SeatState}
 use Rattle.tsc_stripe_table.specs.declared.table.Knowledge.{Knowledge}
 use Rattle.tsc_stripe_table.specs.Stripes.{Terms, part_of, entry_in, IsStateOn}
-use Rattle.tsc_stripe_table.specs.Rule.{at_rest, keeping, times_held, lock_word, LaidStripe}
+use Rattle.tsc_stripe_table.specs.Rule.{at_rest, keeping, times_held, lock_word, StoredStripe}
 
 -- what a participant knows, and what it has in hand
 abbrev pub At : Type 0
-At = Me LaidStripe Knowledge
+At = Me StoredStripe Knowledge
 
 -- the first of some states, and the others
 abbrev pub first_state : List SeatState → SeatState
@@ -138,18 +138,18 @@ pub record Acquires (v w : Knowledge) (stripe : ℕ) (cache : CacheView) : Type 
   pub stands : IsStateOn v.setup stripe history cache
 
 -- The lock of a stripe is acquired where it was free, with what lies there. Else nothing changes.
-abbrev pub acquires : Step LaidStripe → At → ℕ → At → Type 0
+abbrev pub acquires : Step StoredStripe → At → ℕ → At → Type 0
 acquires st me found me' =
-    (found ≡ 0 → (stripe : ℕ) × (x : LaidStripe) × (st.word ≡ lock_word stripe)
+    (found ≡ 0 → (stripe : ℕ) × (x : StoredStripe) × (st.word ≡ lock_word stripe)
     × Acquires me.0 me'.0 stripe x.value.cache × (me'.1 ≡ (stripe, x) ∷ me.1))
     × (found ≢ 0 → me' ≡ me)
 
 -- The lock that was acquired last is released.
-abbrev pub releases : Step LaidStripe → At → ℕ → At → Type 0
+abbrev pub releases : Step StoredStripe → At → ℕ → At → Type 0
 releases st me stored me' = me' ≡ (with_state me.0 (released (state_in me.0)), rest me.1)
 
 -- It is released, and the seat has seen what it had reached.
-abbrev pub releases_seen : Step LaidStripe → At → ℕ → At → Type 0
+abbrev pub releases_seen : Step StoredStripe → At → ℕ → At → Type 0
 releases_seen st me stored me' =
     me' ≡ (with_state me.0 (released_seen (state_in me.0)), rest me.1)
 
@@ -162,7 +162,7 @@ abbrev pub entry_of : SeatState → PendingAdd → Entry
 entry_of p add = entry_of_mark p.number p.count (mark_of add) add.moment.value
 
 -- the entry of the Add that was made last on what is in hand
-abbrev pub made_in : SeatState → List (ℕ × LaidStripe) → History
+abbrev pub made_in : SeatState → List (ℕ × StoredStripe) → History
 made_in p [] = []
 made_in p ((k, x) ∷ others) = entry_of p x.value.pending ∷ []
 
@@ -176,7 +176,7 @@ entry_of_batch p batch = record {
 }
 
 -- the entry of the batch that was made last on what is in hand
-abbrev pub batch_in : SeatState → List (ℕ × LaidStripe) → History
+abbrev pub batch_in : SeatState → List (ℕ × StoredStripe) → History
 batch_in p [] = []
 batch_in p ((k, x) ∷ others) = entry_of_batch p x.value.batch ∷ []
 
@@ -191,12 +191,12 @@ pub record Commits (v w : Knowledge) (made : History) : Type 0 where
   pub unchanged : AgreeOn v.setup.bounds (holds_of v) before (reached_of v)
 
 -- The Add on what is in hand is committed, and the lock that was acquired last is released.
-abbrev pub commits : Step LaidStripe → At → ℕ → At → Type 0
+abbrev pub commits : Step StoredStripe → At → ℕ → At → Type 0
 commits st me stored me' = Commits me.0 me'.0 (made_in (state_in me.0) me.1)
     × (me'.1 ≡ rest me.1)
 
 -- The batch on what is in hand is committed, and the lock that was acquired last is released.
-abbrev pub commits_batch : Step LaidStripe → At → ℕ → At → Type 0
+abbrev pub commits_batch : Step StoredStripe → At → ℕ → At → Type 0
 commits_batch st me stored me' = Commits me.0 me'.0 (batch_in (state_in me.0) me.1)
     × (me'.1 ≡ rest me.1)
 
@@ -216,5 +216,5 @@ pub record CatchesUp (me me' : At) (other : History) : Type 0 where
   pub own : own_count (number_of me.0) history ≡ count_of me.0
 
 -- A seat catches up with the front that it has taken in.
-abbrev pub catches_up : Step LaidStripe → At → ℕ → At → Type 0
+abbrev pub catches_up : Step StoredStripe → At → ℕ → At → Type 0
 catches_up st me found me' = CatchesUp me me' me.0.front

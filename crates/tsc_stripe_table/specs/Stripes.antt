@@ -3,9 +3,9 @@ use Rattle.std.specs.Prelude.{ℕ, zero, suc, ◌≡◌, List, [], ◌∷◌, le
 use Rattle.std.specs.Prelude.{if◌then◌else◌, slice_get}
 use Rattle.std.specs.List.{flat_map}
 use Rattle.tsc_span.specs.Span.{KeyBytes, Cut, before, last, is_below, greater_cut, smaller_cut}
-use Rattle.tsc_span.specs.Span.{Interval, nothing, between}
-use Rattle.tsc_page_nodes.specs.Page.{Mark}
-use Rattle.tsc_cache.specs.Settings.{Settings}
+use Rattle.tsc_span.specs.Span.{SpanView, nothing, between}
+use Rattle.tsc_page_model.specs.Page.{Mark}
+use Rattle.tsc_cache.specs.ConfigView.{ConfigView}
 use Rattle.tsc_cache.specs.State.{CacheState}
 use Rattle.tsc_cache.specs.CacheView.{CacheView, RepresentsState}
 use Rattle.tsc_cache.specs.declared.history.Entry.{Entry}
@@ -13,7 +13,7 @@ use Rattle.tsc_cache.specs.History.{History, state_of}
 
 -- how each stripe is set up, how many seats there are, and where the stripes begin after the first
 pub record Terms : Type 0 where
-  pub config : Settings
+  pub config : ConfigView
   pub seats : ℕ
   pub bounds : List KeyBytes
 
@@ -36,18 +36,18 @@ abbrev pub stripe_end : List KeyBytes → ℕ → Cut
 stripe_end bounds i = at_bound (slice_get bounds i)
 
 -- what lies of a span between two cuts
-abbrev pub piece_between : Cut → Cut → Interval → Interval
+abbrev pub piece_between : Cut → Cut → SpanView → SpanView
 piece_between start end nothing = nothing
 piece_between start end (between from to) =
     if is_below (greater_cut from start) (smaller_cut to end)
     then between (greater_cut from start) (smaller_cut to end) else nothing
 
 -- what lies of a span in a stripe
-abbrev pub piece_of : List KeyBytes → ℕ → Interval → Interval
+abbrev pub piece_of : List KeyBytes → ℕ → SpanView → SpanView
 piece_of bounds i span = piece_between (stripe_start bounds i) (stripe_end bounds i) span
 
 -- a mark on a span, unless that is the empty one
-abbrev pub mark_on : Interval → Mark → List Mark
+abbrev pub mark_on : SpanView → Mark → List Mark
 mark_on nothing m = []
 mark_on (between from to) m = record { span = between from to; value = m.value } ∷ []
 

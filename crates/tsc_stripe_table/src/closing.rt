@@ -37,8 +37,8 @@ pub fn close(table: StripeTable, all: Participant, mut caches: Vec<Cache>) -> Ve
     let mut closed = table.close_with(all);
     let mut stripe = 0;
     while stripe < closed.slot_count() {
-        let laid = Box::into_inner(closed.take(stripe));
-        caches.push_reserved(laid.cache);
+        let stored = Box::into_inner(closed.take(stripe));
+        caches.push_reserved(stored.cache);
         stripe += 1;
     }
     closed.free();

@@ -1,7 +1,7 @@
 //! Acquiring the locks of stripes, and releasing them.
 ghost use Rattle.std.specs.Prelude.{◌≡◌, ◌∷◌, ◌<◌, true, false};
 ghost use Rattle.atomic_table.specs.Table.{rest};
-ghost use Rattle.tsc_stripe_table.specs.Rule.{LaidStripe, lock_word};
+ghost use Rattle.tsc_stripe_table.specs.Rule.{StoredStripe, lock_word};
 ghost use Rattle.tsc_stripe_table.specs.Steps.{Acquires, Commits, state_in, with_state};
 ghost use Rattle.tsc_stripe_table.specs.Steps.{released, released_seen, made_in, batch_in};
 ghost use Rattle.tsc_stripe_table.specs.Participating.{IsOf, CanAcquire, CanRelease, CanCommit};
@@ -18,7 +18,7 @@ pub fn try_acquire(shared: &SharedStripes, who: &mut Participant, stripe: u32) -
     requires of { IsOf who.old shared.now.table_id }
     requires can { CanAcquire who.old.me.0 stripe }
     ensures table { who.new.table_id ≡ who.old.table_id }
-    ensures acquired { result ≡ true → (x : LaidStripe)
+    ensures acquired { result ≡ true → (x : StoredStripe)
         × Acquires who.old.me.0 who.new.me.0 stripe x.value.cache
         × (who.new.me.1 ≡ (stripe, x) ∷ who.old.me.1) }
     ensures busy { result ≡ false → who.new.me ≡ who.old.me }
@@ -38,7 +38,7 @@ pub fn is_free(shared: &SharedStripes, stripe: u32) -> bool
 #[inline]
 pub fn release(shared: &SharedStripes, who: &mut Participant, stripe: u32)
     requires of { IsOf who.old shared.now.table_id }
-    requires can { (x : LaidStripe) × CanRelease who.old.me stripe x }
+    requires can { (x : StoredStripe) × CanRelease who.old.me stripe x }
     ensures table { who.new.table_id ≡ who.old.table_id }
     ensures released { who.new.me
         ≡ (with_state who.old.me.0 (released (state_in who.old.me.0)), rest who.old.me.1) }
@@ -50,7 +50,7 @@ pub fn release(shared: &SharedStripes, who: &mut Participant, stripe: u32)
 #[inline]
 pub fn release_seen(shared: &SharedStripes, who: &mut Participant, stripe: u32)
     requires of { IsOf who.old shared.now.table_id }
-    requires can { (x : LaidStripe) × CanRelease who.old.me stripe x }
+    requires can { (x : StoredStripe) × CanRelease who.old.me stripe x }
     ensures table { who.new.table_id ≡ who.old.table_id }
     ensures released { who.new.me
         ≡ (with_state who.old.me.0 (released_seen (state_in who.old.me.0)), rest who.old.me.1) }
@@ -63,7 +63,7 @@ pub fn release_seen(shared: &SharedStripes, who: &mut Participant, stripe: u32)
 #[inline]
 pub fn commit(shared: &SharedStripes, who: &mut Participant, stripe: u32)
     requires of { IsOf who.old shared.now.table_id }
-    requires can { (x : LaidStripe) × CanCommit who.old.me stripe x }
+    requires can { (x : StoredStripe) × CanCommit who.old.me stripe x }
     ensures table { who.new.table_id ≡ who.old.table_id }
     ensures committed { Commits who.old.me.0 who.new.me.0
         (made_in (state_in who.old.me.0) who.old.me.1) }
@@ -75,7 +75,7 @@ pub fn commit(shared: &SharedStripes, who: &mut Participant, stripe: u32)
 /// The same, for the batch that was made on its stripe: it becomes one entry.
 pub fn commit_batch(shared: &SharedStripes, who: &mut Participant, stripe: u32)
     requires of { IsOf who.old shared.now.table_id }
-    requires can { (x : LaidStripe) × CanCommitBatch who.old.me stripe x }
+    requires can { (x : StoredStripe) × CanCommitBatch who.old.me stripe x }
     ensures table { who.new.table_id ≡ who.old.table_id }
     ensures committed { Commits who.old.me.0 who.new.me.0
         (batch_in (state_in who.old.me.0) who.old.me.1) }

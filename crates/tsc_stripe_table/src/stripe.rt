@@ -1,10 +1,10 @@
 //! A stripe: a cache, and what was added last on it.
 ghost use Rattle.std.specs.Prelude.{◌≡◌, true, false, IsOk, IfOk, IfSome, OnOk, OnErr};
-ghost use Rattle.tsc_cache.specs.Settings.{fits};
+ghost use Rattle.tsc_cache.specs.ConfigView.{fits};
 ghost use Rattle.tsc_cache.specs.Batch.{all_fit};
 ghost use Rattle.tsc_cache.specs.State.{opening, is_kept};
-ghost use Rattle.tsc_cache.specs.CacheView.{RepresentsState, StandsAfter, TellsAdded};
-ghost use Rattle.tsc_cache.specs.CacheView.{StandsAfterAll, TellsAddedAll};
+ghost use Rattle.tsc_cache.specs.CacheView.{RepresentsState, StandsAfter, ReportsAdded};
+ghost use Rattle.tsc_cache.specs.CacheView.{StandsAfterAll, ReportsAddedAll};
 
 use std::alloc::Global;
 use std::mem;
@@ -78,10 +78,10 @@ fn next_version(
     value: Value,
     now: Timestamp,
 ) -> Result<Version, NoMemory>
-    requires fits { fits cache.now.settings span.now ≡ true }
+    requires fits { fits cache.now.config span.now ≡ true }
     ensures stands { IfOk result (λ next. StandsAfter cache.now next.cache
         (record { span = span.now; value = value }) now) }
-    ensures added { IfOk result (λ next. TellsAdded cache.now
+    ensures added { IfOk result (λ next. ReportsAdded cache.now
         (record { span = span.now; value = value }) now next.added) }
 {
     let (next, added) = cache.next_one_fitting(span, value, now)?;
@@ -90,6 +90,7 @@ fn next_version(
 
 /// The cache of a stripe. What lies before and after it keeps it on lines of its own.
 #[derive(Drop)]
+#[repr(C)]
 pub struct Stripe {
     before: [u64; 8],
     pub cache: Cache,
@@ -123,12 +124,12 @@ impl Stripe {
     /// instead, which takes the memory of a list of pages. So no page is dropped here.
     #[inline]
     pub fn add(&mut self, span: &Span, value: Value, now: Timestamp) -> Result<StripeAdd, NoMemory>
-        requires fits { fits self.old.cache.settings span.now ≡ true }
+        requires fits { fits self.old.cache.config span.now ≡ true }
         ensures pending { OnOk result ((self.new.pending.span.value ≡ span.now)
             × (self.new.pending.value.value ≡ value) × (self.new.pending.moment.value ≡ now)) }
         ensures stands { OnOk result (StandsAfter self.old.cache self.new.cache
             (record { span = span.now; value = value }) now) }
-        ensures made { IfOk result (λ made. TellsAdded self.old.cache
+        ensures made { IfOk result (λ made. ReportsAdded self.old.cache
             (record { span = span.now; value = value }) now made.added
             × IfSome made.replaced (λ cache. cache ≡ self.old.cache)) }
         ensures unchanged { OnErr result (self.new.cache ≡ self.old.cache) }
@@ -152,12 +153,12 @@ impl Stripe {
         value: Value,
         now: Timestamp,
     ) -> Result<StripeAdd, NoMemory>
-        requires fits { fits self.old.cache.settings span.now ≡ true }
+        requires fits { fits self.old.cache.config span.now ≡ true }
         ensures pending { OnOk result ((self.new.pending.span.value ≡ span.now)
             × (self.new.pending.value.value ≡ value) × (self.new.pending.moment.value ≡ now)) }
         ensures stands { OnOk result (StandsAfter self.old.cache self.new.cache
             (record { span = span.now; value = value }) now) }
-        ensures made { IfOk result (λ made. TellsAdded self.old.cache
+        ensures made { IfOk result (λ made. ReportsAdded self.old.cache
             (record { span = span.now; value = value }) now made.added
             × IfSome made.replaced (λ cache. cache ≡ self.old.cache)) }
         ensures unchanged { OnErr result (self.new.cache ≡ self.old.cache) }
@@ -174,11 +175,11 @@ impl Stripe {
     /// The next version of the cache after marks that fit, as [`Cache::next_fitting`] gives it. The
     /// stripe stays as it is.
     pub fn next_all(&self, marks: &[Mark], now: Timestamp) -> Result<Version, NoMemory>
-        requires fits { all_fit self.now.cache.settings marks.now ≡ true }
+        requires fits { all_fit self.now.cache.config marks.now ≡ true }
         ensures stands { IfOk result
             (λ next. StandsAfterAll self.now.cache next.cache marks.now now) }
         ensures added { IfOk result
-            (λ next. TellsAddedAll self.now.cache marks.now now next.added) }
+            (λ next. ReportsAddedAll self.now.cache marks.now now next.added) }
     {
         let (next, added) = self.cache.next_fitting(marks, now)?;
         Ok(Version { cache: next, added })

@@ -4,11 +4,11 @@ use Rattle.std.proofs.Common.{List, [], ◌∷◌, arith, not, append-nil}
 use Rattle.std.specs.Prelude.{nat_le, Option, Some, None, Result, Ok, Err, OnOk, IsErrOf}
 use Rattle.std.proofs.lemmas.Bool.Decides.{nat_tests}
 use Rattle.tsc_time.specs.Time.{Time}
-use Rattle.tsc_span.specs.Span.{KeyBytes, Interval, nothing, between, before, is_below, span_cost}
+use Rattle.tsc_span.specs.Span.{KeyBytes, SpanView, nothing, between, before, is_below, span_cost}
 use Rattle.tsc_span.specs.MadeSpan.{IsMadeSpan}
-use Rattle.tsc_page_nodes.specs.Page.{Mark}
+use Rattle.tsc_page_model.specs.Page.{Mark}
 use Rattle.tsc_cache.specs.declared.added.Added.{Added}
-use Rattle.tsc_cache.specs.Settings.{Settings, fits}
+use Rattle.tsc_cache.specs.ConfigView.{ConfigView, fits}
 use Rattle.tsc_cache.specs.Batch.{all_fit}
 use Rattle.tsc_cache.specs.History.{CanBeAdded, CanAllBeAdded}
 use Rattle.tsc_stripe_table.specs.Stripes.{Terms, stripe_count, piece_of, mark_on, marks_in}
@@ -38,7 +38,7 @@ use Rattle.tsc_striped.proofs.SeatSteps.{goes_nowhere, accepts, added_on_seat}
 use Rattle.tsc_striped.proofs.Batches.{added_within}
 
 -- the stripes that a span touches are there
-pub first_there : (bounds : List KeyBytes) (span : Interval)
+pub first_there : (bounds : List KeyBytes) (span : SpanView)
     → first_touched bounds span < stripe_count bounds
 first_there bounds nothing = omega arith
 first_there bounds (between from to) = omega (
@@ -46,7 +46,7 @@ first_there bounds (between from to) = omega (
   at_most (λ k. not (is_below from (before k))) (above_falls from) bounds,
 )
 
-pub last_there : (bounds : List KeyBytes) (span : Interval)
+pub last_there : (bounds : List KeyBytes) (span : SpanView)
     → last_touched bounds span < stripe_count bounds
 last_there bounds nothing = omega arith
 last_there bounds (between from to) = omega (
@@ -54,29 +54,29 @@ last_there bounds (between from to) = omega (
   at_most (λ k. is_below (before k) to) (below_falls to) bounds,
 )
 
-pub there_in : (bounds bounds' : List KeyBytes) (span : Interval) (first : ℕ) → bounds ≡ bounds'
+pub there_in : (bounds bounds' : List KeyBytes) (span : SpanView) (first : ℕ) → bounds ≡ bounds'
     → first ≡ first_touched bounds span → first < stripe_count bounds'
 there_in bounds bounds' span first same is =
     subst (λ (b : List KeyBytes). first < stripe_count b) same
     (subst (λ (i : ℕ). i < stripe_count bounds) (sym is) (first_there bounds span))
 
-pub last_in : (bounds bounds' : List KeyBytes) (span : Interval) (last : ℕ) → bounds ≡ bounds'
+pub last_in : (bounds bounds' : List KeyBytes) (span : SpanView) (last : ℕ) → bounds ≡ bounds'
     → last ≡ last_touched bounds span → last < stripe_count bounds'
 last_in bounds bounds' span last same is =
     subst (λ (b : List KeyBytes). last < stripe_count b) same
     (subst (λ (i : ℕ). i < stripe_count bounds) (sym is) (last_there bounds span))
 
 -- the largest page has room for any span
-pub any_fits : (settings : Settings) (span : Interval) (cost : ℕ) → least_page_max ≤ settings.page_max
-    → cost ≡ span_cost span → cost ≤ 8256 → fits settings span ≡ true
-any_fits settings span cost room is most =
-    fits_by (span_cost span) settings.page_max (omega (arith, room, is, most))
+pub any_fits : (config : ConfigView) (span : SpanView) (cost : ℕ) → least_page_max ≤ config.page_max
+    → cost ≡ span_cost span → cost ≤ 8256 → fits config span ≡ true
+any_fits config span cost room is most =
+    fits_by (span_cost span) config.page_max (omega (arith, room, is, most))
   where
     fits_by : (a b : ℕ) → a ≤ b → nat_le a b ≡ true
     fits_by a b le = grind (arith, nat_tests)
 
 -- a span fits
-pub span_fits : (terms : Terms) (span : Interval) (cost : ℕ) → IsSettled terms
+pub span_fits : (terms : Terms) (span : SpanView) (cost : ℕ) → IsSettled terms
     → cost ≡ span_cost span → cost ≤ 8256 → fits terms.config span ≡ true
 span_fits terms span cost settled is most = any_fits terms.config span cost settled.room is most
 
@@ -95,13 +95,13 @@ lies_there terms bounds m now first last settled same can f l is =
     (lies_in_one terms.bounds m.span settled.in_order made one)
 
 -- marks that fit can be added, also as a copy and by the settings' other name
-pub can_be_all : (settings settings' : Settings) (xs ys zs : List Mark) (now : Time)
-    → all_fit settings xs ≡ true → (all_fit settings ys ≡ true → CanAllBeAdded settings ys now)
-    → xs ≡ zs → ys ≡ zs → settings ≡ settings' → CanAllBeAdded settings' zs now
-can_be_all settings settings' xs ys zs now fit can x y same =
-    subst (λ (s : Settings). CanAllBeAdded s zs now) same
-    (subst (λ (ms : List Mark). CanAllBeAdded settings ms now) y
-    (can (subst (λ (ms : List Mark). all_fit settings ms ≡ true) (x ∙ sym y) fit)))
+pub can_be_all : (config config' : ConfigView) (xs ys zs : List Mark) (now : Time)
+    → all_fit config xs ≡ true → (all_fit config ys ≡ true → CanAllBeAdded config ys now)
+    → xs ≡ zs → ys ≡ zs → config ≡ config' → CanAllBeAdded config' zs now
+can_be_all config config' xs ys zs now fit can x y same =
+    subst (λ (s : ConfigView). CanAllBeAdded s zs now) same
+    (subst (λ (ms : List Mark). CanAllBeAdded config ms now) y
+    (can (subst (λ (ms : List Mark). all_fit config ms ≡ true) (x ∙ sym y) fit)))
 
 -- so it does in all stripes what it does there
 pub adds_one : (me me' : At) (stripe : ℕ) (m : Mark) (now : Time) (added : Added)
@@ -125,7 +125,7 @@ adds_one me me' stripe m now added there lies is_counted a = record {
 
     nothing_there : (other : ℕ) → other ≢ stripe → marks_in me.0.setup.bounds other (m ∷ []) ≡ []
     nothing_there other apart = append-nil (mark_on (piece_of me.0.setup.bounds other m.span) m)
-        ∙ ap (λ (span : Interval). mark_on span m) (lies.none other apart)
+        ∙ ap (λ (span : SpanView). mark_on span m) (lies.none other apart)
 
     within : LieWithin me.0.setup.bounds (m ∷ []) stripe stripe
     within other (inl low) = nothing_there other (λ is. omega (arith, low, is))
@@ -219,11 +219,11 @@ answers_added old new ms now tries receipt was table adds number front may some 
 
 -- it was tried
 -- what holds of an Add that was made holds once it was waited for
-pub told_waited : (added : Result Receipt TryAddFault) (result : Result Receipt AddFault)
+pub reported_waited : (added : Result Receipt TryAddFault) (result : Result Receipt AddFault)
     (T : Type 0) → OnOk added T → IsWaited added result → OnOk result T
-told_waited (Ok receipt) result T told is = subst (λ (r : Result Receipt AddFault). OnOk r T) (sym is) told
-told_waited (Err Busy) result T told is = absurd is
-told_waited (Err (Refused fault)) result T told is =
+reported_waited (Ok receipt) result T reported is = subst (λ (r : Result Receipt AddFault). OnOk r T) (sym is) reported
+reported_waited (Err Busy) result T reported is = absurd is
+reported_waited (Err (Refused fault)) result T reported is =
     subst (λ (r : Result Receipt AddFault). OnOk r T) (sym is) tt
 
 pub was_tried : (tries : Option ℕ) (added : Added)

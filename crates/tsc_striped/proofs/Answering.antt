@@ -6,11 +6,11 @@ use Rattle.std.proofs.lemmas.List.{length_push}
 use Rattle.std.proofs.lemmas.Bool.Decides.{nat_tests}
 use Rattle.std.proofs.lemmas.List.Elements.{Contains-append_right}
 use Rattle.tsc_time.specs.Time.{Time, is_before}
-use Rattle.tsc_time.specs.OwnedTime.{OwnedTime, unowned}
+use Rattle.tsc_time.specs.ValueView.{ValueView, unowned}
 use Rattle.tsc_time.specs.Joint.{IsAtMost}
 use Rattle.tsc_time.proofs.TimeOrder.{is_before-itself, is_before-opposite}
 use Rattle.tsc_time.proofs.RatchetOrder.{IsAtMost-transitive}
-use Rattle.tsc_span.specs.Span.{Interval}
+use Rattle.tsc_span.specs.Span.{SpanView}
 use Rattle.tsc_cache.specs.declared.history.Entry.{Entry}
 use Rattle.tsc_cache.specs.History.{History, BeginsWith}
 use Rattle.tsc_cache.specs.Laws.{IsClearOf}
@@ -20,19 +20,19 @@ use Rattle.tsc_left_right.proofs.Prefixes.{seen_whole}
 use Rattle.tsc_striped.specs.Touching.{first_touched, last_touched}
 use Rattle.tsc_striped.specs.Looks.{look_on, look_over}
 use Rattle.tsc_striped.specs.Seats.{SeatView, IsSeat}
-use Rattle.tsc_striped.specs.Answers.{IsAbove, TellsNoPart}
+use Rattle.tsc_striped.specs.Answers.{IsAbove, ReportsNoPart}
 use Rattle.tsc_striped.proofs.Histories.{among_answers, kept_up_over, no_write_below_a_read_over}
 use Rattle.tsc_striped.proofs.Reals.{floor_below}
 
 -- what a floor is at most is no earlier than it
-no_earlier : (floor : Time) (v : OwnedTime) → IsAtMost (unowned floor) v
+no_earlier : (floor : Time) (v : ValueView) → IsAtMost (unowned floor) v
     → is_before v.time floor ≡ false
 no_earlier floor v (inl early) = is_before-opposite floor v.time early
 no_earlier floor v (inr there) =
     subst (λ (t : Time). is_before t floor ≡ false) there.0 (is_before-itself floor)
 
 -- what a lookup answers is above all that was seen
-pub is_above : (seat : SeatView) (span : Interval) (value : OwnedTime) → IsSeat seat
+pub is_above : (seat : SeatView) (span : SpanView) (value : ValueView) → IsSeat seat
     → value ≡ look_over seat.cache.terms seat.seen span → IsAbove seat span value
 is_above seat span value was is =
     let terms : Terms = seat.cache.terms in
@@ -50,13 +50,13 @@ is_above seat span value was is =
           (among_answers terms h span more first stripe touched.from touched.to)));
       clear = λ writer time clear e m there own over. no_write_below_a_read_over terms h span writer
           time was.settled.in_order
-          (subst (λ (v : OwnedTime). IsClearOf v writer time) is clear) e m there own over;
+          (subst (λ (v : ValueView). IsClearOf v writer time) is clear) e m there own over;
     }
 
 -- Of an entry either all was seen, or nothing, so a lookup tells no part of one.
-pub tells_no_part : (seat : SeatView) (span : Interval) (value : OwnedTime)
-    → IsAbove seat span value → TellsNoPart seat span value
-tells_no_part seat span value above before after e b =
+pub reports_no_part : (seat : SeatView) (span : SpanView) (value : ValueView)
+    → IsAbove seat span value → ReportsNoPart seat span value
+reports_no_part seat span value above before after e b =
     elim (seen_whole before after seat.seen e b) [
       | inl late ↦ inl late
       | inr seen ↦ inr (

@@ -5,12 +5,12 @@ use Rattle.std.specs.Prelude.{min, ◌^◌, Result, Ok, Err, IfOk, OnErr}
 use Rattle.atomic_table.specs.Table.{rest}
 use Rattle.tsc_time.specs.Time.{Time}
 use Rattle.tsc_span.specs.Span.{KeyBytes}
-use Rattle.tsc_page_nodes.specs.Page.{Mark}
+use Rattle.tsc_page_model.specs.Page.{Mark}
 use Rattle.tsc_cache.specs.declared.added.Added.{Added}
 use Rattle.tsc_cache.specs.declared.history.Entry.{Entry}
-use Rattle.tsc_cache.specs.Settings.{Settings}
+use Rattle.tsc_cache.specs.ConfigView.{ConfigView}
 use Rattle.tsc_cache.specs.State.{step_all, not_kept, added_with}
-use Rattle.tsc_cache.specs.CacheView.{CacheView, RepresentsState, StandsAfterAll, TellsAddedAll}
+use Rattle.tsc_cache.specs.CacheView.{CacheView, RepresentsState, StandsAfterAll, ReportsAddedAll}
 use Rattle.tsc_cache.specs.History.{History, CanAllBeAdded}
 use Rattle.tsc_cache.proofs.Steps.{answer_alone}
 use Rattle.tsc_time.specs.declared.memory.NoMemory.{NoMemory}
@@ -18,7 +18,7 @@ use Rattle.tsc_stripe_table.specs.declared.stripe.Version.{Version}
 use Rattle.tsc_stripe_table.specs.declared.table.Knowledge.{Knowledge}
 use Rattle.tsc_stripe_table.specs.Stripes.{Terms, marks_in, entry_with, entry_in}
 use Rattle.tsc_stripe_table.specs.Stripes.{part_of, state_on, IsStateOn}
-use Rattle.tsc_stripe_table.specs.Rule.{LaidStripe, times_held, Descends}
+use Rattle.tsc_stripe_table.specs.Rule.{StoredStripe, times_held, Descends}
 use Rattle.tsc_stripe_table.specs.Steps.{At, state_in, with_state, holds_of}
 use Rattle.tsc_stripe_table.specs.Steps.{reached_of, reached_with, released}
 use Rattle.tsc_stripe_table.specs.Steps.{Acquires, Commits, IsCovered}
@@ -130,15 +130,15 @@ can_acquire_above v stripe next can up is = record {
 pub is_version_of : (cache same : CacheView) (ms these : List Mark) (now : Time)
     (r : Result Version NoMemory) → cache ≡ same → ms ≡ these
     → IfOk r (λ next. StandsAfterAll cache next.cache ms now)
-    → IfOk r (λ next. TellsAddedAll cache ms now next.added)
+    → IfOk r (λ next. ReportsAddedAll cache ms now next.added)
     → IfOk r (λ next. IsVersion same next.cache these now next.added)
-is_version_of cache same ms these now (Ok next) is are stands tells =
+is_version_of cache same ms these now (Ok next) is are stands reports =
     subst (λ (v : CacheView). IsVersion v next.cache these now next.added) is
     (subst (λ (ns : List Mark). IsVersion cache next.cache ns now next.added) are (record {
       stands = stands;
-      added_is = tells;
+      added_is = reports;
     }))
-is_version_of cache same ms these now (Err fault) is are stands tells = tt
+is_version_of cache same ms these now (Err fault) is are stands reports = tt
 
 -- the next version of a cache stands for the history with the entry
 pub version_stands : (terms : Terms) (stripe : ℕ) (h g : History) (e : Entry)
@@ -169,7 +169,7 @@ no_entry bounds i e none = ap (entry_with e) none
 -- A seat that may add a batch from a stripe on has acquired the lock of the next one on which the
 -- batch lies, and has it in hand.
 pub record HasAcquired (me me1 : At) (batch : Batch) (from stripe : ℕ) : Type 0 where
-  pub x : LaidStripe
+  pub x : StoredStripe
   pub can : CanAddFrom me batch from
   pub up : from ≤ stripe
   pub low : stripe ≤ batch.last
@@ -177,7 +177,7 @@ pub record HasAcquired (me me1 : At) (batch : Batch) (from stripe : ℕ) : Type 
   pub a : Acquires me.0 me1.0 stripe x.value.cache
   pub hand : me1.1 ≡ (stripe, x) ∷ me.1
 
-pub has_acquired : (me me0 me1 : At) (batch : Batch) (from stripe : ℕ) (x : LaidStripe)
+pub has_acquired : (me me0 me1 : At) (batch : Batch) (from stripe : ℕ) (x : StoredStripe)
     → Acquires me.0 me0.0 stripe x.value.cache → me0.1 ≡ (stripe, x) ∷ me.1 → me1 ≡ me0
     → CanAddFrom me batch from → from ≤ stripe → stripe ≤ batch.last
     → SkipsTo me.0.setup.bounds batch from stripe → HasAcquired me me1 batch from stripe
@@ -193,7 +193,7 @@ has_acquired me me0 me1 batch from stripe x a hand same can up low skips = recor
 
 module _ (me me1 : At) (batch : Batch) (from stripe : ℕ)
     (q : HasAcquired me me1 batch from stripe) where
-  abbrev x : LaidStripe
+  abbrev x : StoredStripe
   x = q.x
 
   abbrev can : CanAddFrom me batch from
@@ -241,25 +241,25 @@ module _ (me me1 : At) (batch : Batch) (from stripe : ℕ)
 
   -- what the next version is
   pub version_is : (me0 : At) (next : CacheView) (own : Added) → me1 ≡ me0
-      → ((y : LaidStripe) → HasStripe me0 stripe y → IsCut me0.0.setup.bounds batch
+      → ((y : StoredStripe) → HasStripe me0 stripe y → IsCut me0.0.setup.bounds batch
       → IsVersion y.value.cache next (marks_in me0.0.setup.bounds stripe batch.marks.items)
       batch.moment own)
       → IsVersion x.value.cache next (marks_in me.0.setup.bounds stripe batch.marks.items)
       batch.moment own
-  version_is me0 next own is tells =
+  version_is me0 next own is reports =
       subst (λ (t : Terms). IsVersion x.value.cache next
       (marks_in t.bounds stripe batch.marks.items) batch.moment own) setup_same
-      (subst (λ (m : At). (y : LaidStripe) → HasStripe m stripe y → IsCut m.0.setup.bounds batch
+      (subst (λ (m : At). (y : StoredStripe) → HasStripe m stripe y → IsCut m.0.setup.bounds batch
       → IsVersion y.value.cache next (marks_in m.0.setup.bounds stripe batch.marks.items)
-      batch.moment own) (sym is) tells x has_it
+      batch.moment own) (sym is) reports x has_it
       (subst (λ (t : Terms). IsCut t.bounds batch) (sym setup_same) can.cut))
 
   -- it has room for what lies there
-  pub room_in : (y : LaidStripe) → HasStripe me1 stripe y
-      → least_page_max ≤ y.value.cache.settings.page_max
-  room_in y has = subst (λ (z : LaidStripe). least_page_max ≤ z.value.cache.settings.page_max)
+  pub room_in : (y : StoredStripe) → HasStripe me1 stripe y
+      → least_page_max ≤ y.value.cache.config.page_max
+  room_in y has = subst (λ (z : StoredStripe). least_page_max ≤ z.value.cache.config.page_max)
       (same_in_hand me1.1 stripe stripe x y me.1 (rest me1.1) q.hand has.hand)
-      (subst (λ (s : Settings). least_page_max ≤ s.page_max) (sym a.stands.set_up) can.room)
+      (subst (λ (s : ConfigView). least_page_max ≤ s.page_max) (sym a.stands.set_up) can.room)
 
   -- it may release it again
   pub can_release_it : CanRelease me1 stripe x

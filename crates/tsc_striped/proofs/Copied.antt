@@ -3,11 +3,11 @@ use Rattle.std.proofs.Common.{◌≡◌, ◌∙◌, refl, sym, ap, subst, ℕ, s
 use Rattle.std.proofs.Common.{◌∷◌, ◌++◌, arith}
 use Rattle.std.proofs.lemmas.List.{append_assoc}
 use Rattle.atomic_table.specs.Table.{rest}
-use Rattle.tsc_span.specs.Span.{KeyBytes, Interval}
+use Rattle.tsc_span.specs.Span.{KeyBytes, SpanView}
 use Rattle.tsc_cache.specs.CacheView.{CacheView}
 use Rattle.tsc_cache.specs.History.{History}
 use Rattle.tsc_stripe_table.specs.Stripes.{state_on, IsStateOn}
-use Rattle.tsc_stripe_table.specs.Rule.{LaidStripe}
+use Rattle.tsc_stripe_table.specs.Rule.{StoredStripe}
 use Rattle.tsc_stripe_table.specs.Steps.{At, state_in, with_state, holds_of, reached_of, reached_with}
 use Rattle.tsc_stripe_table.specs.Steps.{released, released_seen, Acquires}
 use Rattle.tsc_stripe_table.specs.Participating.{Participant, IsAtRest, IsStripe, HasStripe}
@@ -39,12 +39,12 @@ stays_put me me' stripe last can is = record {
 
 -- A seat that may copy from a stripe on has acquired its lock, and has it in hand.
 pub record HasTaken (me me1 : At) (stripe last : ℕ) : Type 0 where
-  pub x : LaidStripe
+  pub x : StoredStripe
   pub can : CanShareFrom me stripe last
   pub a : Acquires me.0 me1.0 stripe x.value.cache
   pub hand : me1.1 ≡ (stripe, x) ∷ me.1
 
-pub has_taken : (me me0 me1 : At) (stripe last : ℕ) (x : LaidStripe)
+pub has_taken : (me me0 me1 : At) (stripe last : ℕ) (x : StoredStripe)
     → Acquires me.0 me0.0 stripe x.value.cache → me0.1 ≡ (stripe, x) ∷ me.1 → me1 ≡ me0
     → CanShareFrom me stripe last → HasTaken me me1 stripe last
 has_taken me me0 me1 stripe last x a hand same can = record {
@@ -55,7 +55,7 @@ has_taken me me0 me1 stripe last x a hand same can = record {
 }
 
 module _ (me me1 : At) (stripe last : ℕ) (q : HasTaken me me1 stripe last) where
-  abbrev x : LaidStripe
+  abbrev x : StoredStripe
   x = q.x
 
   abbrev can : CanShareFrom me stripe last
@@ -86,11 +86,11 @@ module _ (me me1 : At) (stripe last : ℕ) (q : HasTaken me me1 stripe last) whe
 
   -- what the copy is of
   pub copy_is : (me0 : At) (copy : CacheView) → me1 ≡ me0
-      → ((y : LaidStripe) → HasStripe me0 stripe y → IsCopy y.value.cache copy)
+      → ((y : StoredStripe) → HasStripe me0 stripe y → IsCopy y.value.cache copy)
       → IsCopy x.value.cache copy
-  copy_is me0 copy is tells =
-      subst (λ (m : At). (y : LaidStripe) → HasStripe m stripe y → IsCopy y.value.cache copy)
-      (sym is) tells x has_it
+  copy_is me0 copy is reports =
+      subst (λ (m : At). (y : StoredStripe) → HasStripe m stripe y → IsCopy y.value.cache copy)
+      (sym is) reports x has_it
 
   -- it may release it again
   pub can_release_it : CanRelease me1 stripe x
@@ -235,7 +235,7 @@ all_shared me me' first last old copies rested none r = record {
 }
 
 -- and so a seat takes a snapshot
-pub takes_snapshot : (old new : Participant) (bounds : List KeyBytes) (span : Interval)
+pub takes_snapshot : (old new : Participant) (bounds : List KeyBytes) (span : SpanView)
     (first last high : ℕ) (snapshot : Snapshot) → IsSeat (seat_view old)
     → new.table_id ≡ old.table_id → bounds ≡ old.me.0.setup.bounds
     → first ≡ first_touched bounds span → last ≡ last_touched bounds span

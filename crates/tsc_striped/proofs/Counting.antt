@@ -6,7 +6,7 @@ use mathlib.Core.Bool.{true≢false}
 use Rattle.std.proofs.lemmas.Bool.{cases_Bool, and_parts}
 use Rattle.std.proofs.lemmas.List.Sums.{sum_by-cons}
 use Rattle.tsc_span.specs.Span.{KeyBytes, Cut, before, is_below}
-use Rattle.tsc_page_nodes.proofs.CutOrder.{Le-chain, Le-from_Lt, Lt-chain}
+use Rattle.tsc_span.proofs.CutOrder.{Le-chain, Le-from_Lt, Lt-chain}
 use Rattle.tsc_striped.specs.Touching.{ascend, are_in_order, stripe_above, stripe_below}
 
 -- a test that fails for a key fails for each one above it

@@ -13,9 +13,9 @@ use Rattle.std.proofs.lemmas.List.{take_more}
 use Rattle.tsc_span.specs.Span.{KeyBytes, key_cmp, before, after, is_below, start_cut, end_cut}
 use Rattle.tsc_span.specs.Span.{range, between, longest_key}
 use Rattle.tsc_span.specs.MadeSpan.{IsKey}
-use Rattle.tsc_span.proofs.CutOrder.{key_cmp-same}
+use Rattle.tsc_span.proofs.CutsTotal.{key_cmp-same}
 use Rattle.tsc_span.proofs.Ranges.{range_of_less, range_of_equal}
-use Rattle.tsc_page_nodes.specs.Page.{Mark}
+use Rattle.tsc_page_model.specs.Page.{Mark}
 use Rattle.tsc_stripe_table.specs.Stripes.{at_bound, stripe_start, stripe_end, piece_of, mark_on}
 use Rattle.tsc_stripe_table.specs.Stripes.{marks_in}
 

@@ -20,10 +20,9 @@ use Rattle.tsc_stripe_table.specs.Closing.{EndFits, IsEnd}
 use Rattle.tsc_stripe_table.proofs.Prefixes.{own_append, own_of_one}
 use Rattle.tsc_left_right.proofs.Plain.{at_left, at_right}
 use Rattle.tsc_stripe_table.proofs.Openings.{nobody_fresh}
-use Rattle.tsc_striped.specs.declared.answers.Closed.{Closed}
 use Rattle.tsc_striped.specs.Seats.{DealerView, SeatView}
 use Rattle.tsc_striped.specs.Keeping.{state_of_seat}
-use Rattle.tsc_striped.specs.Answers.{Closes, Retires}
+use Rattle.tsc_striped.specs.Answers.{Retires}
 use Rattle.tsc_striped.proofs.Touches.{in_or_past}
 
 -- the states of the seats that were dealt, and of those that were not
@@ -178,22 +177,6 @@ retires dealer seats ps key caches same some is end_ =
       ];
       number = next.number;
       made = next.made;
-    }
-
--- the closed cache
-pub closes : (dealer : DealerView) (seats : List SeatView) (ps : List SeatState) (key : Terms)
-    (closed : Closed) → key ≡ dealer.cache.terms
-    → dealer.dealt ≤ dealer.cache.terms.seats
-    → ps ≡ all_states seats dealer.dealt (dealer.cache.terms.seats - dealer.dealt)
-    → IsEnd key ps closed.caches.items → Closes dealer seats closed
-closes dealer seats ps key closed same some is end_ =
-    let r = retires dealer seats ps key closed.caches.items same some is end_ in record {
-      each = r.each;
-      history = r.history;
-      legal = r.legal;
-      begins = r.begins;
-      own = r.own;
-      stripes = r.stripes;
     }
 
 -- the states that have come together

@@ -8,14 +8,14 @@ use Rattle.std.proofs.lemmas.Grind.{flat_map-append}
 use Rattle.std.proofs.lemmas.List.Elements.{Contains-append_left, Contains-append_right}
 use Rattle.std.specs.List.{flat_map}
 use Rattle.tsc_time.specs.Time.{Time, time_minus, is_before}
-use Rattle.tsc_time.specs.OwnedTime.{OwnedTime, unowned, is_same_owner}
+use Rattle.tsc_time.specs.ValueView.{ValueView, unowned, is_same_owner}
 use Rattle.tsc_time.specs.Joint.{IsAtMost, ratcheted}
 use Rattle.tsc_time.proofs.TimeOrder.{same_from_neither_before}
 use Rattle.tsc_time.proofs.SharedOwner.{is_same_owner-Decides}
 use Rattle.tsc_time.proofs.RatchetOrder.{IsAtMost-itself, IsAtMost-transitive}
 use Rattle.tsc_time.proofs.Members.{IsIn, IsIn-from_Contains, Contains-from_IsIn}
-use Rattle.tsc_span.specs.Span.{KeyBytes, Interval, between}
-use Rattle.tsc_page_nodes.specs.Page.{Mark}
+use Rattle.tsc_span.specs.Span.{KeyBytes, SpanView, between}
+use Rattle.tsc_page_model.specs.Page.{Mark}
 use Rattle.tsc_cache.specs.declared.history.Entry.{Entry}
 use Rattle.tsc_cache.specs.History.{History, BeginsWith}
 use Rattle.tsc_cache.proofs.Histories.{kept_up, rising, floor_behind, clear_below}
@@ -27,31 +27,31 @@ use Rattle.tsc_striped.specs.Laws.{KeptUp, Rising, FloorBehind, NoWriteBelowARea
 use Rattle.tsc_striped.proofs.Overlaps.{MeetsIn, meets_in}
 
 -- Which of two values their joint one is.
-pub record OneLater (v w : OwnedTime) : Type 0 where
+pub record OneLater (v w : ValueView) : Type 0 where
   pub early : is_before v.time w.time ≡ true
   pub is : ratcheted v w ≡ w
 
-pub record OtherLater (v w : OwnedTime) : Type 0 where
+pub record OtherLater (v w : ValueView) : Type 0 where
   pub early : is_before w.time v.time ≡ true
   pub is : ratcheted v w ≡ v
 
-pub record BothSame (v w : OwnedTime) : Type 0 where
+pub record BothSame (v w : ValueView) : Type 0 where
   pub time : v.time ≡ w.time
   pub owner : v.owner ≡ w.owner
   pub is : ratcheted v w ≡ v
 
-pub record OwnersDiffer (v w : OwnedTime) : Type 0 where
+pub record OwnersDiffer (v w : ValueView) : Type 0 where
   pub time : v.time ≡ w.time
   pub differ : v.owner ≡ w.owner → ⊥
   pub is : ratcheted v w ≡ unowned v.time
 
-pub data Joined (v w : OwnedTime) : Type 0 where
+pub data Joined (v w : ValueView) : Type 0 where
   one_later : OneLater v w → Joined v w
   other_later : OtherLater v w → Joined v w
   both_same : BothSame v w → Joined v w
   owners_differ : OwnersDiffer v w → Joined v w
 
-joined : (v w : OwnedTime) → Joined v w
+joined : (v w : ValueView) → Joined v w
 joined v w = elim (cases_Bool (is_before v.time w.time)) [
   | inl lt ↦ one_later (record { early = lt; is = rw lt refl })
   | inr ge ↦ elim (cases_Bool (is_before w.time v.time)) [
@@ -72,7 +72,7 @@ joined v w = elim (cases_Bool (is_before v.time w.time)) [
 ]
 
 -- it is above both, and below what is above both
-pub first_below : (v w : OwnedTime) → IsAtMost v (ratcheted v w)
+pub first_below : (v w : ValueView) → IsAtMost v (ratcheted v w)
 first_below v w = elim (joined v w) [
   | one_later c ↦ subst (IsAtMost v) (sym c.is) (inl c.early)
   | other_later c ↦ subst (IsAtMost v) (sym c.is) (IsAtMost-itself v)
@@ -80,7 +80,7 @@ first_below v w = elim (joined v w) [
   | owners_differ c ↦ subst (IsAtMost v) (sym c.is) (inr (refl, inl refl))
 ]
 
-pub second_below : (v w : OwnedTime) → IsAtMost w (ratcheted v w)
+pub second_below : (v w : ValueView) → IsAtMost w (ratcheted v w)
 second_below v w = elim (joined v w) [
   | one_later c ↦ subst (IsAtMost w) (sym c.is) (IsAtMost-itself w)
   | other_later c ↦ subst (IsAtMost w) (sym c.is) (inl c.early)
@@ -88,12 +88,12 @@ second_below v w = elim (joined v w) [
   | owners_differ c ↦ subst (IsAtMost w) (sym c.is) (inr (sym c.time, inl refl))
 ]
 
-pub both_below : (v w u : OwnedTime) → IsAtMost v u → IsAtMost w u → IsAtMost (ratcheted v w) u
+pub both_below : (v w u : ValueView) → IsAtMost v u → IsAtMost w u → IsAtMost (ratcheted v w) u
 both_below v w u p q = elim (joined v w) [
-  | one_later c ↦ subst (λ (x : OwnedTime). IsAtMost x u) (sym c.is) q
-  | other_later c ↦ subst (λ (x : OwnedTime). IsAtMost x u) (sym c.is) p
-  | both_same c ↦ subst (λ (x : OwnedTime). IsAtMost x u) (sym c.is) p
-  | owners_differ c ↦ subst (λ (x : OwnedTime). IsAtMost x u) (sym c.is) (elim p [
+  | one_later c ↦ subst (λ (x : ValueView). IsAtMost x u) (sym c.is) q
+  | other_later c ↦ subst (λ (x : ValueView). IsAtMost x u) (sym c.is) p
+  | both_same c ↦ subst (λ (x : ValueView). IsAtMost x u) (sym c.is) p
+  | owners_differ c ↦ subst (λ (x : ValueView). IsAtMost x u) (sym c.is) (elim p [
     | inl early ↦ inl early
     | inr there ↦ elim there.1 [
       | inl none ↦ inr (there.0, inl none)
@@ -109,7 +109,7 @@ both_below v w u p q = elim (joined v w) [
 ]
 
 -- what a stripe answers is at most what some answer among which it is
-pub among_answers : (terms : Terms) (h : History) (s : Interval) (more from stripe : ℕ)
+pub among_answers : (terms : Terms) (h : History) (s : SpanView) (more from stripe : ℕ)
     → from ≤ stripe → stripe ≤ from + more
     → IsAtMost (look_on terms h s stripe) (look_from terms h s from more)
 among_answers terms h s zero from stripe low high =
@@ -168,7 +168,7 @@ has_cut bounds i h e m there some =
         (record e { marks = n ∷ ms }) (inl refl)
 
 -- no answer in the stripe where an Add and a span meet is below that Add
-pub kept_in : (terms : Terms) (h : History) (e : Entry) (m : Mark) (s : Interval)
+pub kept_in : (terms : Terms) (h : History) (e : Entry) (m : Mark) (s : SpanView)
     → Contains h e → Contains e.marks m → (meet : MeetsIn terms.bounds m.span s)
     → IsAtMost m.value (look_on terms h s meet.stripe)
 kept_in terms h e m s there own meet =
@@ -177,7 +177,7 @@ kept_in terms h e m s there own meet =
     let cut : Contains (marks_in terms.bounds i e.marks) piece =
     of_one (λ (n : Mark). mark_on (piece_of terms.bounds i n.span) n) e.marks m piece
     (IsIn-from_Contains e.marks m own)
-    (subst (λ (t : Interval). Contains (mark_on t m) piece) (sym meet.piece)
+    (subst (λ (t : SpanView). Contains (mark_on t m) piece) (sym meet.piece)
     (Contains-from_IsIn (piece ∷ []) piece (inl refl))) in
     kept_up terms.config (part_of terms.bounds i h)
     (record e { marks = marks_in terms.bounds i e.marks }) piece s
@@ -202,7 +202,7 @@ part_begins bounds i h start b = (
   ap (part_of bounds i) b.1 ∙ flat_map-append (entry_in bounds i) start b.0,
 )
 
-rising_from : (terms : Terms) (start h : History) (s : Interval) (more from : ℕ)
+rising_from : (terms : Terms) (start h : History) (s : SpanView) (more from : ℕ)
     → BeginsWith h start → IsAtMost (look_from terms start s from more) (look_from terms h s from
     more)
 rising_from terms start h s zero from b =
@@ -212,8 +212,8 @@ rising_from terms start h s (suc more) from b =
     let mine = rising.answers terms.config (part_of terms.bounds from start)
     (part_of terms.bounds from h) s (part_begins terms.bounds from h start b) in
     let others = rising_from terms start h s more (suc from) b in
-    let one : OwnedTime = look_on terms h s from in
-    let rest : OwnedTime = look_from terms h s (suc from) more in
+    let one : ValueView = look_on terms h s from in
+    let rest : ValueView = look_from terms h s (suc from) more in
     both_below (look_on terms start s from) (look_from terms start s (suc from) more)
     (ratcheted one rest)
     (IsAtMost-transitive (look_on terms start s from) one (ratcheted one rest) mine

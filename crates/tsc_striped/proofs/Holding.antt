@@ -3,15 +3,15 @@ use Rattle.std.proofs.Common.{◌≡◌, ◌∙◌, refl, sym, ap, subst, ℕ, s
 use Rattle.atomic_table.specs.Seated.{TableId}
 use Rattle.atomic_table.specs.Table.{rest}
 use Rattle.tsc_time.specs.Time.{Time}
-use Rattle.tsc_page_nodes.specs.Page.{Mark}
+use Rattle.tsc_page_model.specs.Page.{Mark}
 use Rattle.tsc_cache.specs.declared.added.Added.{Added}
 use Rattle.tsc_cache.specs.declared.history.Entry.{Entry}
 use Rattle.tsc_cache.specs.State.{step, step_all}
-use Rattle.tsc_cache.specs.CacheView.{CacheView, RepresentsState, StandsAfter, TellsAdded}
+use Rattle.tsc_cache.specs.CacheView.{CacheView, RepresentsState, StandsAfter, ReportsAdded}
 use Rattle.tsc_cache.specs.History.{History, own_count, entry_of_mark, BeginsWith, IsLegal, CanBeAdded}
 use Rattle.tsc_cache.specs.History.{state_of}
 use Rattle.tsc_stripe_table.specs.Stripes.{Terms, marks_in, state_on, IsStateOn}
-use Rattle.tsc_stripe_table.specs.Rule.{LaidStripe, Descends}
+use Rattle.tsc_stripe_table.specs.Rule.{StoredStripe, Descends}
 use Rattle.tsc_stripe_table.specs.Steps.{At, state_in, with_state, number_of, seen_of, count_of}
 use Rattle.tsc_stripe_table.specs.Steps.{reached_of, seated, acquired, released, released_seen}
 use Rattle.tsc_stripe_table.specs.Steps.{Acquires, Commits, made_in, mark_of, committed, IsCovered}
@@ -40,15 +40,15 @@ still_of p q table of same setup = record {
 }
 
 -- a seat that has acquired a lock, and reached a history
-abbrev pub holding : At → ℕ → History → LaidStripe → At
+abbrev pub holding : At → ℕ → History → StoredStripe → At
 holding me stripe h x = (with_state me.0 (acquired (state_in me.0) stripe h), (stripe, x) ∷ me.1)
 
-pub acquired_is : (me me' : At) (stripe : ℕ) (x : LaidStripe) (a : Acquires me.0 me'.0 stripe
+pub acquired_is : (me me' : At) (stripe : ℕ) (x : StoredStripe) (a : Acquires me.0 me'.0 stripe
     x.value.cache) → me'.1 ≡ (stripe, x) ∷ me.1 → me' ≡ holding me stripe a.history x
 acquired_is me me' stripe x a hand = λ i. (a.after i, hand i)
 
 -- has it in hand
-pub has_held : (me me' : At) (stripe : ℕ) (h : History) (x : LaidStripe) → IsStripe me.0 stripe
+pub has_held : (me me' : At) (stripe : ℕ) (h : History) (x : StoredStripe) → IsStripe me.0 stripe
     → me' ≡ holding me stripe h x → HasStripe me' stripe x
 has_held me me' stripe h x is same = subst (λ (m : At). HasStripe m stripe x) (sym same) (record {
   one = refl;
@@ -58,7 +58,7 @@ has_held me me' stripe h x is same = subst (λ (m : At). HasStripe m stripe x) (
 })
 
 -- and may release it as it was
-pub can_release : (me me' : At) (stripe : ℕ) (h : History) (x : LaidStripe) → IsStripe me.0 stripe
+pub can_release : (me me' : At) (stripe : ℕ) (h : History) (x : StoredStripe) → IsStripe me.0 stripe
     → me' ≡ holding me stripe h x → IsStateOn me.0.setup stripe h x.value.cache
     → CanRelease me' stripe x
 can_release me me' stripe h x is same stands = record {
@@ -68,7 +68,7 @@ can_release me me' stripe h x is same stands = record {
 }
 
 -- what is left once it is released
-pub released_is : (me me' me'' : At) (stripe : ℕ) (h : History) (x : LaidStripe) → IsAtRest me
+pub released_is : (me me' me'' : At) (stripe : ℕ) (h : History) (x : StoredStripe) → IsAtRest me
     → me' ≡ holding me stripe h x
     → me'' ≡ (with_state me'.0 (released (state_in me'.0)), rest me'.1) → me'' ≡ me
 released_is me me' me'' stripe h x rested same then' =
@@ -77,7 +77,7 @@ released_is me me' me'' stripe h x rested same then' =
     ∙ sym rested
 
 -- and once it is released after a look
-pub looked_is : (me me' me'' : At) (stripe : ℕ) (h : History) (x : LaidStripe)
+pub looked_is : (me me' me'' : At) (stripe : ℕ) (h : History) (x : StoredStripe)
     (holds : History → Type 0) → IsAtRest me → me' ≡ holding me stripe h x
     → BeginsWith h (seen_of me.0) → IsLegal me.0.setup.config me.0.setup.seats h
     → own_count (number_of me.0) h ≡ count_of me.0
@@ -95,7 +95,7 @@ looked_is me me' me'' stripe h x holds rested same begins legal own then' found 
 }
 
 -- It may commit the Add.
-pub can_commit : (me me' : At) (stripe : ℕ) (h : History) (x : LaidStripe) (old : CacheView)
+pub can_commit : (me me' : At) (stripe : ℕ) (h : History) (x : StoredStripe) (old : CacheView)
     (m : Mark) (now : Time) → IsAtRest me → IsStripe me.0 stripe → me' ≡ holding me stripe h x
     → LiesIn me.0.setup.bounds stripe m.span → CanBeAdded me.0.setup.config m now
     → mark_of x.value.pending ≡ m → x.value.pending.moment.value ≡ now
@@ -133,14 +133,15 @@ can_commit me me' stripe h x old m now rested is same lies can mark moment stand
         (state_on me.0.setup stripe h) m now lies.whole)
 
 -- what is left once it is committed
-pub committed_is : (me me' me'' : At) (stripe : ℕ) (h : History) (x : LaidStripe) (old : CacheView)
+pub committed_is : (me me' me'' : At) (stripe : ℕ) (h : History) (x : StoredStripe)
+    (old : CacheView)
     (m : Mark) (now : Time) (added : Added) → IsAtRest me → me' ≡ holding me stripe h x
     → LiesIn me.0.setup.bounds stripe m.span
     → mark_of x.value.pending ≡ m → x.value.pending.moment.value ≡ now
-    → IsStateOn me.0.setup stripe h old → TellsAdded old m now added
+    → IsStateOn me.0.setup stripe h old → ReportsAdded old m now added
     → Commits me'.0 me''.0 (made_in (state_in me'.0) me'.1) → me''.1 ≡ rest me'.1
     → AddsIn me me'' stripe m now added
-committed_is me me' me'' stripe h x old m now added rested same lies mark moment stands tells
+committed_is me me' me'' stripe h x old m now added rested same lies mark moment stands reports
     commits hand =
     let c : Commits (holding me stripe h x).0 me''.0 (e' ∷ []) = subst
     (λ (n : At). Commits n.0 me''.0 (made_in (state_in n.0) n.1)) same commits in
@@ -161,7 +162,7 @@ committed_is me me' me'' stripe h x old m now added rested same lies mark moment
       begins = c.begins;
       legal = subst (IsLegal me.0.setup.config me.0.setup.seats) whole c.legal;
       own = ap (own_count (number_of me.0)) (sym whole) ∙ c.own;
-      added_is = tells me.0.setup.config (state_on me.0.setup stripe h) stands
+      added_is = reports me.0.setup.config (state_on me.0.setup stripe h) stands
           ∙ ap (λ s. s.added) (sym (whole_mark_steps me.0.setup.config me.0.setup.bounds stripe
           (state_on me.0.setup stripe h) m now lies.whole))
           ∙ ap (λ (part : History). (step_all me.0.setup.config
@@ -178,17 +179,17 @@ committed_is me me' me'' stripe h x old m now added rested same lies mark moment
     entry = λ i. entry_of_mark (number_of me.0) (count_of me.0) (mark i) (moment i)
 
 -- what was taken is in hand
-pub in_hand : (hand zs : List (ℕ × LaidStripe)) (i : ℕ) (x : LaidStripe) → hand ≡ (i, x) ∷ zs
+pub in_hand : (hand zs : List (ℕ × StoredStripe)) (i : ℕ) (x : StoredStripe) → hand ≡ (i, x) ∷ zs
     → hand ≡ (i, x) ∷ rest hand
 in_hand hand zs i x e =
-    e ∙ ap (λ (ws : List (ℕ × LaidStripe)). (i, x) ∷ ws) (sym (ap rest e))
+    e ∙ ap (λ (ws : List (ℕ × StoredStripe)). (i, x) ∷ ws) (sym (ap rest e))
 
 -- what is in hand is what was taken
-hand_of : List (ℕ × LaidStripe) → LaidStripe → LaidStripe
+hand_of : List (ℕ × StoredStripe) → StoredStripe → StoredStripe
 hand_of [] d = d
 hand_of ((k, x) ∷ others) d = x
 
-pub same_in_hand : (hand : List (ℕ × LaidStripe)) (i j : ℕ) (x y : LaidStripe)
-    (zs ws : List (ℕ × LaidStripe)) → hand ≡ (i, x) ∷ zs → hand ≡ (j, y) ∷ ws → x ≡ y
+pub same_in_hand : (hand : List (ℕ × StoredStripe)) (i j : ℕ) (x y : StoredStripe)
+    (zs ws : List (ℕ × StoredStripe)) → hand ≡ (i, x) ∷ zs → hand ≡ (j, y) ∷ ws → x ≡ y
 unfolding hand_of
 same_in_hand hand i j x y zs ws e f = ap (λ h. hand_of h x) (sym e ∙ f)

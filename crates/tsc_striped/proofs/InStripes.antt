@@ -5,10 +5,10 @@ use Rattle.std.specs.Prelude.{◌==◌, true}
 use Rattle.std.proofs.lemmas.Bool.Decides.{nat_tests}
 use Rattle.std.proofs.lemmas.List.Concat.{flat_map-cons}
 use Rattle.tsc_time.specs.Time.{Time}
-use Rattle.tsc_time.specs.OwnedTime.{OwnedTime}
-use Rattle.tsc_span.specs.Span.{KeyBytes, Interval, nothing, between}
-use Rattle.tsc_page_nodes.specs.Page.{Mark}
-use Rattle.tsc_cache.specs.Settings.{Settings}
+use Rattle.tsc_time.specs.ValueView.{ValueView}
+use Rattle.tsc_span.specs.Span.{KeyBytes, SpanView, nothing, between}
+use Rattle.tsc_page_model.specs.Page.{Mark}
+use Rattle.tsc_cache.specs.ConfigView.{ConfigView}
 use Rattle.tsc_cache.specs.State.{CacheState, step, step_all}
 use Rattle.tsc_cache.specs.declared.history.Entry.{Entry}
 use Rattle.tsc_cache.specs.History.{History, state_of, entry_of_mark}
@@ -37,22 +37,22 @@ state_on_push terms i h e =
         (record e { marks = m ∷ ms })
 
 -- a mark that lies in a stripe as a whole is the one that lies there
-pub whole_mark_steps : (settings : Settings) (bounds : List KeyBytes) (i : ℕ) (s : CacheState)
+pub whole_mark_steps : (config : ConfigView) (bounds : List KeyBytes) (i : ℕ) (s : CacheState)
     (m : Mark) (now : Time) → piece_of bounds i m.span ≡ m.span
-    → step_all settings s (marks_in bounds i (m ∷ [])) now ≡ step settings s m now
-whole_mark_steps settings bounds i s m now whole =
-    ap (λ (ms : List Mark). step_all settings s ms now)
+    → step_all config s (marks_in bounds i (m ∷ [])) now ≡ step config s m now
+whole_mark_steps config bounds i s m now whole =
+    ap (λ (ms : List Mark). step_all config s ms now)
     (flat_map-cons (λ (n : Mark). mark_on (piece_of bounds i n.span) n) m []
     ∙ append-nil (mark_on (piece_of bounds i m.span) m)
-    ∙ ap (λ (span : Interval). mark_on span m) whole)
+    ∙ ap (λ (span : SpanView). mark_on span m) whole)
     ∙ alone m.span m.value
   where
-    alone : (span : Interval) (v : OwnedTime)
-        → step_all settings s (mark_on span (record { span = span; value = v })) now
-        ≡ step settings s (record { span = span; value = v }) now
+    alone : (span : SpanView) (v : ValueView)
+        → step_all config s (mark_on span (record { span = span; value = v })) now
+        ≡ step config s (record { span = span; value = v }) now
     alone nothing v = refl
     alone (between from to) v =
-        one_mark_is_a_step settings s (record { span = between from to; value = v }) now
+        one_mark_is_a_step config s (record { span = between from to; value = v }) now
 
 -- and none is there of a mark of which nothing lies there
 pub no_entry_there : (bounds : List KeyBytes) (i seat number : ℕ) (m : Mark) (now : Time)
@@ -62,7 +62,7 @@ no_entry_there bounds i seat number m now none =
     ap (entry_with (entry_of_mark seat number m now))
     (flat_map-cons (λ (n : Mark). mark_on (piece_of bounds i n.span) n) m []
     ∙ append-nil (mark_on (piece_of bounds i m.span) m)
-    ∙ ap (λ (span : Interval). mark_on span m) none)
+    ∙ ap (λ (span : SpanView). mark_on span m) none)
 
 same_number : (a b : ℕ) → a ≡ b → (a == b) ≡ true
 same_number a b e = grind (arith, nat_tests)

@@ -1,15 +1,15 @@
 -- Nothing of marks lies in the stripes that they do not touch.
 use Rattle.std.proofs.Common.{◌≡◌, ◌⊎◌, inl, inr, refl, ap, true, ℕ, zero, suc, ◌+◌, ◌<◌}
 use Rattle.std.proofs.Common.{List, length, take, get_or, arith, min, max}
-use Rattle.tsc_span.specs.Span.{KeyBytes, Interval, nothing, between}
-use Rattle.tsc_page_nodes.specs.Page.{Mark}
+use Rattle.tsc_span.specs.Span.{KeyBytes, SpanView, nothing, between}
+use Rattle.tsc_page_model.specs.Page.{Mark}
 use Rattle.tsc_stripe_table.specs.Stripes.{stripe_start, stripe_end, piece_of, mark_on}
 use Rattle.tsc_striped.specs.Touching.{are_in_order, first_touched, last_touched}
 use Rattle.tsc_striped.specs.Cutting.{LieWithin}
 use Rattle.tsc_striped.proofs.Touches.{low_bound, high_bound, piece_below, piece_above}
 use Rattle.tsc_striped.proofs.Cutting.{marks_none}
 
-pub none_outside : (bounds : List KeyBytes) (span : Interval) (stripe : ℕ)
+pub none_outside : (bounds : List KeyBytes) (span : SpanView) (stripe : ℕ)
     → are_in_order bounds ≡ true
     → (stripe < first_touched bounds span) ⊎ (last_touched bounds span < stripe)
     → piece_of bounds stripe span ≡ nothing
@@ -30,7 +30,7 @@ pub within_more : (bounds : List KeyBytes) (ms : List Mark) (k : ℕ) (m : Mark)
     (max (last_touched bounds m.span) last)
 within_more bounds ms k m first last up in_range is before stripe out =
     marks_none bounds stripe ms k m in_range is (before stripe (outside_before out))
-    (ap (λ (span : Interval). mark_on span m)
+    (ap (λ (span : SpanView). mark_on span m)
     (none_outside bounds m.span stripe up (outside_here out)))
   where
     outside_before : (stripe < min (first_touched bounds m.span) first)

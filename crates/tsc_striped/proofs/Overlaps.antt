@@ -6,10 +6,10 @@ use mathlib.Core.Bool.{true≢false}
 use Rattle.std.proofs.lemmas.Bool.{cases_Bool}
 use Rattle.std.proofs.lemmas.List.Sums.{sum_by-cons}
 use Rattle.tsc_span.specs.Span.{KeyBytes, Cut, before, last, is_below, greater_cut, smaller_cut}
-use Rattle.tsc_span.specs.Span.{Interval, nothing, between, overlaps}
-use Rattle.tsc_page_nodes.proofs.CutOrder.{Lt, Le, Lt-or_Le, Le-itself, Le-from_Lt, Le-chain}
-use Rattle.tsc_page_nodes.proofs.CutOrder.{Le_Lt-chain, Lt_Le-chain, none_above_last, overlaps-from}
-use Rattle.tsc_page_nodes.proofs.CutOrder.{overlaps-tells}
+use Rattle.tsc_span.specs.Span.{SpanView, nothing, between, overlaps}
+use Rattle.tsc_span.proofs.CutOrder.{Lt, Le, Lt-or_Le, Le-itself, Le-from_Lt, Le-chain}
+use Rattle.tsc_span.proofs.CutOrder.{Le_Lt-chain, Lt_Le-chain, none_above_last, overlaps-from}
+use Rattle.tsc_span.proofs.CutOrder.{overlaps-reports}
 use Rattle.tsc_stripe_table.specs.Stripes.{stripe_start, stripe_end, piece_of}
 use Rattle.tsc_striped.specs.Touching.{are_in_order, stripe_above, stripe_below, first_touched}
 use Rattle.tsc_striped.specs.Touching.{last_touched}
@@ -115,7 +115,7 @@ greater_below a b c p q = elim (Lt-or_Le a b) [
 ]
 
 -- The stripe in which two spans overlap, and what lies of the first one there.
-pub record MeetsIn (bounds : List KeyBytes) (t s : Interval) : Type 0 where
+pub record MeetsIn (bounds : List KeyBytes) (t s : SpanView) : Type 0 where
   pub stripe : ℕ
   pub first : first_touched bounds s ≤ stripe
   pub last_ : stripe ≤ last_touched bounds s
@@ -124,12 +124,12 @@ pub record MeetsIn (bounds : List KeyBytes) (t s : Interval) : Type 0 where
   pub piece : piece_of bounds stripe t ≡ between from to
   pub over : overlaps (between from to) s ≡ true
 
-pub meets_in : (bounds : List KeyBytes) (t s : Interval) → are_in_order bounds ≡ true
+pub meets_in : (bounds : List KeyBytes) (t s : SpanView) → are_in_order bounds ≡ true
     → overlaps t s ≡ true → MeetsIn bounds t s
 meets_in bounds nothing s up over = absurd (true≢false (sym over))
 meets_in bounds (between a b) nothing up over = absurd (true≢false (sym over))
 meets_in bounds (between a b) (between c d) up over =
-    let m = overlaps-tells a b c d over in
+    let m = overlaps-reports a b c d over in
     let g : Cut = greater_cut a c in
     let i : ℕ = stripe_above bounds g in
     let start : Cut = stripe_start bounds i in
@@ -157,7 +157,7 @@ meets_in bounds (between a b) (between c d) up over =
     }
 
 -- Where two spans overlap, and what lies of both of them there.
-pub record MeetsAt (bounds : List KeyBytes) (t s : Interval) : Type 0 where
+pub record MeetsAt (bounds : List KeyBytes) (t s : SpanView) : Type 0 where
   pub start : Cut
   pub stop : Cut
   pub meet : MeetsIn bounds t (between start stop)
@@ -166,12 +166,12 @@ pub record MeetsAt (bounds : List KeyBytes) (t s : Interval) : Type 0 where
   pub part : piece_of bounds meet.stripe s ≡ between start stop
   pub below : Lt start stop
 
-pub meets_at : (bounds : List KeyBytes) (t s : Interval) → are_in_order bounds ≡ true
+pub meets_at : (bounds : List KeyBytes) (t s : SpanView) → are_in_order bounds ≡ true
     → overlaps t s ≡ true → MeetsAt bounds t s
 meets_at bounds nothing s up over = absurd (true≢false (sym over))
 meets_at bounds (between a b) nothing up over = absurd (true≢false (sym over))
 meets_at bounds (between a b) (between c d) up over =
-    let m = overlaps-tells a b c d over in
+    let m = overlaps-reports a b c d over in
     let g : Cut = greater_cut a c in
     let i : ℕ = stripe_above bounds g in
     let start : Cut = stripe_start bounds i in

@@ -6,16 +6,16 @@ use Rattle.std.specs.List.{Contains}
 use mathlib.Core.Bool.{true≢false}
 use Rattle.std.proofs.lemmas.Grind.{flat_map-append}
 use Rattle.tsc_time.specs.Time.{Time, is_before, later}
-use Rattle.tsc_time.specs.OwnedTime.{OwnedTime, unowned}
+use Rattle.tsc_time.specs.ValueView.{ValueView, unowned}
 use Rattle.tsc_time.specs.Joint.{joint_above, IsAtMost, ratcheted}
 use Rattle.tsc_time.proofs.TimeOrder.{is_before-itself, is_before-opposite, no_earlier-transitive}
-use Rattle.tsc_time.proofs.TimeOrder.{later-tells}
+use Rattle.tsc_time.proofs.TimeOrder.{later-reports}
 use Rattle.tsc_time.proofs.RatchetOrder.{IsAtMost-antisymmetric, IsAtMost-transitive}
 use Rattle.tsc_time.proofs.Members.{IsIn, IsIn-from_Contains, Contains-from_IsIn}
 use Rattle.tsc_span.specs.Span.{KeyBytes, Cut, is_below, greater_cut, smaller_cut}
-use Rattle.tsc_span.specs.Span.{Interval, nothing, between, overlaps}
-use Rattle.tsc_page_nodes.specs.Page.{Mark}
-use Rattle.tsc_page_nodes.proofs.CutOrder.{Le_Lt-chain, Lt_Le-chain, overlaps-tells, overlaps-from}
+use Rattle.tsc_span.specs.Span.{SpanView, nothing, between, overlaps}
+use Rattle.tsc_page_model.specs.Page.{Mark}
+use Rattle.tsc_span.proofs.CutOrder.{Le_Lt-chain, Lt_Le-chain, overlaps-reports, overlaps-from}
 use Rattle.tsc_cache.specs.declared.history.Entry.{Entry}
 use Rattle.tsc_cache.specs.History.{History, marks_of, marks_on}
 use Rattle.tsc_cache.proofs.FloorJoints.{above_floor, least_above, more_above}
@@ -30,7 +30,7 @@ use Rattle.tsc_striped.proofs.Overlaps.{greater_first, smaller_first_}
 use Rattle.tsc_striped.proofs.Histories.{first_below, second_below, both_below, kept_up_over}
 
 -- the floor of a stripe is at most what it answers
-pub floor_below : (terms : Terms) (h : History) (s : Interval) (i : ℕ)
+pub floor_below : (terms : Terms) (h : History) (s : SpanView) (i : ℕ)
     → IsAtMost (unowned (state_on terms i h).floor) (look_on terms h s i)
 floor_below terms h s i =
     let floor : Time = (state_on terms i h).floor in
@@ -39,15 +39,15 @@ floor_below terms h s i =
     (above_floor floor (marks_on s part))
 
 -- and the greatest floor of some stripes is at most what these answer
-floors_below : (terms : Terms) (h : History) (s : Interval) (more from : ℕ)
+floors_below : (terms : Terms) (h : History) (s : SpanView) (more from : ℕ)
     → IsAtMost (unowned (floor_from terms h from more)) (look_from terms h s from more)
 floors_below terms h s zero from = floor_below terms h s from
 floors_below terms h s (suc more) from =
     let one : Time = (state_on terms from h).floor in
     let rest : Time = floor_from terms h (suc from) more in
-    let v : OwnedTime = look_on terms h s from in
-    let w : OwnedTime = look_from terms h s (suc from) more in
-    elim (later-tells one rest) [
+    let v : ValueView = look_on terms h s from in
+    let w : ValueView = look_from terms h s (suc from) more in
+    elim (later-reports one rest) [
       | inl c ↦ subst (λ (t : Time). IsAtMost (unowned t) (ratcheted v w)) (sym c.1)
           (IsAtMost-transitive (unowned rest) w (ratcheted v w)
           (floors_below terms h s more (suc from)) (second_below v w))
@@ -58,13 +58,13 @@ floors_below terms h s (suc more) from =
 
 -- the later of two times is before neither
 later_first : (a b : Time) → is_before (later a b) a ≡ false
-later_first a b = elim (later-tells a b) [
+later_first a b = elim (later-reports a b) [
   | inl c ↦ subst (λ (t : Time). is_before t a ≡ false) (sym c.1) (is_before-opposite a b c.0)
   | inr c ↦ subst (λ (t : Time). is_before t a ≡ false) (sym c.1) (is_before-itself a)
 ]
 
 later_second : (a b : Time) → is_before (later a b) b ≡ false
-later_second a b = elim (later-tells a b) [
+later_second a b = elim (later-reports a b) [
   | inl c ↦ subst (λ (t : Time). is_before t b ≡ false) (sym c.1) (is_before-itself b)
   | inr c ↦ subst (λ (t : Time). is_before t b ≡ false) (sym c.1) c.0
 ]
@@ -106,7 +106,7 @@ floor_among terms h (suc more) from i low high =
         (later one rest) (others above) (later_second one rest)
 
 -- what each of some answers is at most, they are together
-each_below : (terms : Terms) (h : History) (s : Interval) (u : OwnedTime) (more from : ℕ)
+each_below : (terms : Terms) (h : History) (s : SpanView) (u : ValueView) (more from : ℕ)
     → ((i : ℕ) → from ≤ i → i ≤ from + more → IsAtMost (look_on terms h s i) u)
     → IsAtMost (look_from terms h s from more) u
 each_below terms h s u zero from each = each from (omega arith) (omega arith)
@@ -154,7 +154,7 @@ cut_from bounds i (n ∷ ms) cut there =
       value = of.value;
     }
 
-    by_piece : (IsIn (marks_in bounds i ms) cut → IsCutFrom bounds i ms cut) → (t : Interval)
+    by_piece : (IsIn (marks_in bounds i ms) cut → IsCutFrom bounds i ms cut) → (t : SpanView)
         → piece_of bounds i n.span ≡ t → IsIn (mark_on t n ++ marks_in bounds i ms) cut
         → IsCutFrom bounds i (n ∷ ms) cut
     by_piece others nothing is rest = further (others rest)
@@ -167,7 +167,7 @@ cut_from bounds i (n ∷ ms) cut there =
     by_piece others (between from to) is (inr rest) = further (others rest)
 
 -- where what lies of a span in a stripe overlaps another one, the span does
-piece_overlaps : (bounds : List KeyBytes) (i : ℕ) (t s : Interval)
+piece_overlaps : (bounds : List KeyBytes) (i : ℕ) (t s : SpanView)
     → overlaps (piece_of bounds i t) s ≡ true → overlaps t s ≡ true
 piece_overlaps bounds i nothing s over = absurd (true≢false (sym over))
 piece_overlaps bounds i (between a b) s over =
@@ -179,7 +179,7 @@ piece_overlaps bounds i (between a b) s over =
     end : Cut
     end = stripe_end bounds i
 
-    by_test : (t : Bool) (o : Interval)
+    by_test : (t : Bool) (o : SpanView)
         → overlaps (if t then between (greater_cut a start) (smaller_cut b end) else nothing) o
         ≡ true → overlaps (between a b) o ≡ true
     by_test false o e = absurd (true≢false (sym e))
@@ -187,7 +187,7 @@ piece_overlaps bounds i (between a b) s over =
     by_test true (between c d) e =
         let low : Cut = greater_cut a start in
         let high : Cut = smaller_cut b end in
-        let m = overlaps-tells low high c d e in
+        let m = overlaps-reports low high c d e in
         overlaps-from a b c d (
           Lt_Le-chain a high b (Le_Lt-chain a low high (greater_first a start) m.0)
               (smaller_first_ b end),
@@ -197,7 +197,7 @@ piece_overlaps bounds i (between a b) s over =
         )
 
 -- a value on a span in a part is one of the history there
-part_values : (bounds : List KeyBytes) (h : History) (s : Interval) (i : ℕ) (v : OwnedTime)
+part_values : (bounds : List KeyBytes) (h : History) (s : SpanView) (i : ℕ) (v : ValueView)
     → Contains (marks_on s (part_of bounds i h)) v → Contains (marks_on s h) v
 part_values bounds h s i v there =
     let ms : List Mark = marks_of (part_of bounds i h) in
@@ -206,7 +206,7 @@ part_values bounds h s i v there =
     (subst (λ (ns : List Mark). IsIn ns m.0) (part_marks bounds i h)
     (IsIn-from_Contains ms m.0 m.1)) in
     let over : overlaps cut.mark.span s ≡ true = piece_overlaps bounds i cut.mark.span s
-    (subst (λ (t : Interval). overlaps t s ≡ true) (sym cut.piece) m.2) in
+    (subst (λ (t : SpanView). overlaps t s ≡ true) (sym cut.piece) m.2) in
     subst (Contains (marks_on s h)) (cut.value ∙ m.3)
     (values_on-has s (marks_of h) cut.mark
     (Contains-from_IsIn (marks_of h) cut.mark cut.there) over)
@@ -234,11 +234,11 @@ real_over terms h s up =
     let first : ℕ = first_touched terms.bounds s in
     let more : ℕ = last_touched terms.bounds s - first in
     let floor : Time = floor_over terms h s in
-    let all : OwnedTime = joint_above floor (marks_on s h) in
+    let all : ValueView = joint_above floor (marks_on s h) in
     IsAtMost-antisymmetric (look_over terms h s) all
     (each_below terms h s all more first (λ i low high.
     let part : History = part_of terms.bounds i h in
-    subst (λ (v : OwnedTime). IsAtMost v all) (sym (real_answers terms.config part s))
+    subst (λ (v : ValueView). IsAtMost v all) (sym (real_answers terms.config part s))
     (more_above (state_on terms i h).floor floor (marks_on s part) (marks_on s h)
     (floor_among terms h more first i low high)
     (λ v there. part_values terms.bounds h s i v there))))
@@ -246,6 +246,6 @@ real_over terms h s up =
     (λ v there.
     let m = values_on-from s (marks_of h) v there in
     let e = entry_of h m.0 (IsIn-from_Contains (marks_of h) m.0 m.1) in
-    subst (λ (w : OwnedTime). IsAtMost w (look_over terms h s)) m.3
+    subst (λ (w : ValueView). IsAtMost w (look_over terms h s)) m.3
     (kept_up_over terms h e.0 m.0 s up (Contains-from_IsIn h e.0 e.1)
     (Contains-from_IsIn e.0.marks m.0 e.2) m.2)))

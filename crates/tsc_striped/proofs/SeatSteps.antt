@@ -4,9 +4,9 @@ use Rattle.std.proofs.Common.{◌++◌, arith}
 use Rattle.std.specs.Prelude.{Option, Some, None, IfSome, IfNone}
 use Rattle.atomic_table.specs.Seated.{TableId}
 use Rattle.tsc_time.specs.Time.{Time}
-use Rattle.tsc_time.specs.OwnedTime.{OwnedTime}
-use Rattle.tsc_span.specs.Span.{KeyBytes, Interval}
-use Rattle.tsc_page_nodes.specs.Page.{Mark}
+use Rattle.tsc_time.specs.ValueView.{ValueView}
+use Rattle.tsc_span.specs.Span.{KeyBytes, SpanView}
+use Rattle.tsc_page_model.specs.Page.{Mark}
 use Rattle.tsc_cache.specs.Counts.{figures_of}
 use Rattle.tsc_cache.specs.declared.figures.Figures.{Figures}
 use Rattle.tsc_cache.specs.History.{History, own_count, BeginsWith, IsLegal}
@@ -25,7 +25,7 @@ use Rattle.tsc_striped.specs.Moves.{HasLooked}
 use Rattle.tsc_striped.specs.Batches.{AddsAll, entry_of_marks}
 use Rattle.tsc_striped.specs.Answers.{GoesOn, Accepts, IsAbove, AnswersLookup, ReadsFloor}
 use Rattle.tsc_striped.specs.Answers.{ReadsFigures}
-use Rattle.tsc_striped.proofs.Answering.{is_above, tells_no_part}
+use Rattle.tsc_striped.proofs.Answering.{is_above, reports_no_part}
 
 -- the seat of a participant that has seen a history then, with so many Adds of its own
 abbrev pub seat_after : Participant → History → ℕ → SeatView
@@ -149,7 +149,7 @@ same_if_busy old new None end table busy = (same_seat old new table busy.0, busy
 same_if_busy old new (Some value) end table busy = tt
 
 -- so a lookup answers
-pub answers_lookup : (old new : Participant) (span : Interval) (value : OwnedTime)
+pub answers_lookup : (old new : Participant) (span : SpanView) (value : ValueView)
     → IsSeat (seat_view old) → new.table_id ≡ old.table_id
     → HasLooked old.me new.me (λ h. value ≡ look_over old.me.0.setup h span)
     → AnswersLookup (seat_view old) (seat_view new) span value
@@ -167,11 +167,11 @@ answers_lookup old new span value was table l =
       count = looked_count old new holds table l;
       value_is = found;
       above = above;
-      whole = tells_no_part (seat_view new) span value above;
+      whole = reports_no_part (seat_view new) span value above;
     }
 
 -- in several stripes
-pub looked_over : (me me' : At) (bounds : List KeyBytes) (span : Interval) (value : OwnedTime)
+pub looked_over : (me me' : At) (bounds : List KeyBytes) (span : SpanView) (value : ValueView)
     (first last : ℕ) → bounds ≡ me.0.setup.bounds → first ≡ first_touched bounds span
     → last ≡ last_touched bounds span
     → HasLooked me me' (λ h. value ≡ look_from me.0.setup h span first (last - first))
@@ -191,7 +191,7 @@ looked_over me me' bounds span value first last same f l looked =
     }
 
 -- and in one
-pub looked_at : (me me' : At) (bounds : List KeyBytes) (span : Interval) (value : OwnedTime)
+pub looked_at : (me me' : At) (bounds : List KeyBytes) (span : SpanView) (value : ValueView)
     (first last : ℕ) → bounds ≡ me.0.setup.bounds → first ≡ first_touched bounds span
     → last ≡ last_touched bounds span → last ≤ first
     → HasLooked me me' (λ h. value ≡ look_on me.0.setup h span first)
@@ -338,8 +338,8 @@ front_of_seat p q number count k is = (
 )
 
 -- what a lookup in one or in several stripes answers, if it does
-pub answers_over : (old new : Participant) (bounds : List KeyBytes) (span : Interval)
-    (r : Option OwnedTime) (first last : ℕ) → IsSeat (seat_view old)
+pub answers_over : (old new : Participant) (bounds : List KeyBytes) (span : SpanView)
+    (r : Option ValueView) (first last : ℕ) → IsSeat (seat_view old)
     → new.table_id ≡ old.table_id → bounds ≡ old.me.0.setup.bounds
     → first ≡ first_touched bounds span → last ≡ last_touched bounds span
     → IfSome r (λ value. HasLooked old.me new.me
@@ -350,8 +350,8 @@ answers_over old new bounds span (Some value) first last was table same f l look
     answers_lookup old new span value was table
     (looked_over old.me new.me bounds span value first last same f l looked)
 
-pub answers_in : (old new : Participant) (bounds : List KeyBytes) (span : Interval)
-    (r : Option OwnedTime) (first last : ℕ) → IsSeat (seat_view old)
+pub answers_in : (old new : Participant) (bounds : List KeyBytes) (span : SpanView)
+    (r : Option ValueView) (first last : ℕ) → IsSeat (seat_view old)
     → new.table_id ≡ old.table_id → bounds ≡ old.me.0.setup.bounds
     → first ≡ first_touched bounds span → last ≡ last_touched bounds span → last ≤ first
     → IfSome r (λ value. HasLooked old.me new.me

@@ -13,7 +13,7 @@ use Rattle.tsc_cache.specs.History.{History}
 use Rattle.tsc_stripe_table.specs.declared.table.SeatState.{SeatState}
 use Rattle.tsc_stripe_table.specs.declared.table.Knowledge.{Knowledge}
 use Rattle.tsc_stripe_table.specs.Stripes.{Terms, stripe_count, IsStateOn}
-use Rattle.tsc_stripe_table.specs.Rule.{LaidStripe, StripesRule, keeping}
+use Rattle.tsc_stripe_table.specs.Rule.{StoredStripe, StripesRule, keeping}
 use Rattle.tsc_stripe_table.specs.Steps.{At}
 use Rattle.tsc_stripe_table.specs.Participating.{Participant}
 use Rattle.tsc_stripe_table.proofs.Endings.{each_there, lock_is_free}
@@ -23,7 +23,7 @@ use Rattle.tsc_striped.specs.Retiring.{KeepsAll, EndsAs, sees_end}
 use Rattle.tsc_striped.proofs.Endings.{all_states, all_gathered, none_held}
 
 abbrev Board : Type 0
-Board = State LaidStripe Knowledge
+Board = State StoredStripe Knowledge
 
 -- a list with a cache for each of the first stripes
 record Stand (setup : Terms) (history : History) (n : ℕ) : Type 0 where
@@ -88,7 +88,7 @@ end_in setup s k id v at same keeps =
       };
     })
 
-pub end_allowed : (setup : Terms) (slots : ℕ) (st : Step LaidStripe) (id i : ℕ) (me : At)
+pub end_allowed : (setup : Terms) (slots : ℕ) (st : Step StoredStripe) (id i : ℕ) (me : At)
     → Allows (StripesRule setup) slots id me i (λ n. n) (sees_end st me)
 end_allowed setup slots st id i me s k deep at small = (
   me.0,

@@ -2,14 +2,14 @@
 use Rattle.std.proofs.Common.{◌≡◌, ◌∙◌, refl, sym, ap, subst, ℕ, suc, ◌+◌, ◌-◌, ◌<◌, List, []}
 use Rattle.std.proofs.Common.{◌∷◌, length, arith}
 use Rattle.atomic_table.specs.Table.{rest}
-use Rattle.tsc_time.specs.OwnedTime.{OwnedTime}
+use Rattle.tsc_time.specs.ValueView.{ValueView}
 use Rattle.tsc_time.specs.Joint.{ratcheted}
-use Rattle.tsc_span.specs.Span.{Interval}
+use Rattle.tsc_span.specs.Span.{SpanView}
 use Rattle.tsc_cache.specs.State.{look}
 use Rattle.tsc_cache.specs.CacheView.{CacheView, RepresentsState}
 use Rattle.tsc_cache.specs.History.{History, state_of, BeginsWith, IsLegal, own_count}
 use Rattle.tsc_stripe_table.specs.Stripes.{Terms, part_of, IsStateOn}
-use Rattle.tsc_stripe_table.specs.Rule.{LaidStripe, times_held}
+use Rattle.tsc_stripe_table.specs.Rule.{StoredStripe, times_held}
 use Rattle.tsc_stripe_table.specs.Steps.{At, state_in, with_state, number_of, seen_of, count_of}
 use Rattle.tsc_stripe_table.specs.Steps.{holds_of, reached_of, reached_with, released}
 use Rattle.tsc_stripe_table.specs.Steps.{released_seen, Acquires, AgreeOn}
@@ -33,14 +33,14 @@ still_stands terms stripe h g cache same stands =
     (sym same) stands
 
 -- and is looked up alike
-looks_alike : (terms : Terms) (stripe : ℕ) (h g : History) (span : Interval)
+looks_alike : (terms : Terms) (stripe : ℕ) (h g : History) (span : SpanView)
     → part_of terms.bounds stripe g ≡ part_of terms.bounds stripe h
     → look_on terms h span stripe ≡ look_on terms g span stripe
 looks_alike terms stripe h g span same =
     ap (λ (part : History). look (state_of terms.config part) span) (sym same)
 
 -- a seat that holds a lock may acquire the next one
-pub can_acquire_next : (me me' : At) (stripe last : ℕ) (h : History) (x : LaidStripe)
+pub can_acquire_next : (me me' : At) (stripe last : ℕ) (h : History) (x : StoredStripe)
     → CanAcquire me.0 stripe → stripe < last → IsStripe me.0 last
     → me' ≡ holding me stripe h x → CanAcquire me'.0 (stripe + 1)
 can_acquire_next me me' stripe last h x can low is same =
@@ -51,13 +51,13 @@ can_acquire_next me me' stripe last h x can low is same =
       order = (omega arith, can.order);
     })
 
-pub holds_some : (me me' : At) (stripe : ℕ) (h : History) (x : LaidStripe)
+pub holds_some : (me me' : At) (stripe : ℕ) (h : History) (x : StoredStripe)
     → me' ≡ holding me stripe h x → 0 < length (holds_of me'.0)
 holds_some me me' stripe h x same =
     subst (λ (m : At). 0 < length (holds_of m.0)) (sym same) (omega arith)
 
 -- what it has reached
-pub has_reached : (me me' : At) (stripe : ℕ) (x : LaidStripe)
+pub has_reached : (me me' : At) (stripe : ℕ) (x : StoredStripe)
     (a : Acquires me.0 me'.0 stripe x.value.cache) → me' ≡ holding me stripe a.history x
     → HasReached me'.0
 has_reached me me' stripe x a same = subst (λ (m : At). HasReached m.0) (sym same) (record {
@@ -67,7 +67,7 @@ has_reached me me' stripe x a same = subst (λ (m : At). HasReached m.0) (sym sa
 })
 
 -- and it still has that one in hand where it has reached more
-pub still_holding : (me me' me'' : At) (stripe : ℕ) (h : History) (x : LaidStripe)
+pub still_holding : (me me' me'' : At) (stripe : ℕ) (h : History) (x : StoredStripe)
     (holds : History → Type 0) → me' ≡ holding me stripe h x → (r : ReachesOn me' me'' holds)
     → me'' ≡ holding me stripe r.history x
 still_holding me me' me'' stripe h x holds same r =
@@ -75,7 +75,7 @@ still_holding me me' me'' stripe h x holds same r =
     same
 
 -- no stripe that it holds had an Add meanwhile
-pub agrees : (me me' me'' : At) (stripe : ℕ) (h : History) (x : LaidStripe)
+pub agrees : (me me' me'' : At) (stripe : ℕ) (h : History) (x : StoredStripe)
     (holds : History → Type 0) → me' ≡ holding me stripe h x → (r : ReachesOn me' me'' holds)
     → AgreeOn me.0.setup.bounds (stripe ∷ holds_of me.0) r.history h
 agrees me me' me'' stripe h x holds same r =
@@ -87,7 +87,7 @@ left_holding : (holds : List ℕ) (h : History) → 0 < length holds → reached
 left_holding [] h some = absurd (omega (arith, some))
 left_holding (i ∷ others) h some = refl
 
-pub reaches_released : (me me' me'' : At) (stripe : ℕ) (h g : History) (x : LaidStripe)
+pub reaches_released : (me me' me'' : At) (stripe : ℕ) (h g : History) (x : StoredStripe)
     (holds : History → Type 0) → 0 < length (holds_of me.0) → me' ≡ holding me stripe g x
     → AgreeOn me.0.setup.bounds (holds_of me.0) h (reached_of me.0)
     → AgreeOn me.0.setup.bounds (stripe ∷ holds_of me.0) g h
@@ -123,15 +123,15 @@ reaches_nothing me me' stripe holds can r same found = record {
 }
 
 -- what the stripes from one on answer
-pub looks_last : (terms : Terms) (h : History) (span : Interval) (stripe last : ℕ)
-    (own : OwnedTime) → stripe ≡ last → own ≡ look_on terms h span stripe
+pub looks_last : (terms : Terms) (h : History) (span : SpanView) (stripe last : ℕ)
+    (own : ValueView) → stripe ≡ last → own ≡ look_on terms h span stripe
     → own ≡ look_from terms h span stripe (last - stripe)
 looks_last terms h span stripe last own same is =
     let none : last - stripe ≡ 0 = omega (arith, same) in
     is ∙ ap (look_from terms h span stripe) (sym none)
 
-pub looks_more : (terms : Terms) (h g : History) (span : Interval) (stripe last : ℕ)
-    (own others value : OwnedTime) → stripe < last
+pub looks_more : (terms : Terms) (h g : History) (span : SpanView) (stripe last : ℕ)
+    (own others value : ValueView) → stripe < last
     → part_of terms.bounds stripe g ≡ part_of terms.bounds stripe h
     → own ≡ look_on terms h span stripe
     → others ≡ look_from terms g span (stripe + 1) (last - (stripe + 1))
@@ -145,7 +145,7 @@ looks_more terms h g span stripe last own others value low same is more joint =
     ∙ ap (look_from terms g span stripe) (sym steps)
 
 -- A seat holds the lock of a stripe, with y in hand, and has then reached on.
-module _ (me me1 me2 : At) (stripe : ℕ) (x y : LaidStripe)
+module _ (me me1 me2 : At) (stripe : ℕ) (x y : StoredStripe)
     (a : Acquires me.0 me1.0 stripe x.value.cache) (same : me1 ≡ holding me stripe a.history y)
     (holds1 : History → Type 0) (r : ReachesOn me1 me2 holds1) where
   pub holding_on : me2 ≡ holding me stripe r.history y

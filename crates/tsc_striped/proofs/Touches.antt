@@ -8,11 +8,11 @@ use Rattle.std.specs.Ordering.{is_lt, ordering_reverse}
 use mathlib.Core.Bool.{true≢false}
 use Rattle.std.proofs.lemmas.Bool.Decides.{nat_tests}
 use Rattle.tsc_span.specs.Span.{KeyBytes, Cut, before, last, cut_cmp, is_below, greater_cut}
-use Rattle.tsc_span.specs.Span.{smaller_cut, Interval, nothing, between}
+use Rattle.tsc_span.specs.Span.{smaller_cut, SpanView, nothing, between}
 use Rattle.tsc_span.specs.MadeSpan.{IsMadeSpan}
-use Rattle.tsc_span.proofs.CutOrder.{cut_cmp-total, cut_cmp-same}
-use Rattle.tsc_page_nodes.proofs.CutOrder.{Lt, Le, Lt-or_Le, Le-itself, Le-from_Lt}
-use Rattle.tsc_page_nodes.proofs.CutOrder.{Le-chain, none_above_last}
+use Rattle.tsc_span.proofs.CutsTotal.{cut_cmp-total, cut_cmp-same}
+use Rattle.tsc_span.proofs.CutOrder.{Lt, Le, Lt-or_Le, Le-itself, Le-from_Lt}
+use Rattle.tsc_span.proofs.CutOrder.{Le-chain, none_above_last}
 use Rattle.tsc_page_nodes.proofs.Cuts.{lowest}
 use Rattle.tsc_stripe_table.specs.Stripes.{at_bound, stripe_start, stripe_end, piece_between, piece_of}
 use Rattle.tsc_striped.specs.Touching.{are_in_order, stripe_above, stripe_below, first_touched}
@@ -136,7 +136,7 @@ piece_above s e from to le =
     rw none refl
 
 -- a span that touches one stripe lies there
-pub lies_in_one : (ks : List KeyBytes) (span : Interval) → are_in_order ks ≡ true
+pub lies_in_one : (ks : List KeyBytes) (span : SpanView) → are_in_order ks ≡ true
     → IsMadeSpan span → first_touched ks span ≡ last_touched ks span
     → LiesIn ks (first_touched ks span) span
 lies_in_one ks nothing up made same = record { whole = refl; none = λ other apart. refl }

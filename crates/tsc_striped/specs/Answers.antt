@@ -7,11 +7,11 @@ use Rattle.std.specs.List.{Contains}
 use mathlib.Core.Option as maybe
 use lib.ListN.{get_elem?}
 use Rattle.tsc_time.specs.Time.{Time, is_before}
-use Rattle.tsc_time.specs.OwnedTime.{Owner, OwnedTime}
+use Rattle.tsc_time.specs.ValueView.{Owner, ValueView}
 use Rattle.tsc_time.specs.Joint.{IsAtMost}
-use Rattle.tsc_span.specs.Span.{KeyBytes, Interval, overlaps}
-use Rattle.tsc_page_nodes.specs.Page.{Mark}
-use Rattle.tsc_cache.specs.Settings.{Settings}
+use Rattle.tsc_span.specs.Span.{KeyBytes, SpanView, overlaps}
+use Rattle.tsc_page_model.specs.Page.{Mark}
+use Rattle.tsc_cache.specs.ConfigView.{ConfigView}
 use Rattle.tsc_cache.specs.Counts.{figures_of}
 use Rattle.tsc_cache.specs.CacheView.{CacheView}
 use Rattle.tsc_cache.specs.Laws.{IsClearOf}
@@ -36,19 +36,19 @@ use Rattle.tsc_striped.specs.Seats.{StripedView, SeatView, FrontView, DealerView
 use Rattle.tsc_striped.specs.Seats.{IsSeat, new_seat}
 
 -- A cache is opened with these settings, bounds, and that many seats, none of which is dealt.
-pub record Opens (settings : Settings) (bounds : List KeyBytes) (count : ℕ) (cache : StripedView)
+pub record Opens (config : ConfigView) (bounds : List KeyBytes) (count : ℕ) (cache : StripedView)
     (dealer : DealerView) : Type 0 where
-  pub terms : cache.terms ≡ record { config = settings; seats = count; bounds = bounds }
+  pub terms : cache.terms ≡ record { config = config; seats = count; bounds = bounds }
   pub settled : IsSettled cache.terms
   pub dealer_is : dealer ≡ record { cache = cache; dealt = 0 }
 
 -- Why no cache is opened: there are too many bounds, or they do not ascend, or the largest page is
 -- too small, or else memory was refused.
-abbrev pub open_fault : Settings → List KeyBytes → OpenFault
-open_fault settings bounds =
+abbrev pub open_fault : ConfigView → List KeyBytes → OpenFault
+open_fault config bounds =
     if not (nat_lt (length bounds) most_stripes) then refused.TooManyStripes
     else if not (are_in_order bounds) then refused.BoundsOutOfOrder
-    else if nat_lt settings.page_max least_page_max then refused.PageTooSmall
+    else if nat_lt config.page_max least_page_max then refused.PageTooSmall
     else refused.NoMemory
 
 -- The next seat is dealt, which nobody has used.
@@ -67,7 +67,7 @@ abbrev pub entry_by : SeatView → List Mark → Time → Entry
 entry_by seat ms now = record { seat = seat.number; number = seat.count; marks = ms; now = now }
 
 -- one mark by itself
-abbrev pub one_mark : Interval → OwnedTime → List Mark
+abbrev pub one_mark : SpanView → ValueView → List Mark
 one_mark span value = record { span = span; value = value } ∷ []
 
 -- A seat stays who it is, and is as seats always are. What it has seen begins with what it had
@@ -137,7 +137,7 @@ pub record AnswersTriedAdd (old new : SeatView) (ms : List Mark) (now : Time)
 -- What a lookup answers is no less than any mark on the span of an entry that its seat has seen,
 -- and no earlier than the floor of any stripe that the span touches. So a write that is clear of
 -- the answer is clear of each read on the span that the seat has seen.
-pub record IsAbove (seat : SeatView) (span : Interval) (value : OwnedTime) : Type 0 where
+pub record IsAbove (seat : SeatView) (span : SpanView) (value : ValueView) : Type 0 where
   pub adds : (e : Entry) (m : Mark) → Contains seat.seen e → Contains e.marks m
       → overlaps m.span span ≡ true → IsAtMost m.value value
   pub floors : (stripe : ℕ) → IsTouched seat.cache.terms.bounds span stripe
@@ -150,8 +150,8 @@ pub record IsAbove (seat : SeatView) (span : Interval) (value : OwnedTime) : Typ
 -- history goes on from what its seat has seen, as the one at closing does: each of its entries
 -- either stands behind all that was seen, or was seen with all of its marks, and then the answer is
 -- no less than any of them on the span.
-abbrev pub TellsNoPart : SeatView → Interval → OwnedTime → Type 0
-TellsNoPart seat span value =
+abbrev pub ReportsNoPart : SeatView → SpanView → ValueView → Type 0
+ReportsNoPart seat span value =
     (before after : History) (e : Entry) → BeginsWith (before ++ e ∷ after) seat.seen
     → BeginsWith before seat.seen
     ⊎ (BeginsWith seat.seen (before ++ e ∷ [])
@@ -159,12 +159,12 @@ TellsNoPart seat span value =
 
 -- A lookup answers from the states of all that the seat has seen then. It is above all of that, and
 -- tells no part of an entry.
-pub record AnswersLookup (old new : SeatView) (span : Interval) (value : OwnedTime) : Type 0 where
+pub record AnswersLookup (old new : SeatView) (span : SpanView) (value : ValueView) : Type 0 where
   pub goes_on : GoesOn old new
   pub count : new.count ≡ old.count
   pub value_is : value ≡ look_over old.cache.terms new.seen span
   pub above : IsAbove new span value
-  pub whole : TellsNoPart new span value
+  pub whole : ReportsNoPart new span value
 
 -- What a call answers at a seat that gives it up after `tries` tries: what it answers else, or that
 -- another seat held a lock at each of them, and then the seat is as it was. Without any try that is
@@ -189,7 +189,7 @@ pub record ReadsFigures (old new : SeatView) (stripe : ℕ) (figures : Figures) 
 
 -- A snapshot has a copy for each stripe that a span touches. Each stands for the state of its
 -- stripe after all that the seat has seen then.
-pub record TakesSnapshot (old new : SeatView) (span : Interval) (snapshot : Snapshot) : Type 0
+pub record TakesSnapshot (old new : SeatView) (span : SpanView) (snapshot : Snapshot) : Type 0
   where
     pub goes_on : GoesOn old new
     pub count : new.count ≡ old.count
@@ -219,20 +219,10 @@ pub record AreStripes (terms : Terms) (history : History) (caches : List CacheVi
   pub stands : (stripe : ℕ) (cache : CacheView) → get_elem? caches stripe ≡ maybe.some cache
       → IsStateOn terms stripe history cache
 
--- At closing each seat that was dealt is there, and there is one history, legal for the number of
--- seats. What each seat has seen is a beginning of it. It has exactly the accepted Adds of each
--- seat, and none of a seat that was not dealt. The caches stand for its states.
-pub record Closes (dealer : DealerView) (seats : List SeatView) (closed : Closed) : Type 0 where
-  pub each : (number : ℕ) → number < dealer.dealt
-      → count_by (λ (seat : SeatView). seat.number == number) seats ≡ 1
-  pub history : History
-  pub legal : IsLegal dealer.cache.terms.config dealer.dealt history
-  pub begins : All (λ seat. BeginsWith history seat.seen) seats
-  pub own : All (λ seat. own_count seat.number history ≡ seat.count) seats
-  pub stripes : AreStripes dealer.cache.terms history closed.caches.items
-
--- A cache ended with these seats, which are all that were dealt, as at closing. What its stripes
--- hold then is given to nobody.
+-- A cache ended with these seats, which are all that were dealt, and its stripes hold these caches.
+-- There is one history, legal for the number of seats. What each seat has seen is a beginning of
+-- it. It has exactly the accepted Adds of each seat, and none of a seat that was not dealt. The
+-- caches stand for its states.
 pub record Retires (dealer : DealerView) (seats : List SeatView) (caches : List CacheView) : Type 0
   where
     pub each : (number : ℕ) → number < dealer.dealt
@@ -242,3 +232,7 @@ pub record Retires (dealer : DealerView) (seats : List SeatView) (caches : List 
     pub begins : All (λ seat. BeginsWith history seat.seen) seats
     pub own : All (λ seat. own_count seat.number history ≡ seat.count) seats
     pub stripes : AreStripes dealer.cache.terms history caches
+
+-- A cache that is closed ended so with the caches that closing gives.
+abbrev pub Closes : DealerView → List SeatView → Closed → Type 0
+Closes dealer seats closed = Retires dealer seats closed.caches.items

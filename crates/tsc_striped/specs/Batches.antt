@@ -1,11 +1,11 @@
 -- What becomes of the participant of a seat that adds a batch. (For private contracts.)
 use Rattle.std.specs.Prelude.{◌≡◌, ◌⊎◌, ℕ, suc, ◌-◌, ◌<◌, ◌≤◌, List, [], ◌∷◌, ◌++◌}
-use Rattle.tsc_page_nodes.specs.Page.{Mark}
+use Rattle.tsc_page_model.specs.Page.{Mark}
 use Rattle.tsc_time.specs.Time.{Time}
 use Rattle.tsc_cache.specs.declared.added.Added.{Added}
 use Rattle.tsc_cache.specs.declared.history.Entry.{Entry}
 use Rattle.tsc_cache.specs.History.{History, own_count, BeginsWith, IsLegal, CanAllBeAdded}
-use Rattle.tsc_cache.specs.CacheView.{CacheView, StandsAfterAll, TellsAddedAll}
+use Rattle.tsc_cache.specs.CacheView.{CacheView, StandsAfterAll, ReportsAddedAll}
 use Rattle.tsc_stripe_table.specs.declared.table.SeatState.{SeatState}
 use Rattle.tsc_stripe_table.specs.Stripes.{Terms, marks_in, stripe_count}
 use Rattle.tsc_stripe_table.specs.Rule.{times_held}
@@ -96,4 +96,4 @@ IsStop terms NoMemory = Unit {0}
 pub record IsVersion (cache next : CacheView) (ms : List Mark) (now : Time) (added : Added)
     : Type 0 where
   pub stands : StandsAfterAll cache next ms now
-  pub added_is : TellsAddedAll cache ms now added
+  pub added_is : ReportsAddedAll cache ms now added

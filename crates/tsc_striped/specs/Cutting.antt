@@ -2,7 +2,7 @@
 use Rattle.std.specs.Prelude.{◌≡◌, ◌⊎◌, ℕ, suc, ◌+◌, ◌-◌, ◌<◌, ◌≤◌, List, [], length}
 use Rattle.std.specs.Prelude.{slice_index_or}
 use Rattle.tsc_span.specs.Span.{KeyBytes}
-use Rattle.tsc_page_nodes.specs.Page.{Mark}
+use Rattle.tsc_page_model.specs.Page.{Mark}
 use Rattle.tsc_cache.specs.History.{CanAllBeAdded}
 use Rattle.tsc_stripe_table.specs.Stripes.{Terms, marks_in}
 use Rattle.tsc_striped.specs.Limits.{least_page_max}

@@ -1,10 +1,10 @@
 -- What all stripes together answer, and what an Add does in them.
 use Rattle.std.specs.Prelude.{ℕ, zero, suc, ◌-◌, ◌^◌, min, List, [], ◌∷◌, length}
 use Rattle.tsc_time.specs.Time.{Time, later}
-use Rattle.tsc_time.specs.OwnedTime.{OwnedTime}
+use Rattle.tsc_time.specs.ValueView.{ValueView}
 use Rattle.tsc_time.specs.Joint.{ratcheted}
-use Rattle.tsc_span.specs.Span.{Interval}
-use Rattle.tsc_page_nodes.specs.Page.{Mark}
+use Rattle.tsc_span.specs.Span.{SpanView}
+use Rattle.tsc_page_model.specs.Page.{Mark}
 use Rattle.tsc_cache.specs.declared.added.Added.{Added}
 use Rattle.tsc_cache.specs.State.{look, step_all, added_with}
 use Rattle.tsc_cache.specs.CacheView.{CacheView}
@@ -13,18 +13,18 @@ use Rattle.tsc_stripe_table.specs.Stripes.{Terms, state_on, marks_in, IsStateOn}
 use Rattle.tsc_striped.specs.Touching.{first_touched, last_touched}
 
 -- What a lookup answers in one stripe after a history.
-abbrev pub look_on : Terms → History → Interval → ℕ → OwnedTime
+abbrev pub look_on : Terms → History → SpanView → ℕ → ValueView
 look_on terms h span stripe = look (state_on terms stripe h) span
 
 -- What the answers of some stripes come to together: one from a number on, and so many more.
-abbrev pub look_from : Terms → History → Interval → ℕ → ℕ → OwnedTime
+abbrev pub look_from : Terms → History → SpanView → ℕ → ℕ → ValueView
 look_from terms h span stripe zero = look_on terms h span stripe
 look_from terms h span stripe (suc more) =
     ratcheted (look_on terms h span stripe) (look_from terms h span (suc stripe) more)
 
 -- What a lookup answers after a history: what the answers of all stripes that the span touches come
 -- to together.
-abbrev pub look_over : Terms → History → Interval → OwnedTime
+abbrev pub look_over : Terms → History → SpanView → ValueView
 look_over terms h span = look_from terms h span (first_touched terms.bounds span)
     (last_touched terms.bounds span - first_touched terms.bounds span)
 
@@ -35,7 +35,7 @@ floor_from terms h stripe (suc more) =
     later (state_on terms stripe h).floor (floor_from terms h (suc stripe) more)
 
 -- the greatest floor of all stripes that a span touches, after a history
-abbrev pub floor_over : Terms → History → Interval → Time
+abbrev pub floor_over : Terms → History → SpanView → Time
 floor_over terms h span = floor_from terms h (first_touched terms.bounds span)
     (last_touched terms.bounds span - first_touched terms.bounds span)
 

@@ -1,8 +1,8 @@
 -- What becomes of the participant of a seat in a call. (For private contracts.)
 use Rattle.std.specs.Prelude.{◌≡◌, ◌≢◌, ℕ, suc, List, [], ◌∷◌, ◌++◌, Option}
 use Rattle.tsc_time.specs.Time.{Time}
-use Rattle.tsc_span.specs.Span.{KeyBytes, Interval, nothing}
-use Rattle.tsc_page_nodes.specs.Page.{Mark}
+use Rattle.tsc_span.specs.Span.{KeyBytes, SpanView, nothing}
+use Rattle.tsc_page_model.specs.Page.{Mark}
 use Rattle.tsc_cache.specs.declared.added.Added.{Added}
 use Rattle.tsc_cache.specs.declared.history.Entry.{Entry}
 use Rattle.tsc_cache.specs.History.{History, own_count, entry_of_mark, BeginsWith, IsLegal}
@@ -16,7 +16,7 @@ use Rattle.tsc_striped.specs.Looks.{added_on}
 use Rattle.tsc_striped.specs.Waiting.{HasEnd}
 
 -- A span lies in one stripe: all of it lies there, and nothing of it in any other.
-pub record LiesIn (bounds : List KeyBytes) (stripe : ℕ) (span : Interval) : Type 0 where
+pub record LiesIn (bounds : List KeyBytes) (stripe : ℕ) (span : SpanView) : Type 0 where
   pub whole : piece_of bounds stripe span ≡ span
   pub none : (other : ℕ) → other ≢ stripe → piece_of bounds other span ≡ nothing
 

@@ -5,7 +5,7 @@ use Rattle.tsc_cache.specs.CacheView.{CacheView}
 use Rattle.tsc_stripe_table.specs.declared.table.SeatState.{SeatState}
 use Rattle.tsc_stripe_table.specs.declared.table.Knowledge.{Knowledge}
 use Rattle.tsc_stripe_table.specs.Stripes.{Terms}
-use Rattle.tsc_stripe_table.specs.Rule.{LaidStripe, holders}
+use Rattle.tsc_stripe_table.specs.Rule.{StoredStripe, holders}
 use Rattle.tsc_stripe_table.specs.Steps.{At}
 use Rattle.tsc_stripe_table.specs.Closing.{IsEnd}
 
@@ -21,5 +21,5 @@ pub record EndsAs (setup : Terms) (states : List SeatState) : Type 0 where
   pub end_is : IsEnd setup states caches
 
 -- Who keeps all states sees the end.
-abbrev pub sees_end : Step LaidStripe → At → ℕ → At → Type 0
+abbrev pub sees_end : Step StoredStripe → At → ℕ → At → Type 0
 sees_end st me found me' = KeepsAll me.0 → EndsAs me.0.setup me.0.states

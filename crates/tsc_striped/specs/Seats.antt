@@ -2,7 +2,7 @@
 use Rattle.std.specs.Prelude.{◌≡◌, ℕ, ◌<◌, ◌≤◌, true, [], length}
 use Rattle.atomic_table.specs.Seated.{TableId}
 use Rattle.tsc_cache.specs.History.{History, own_count, IsLegal}
-use Rattle.tsc_cache.specs.Settings.{IsWithinLimits}
+use Rattle.tsc_cache.specs.ConfigView.{IsWithinLimits}
 use Rattle.tsc_stripe_table.specs.Stripes.{Terms}
 use Rattle.tsc_striped.specs.Limits.{most_stripes, least_page_max}
 use Rattle.tsc_striped.specs.Touching.{are_in_order}

@@ -1,7 +1,7 @@
 -- What becomes of the participant of a seat that copies the caches of stripes. (For private
 -- contracts.)
 use Rattle.std.specs.Prelude.{◌≡◌, ℕ, suc, ◌-◌, ◌≤◌, List, ◌++◌, length}
-use Rattle.tsc_cache.specs.Settings.{Settings}
+use Rattle.tsc_cache.specs.ConfigView.{ConfigView}
 use Rattle.tsc_cache.specs.State.{CacheState}
 use Rattle.tsc_cache.specs.CacheView.{CacheView, RepresentsState}
 use Rattle.tsc_cache.specs.History.{History, own_count, BeginsWith, IsLegal}
@@ -14,8 +14,8 @@ use Rattle.tsc_striped.specs.Looks.{StandFrom}
 
 -- a copy stands for all that a cache stands for
 abbrev pub IsCopy : CacheView → CacheView → Type 0
-IsCopy cache copy = (settings : Settings) (s : CacheState) → RepresentsState cache settings s
-    → RepresentsState copy settings s
+IsCopy cache copy = (config : ConfigView) (s : CacheState) → RepresentsState cache config s
+    → RepresentsState copy config s
 
 -- a seat that has seen this history, and reached it with the locks that it holds
 abbrev pub with_seen : SeatState → History → SeatState

@@ -1,6 +1,6 @@
 -- Which stripes a span touches.
 use Rattle.std.specs.Prelude.{ℕ, ◌+◌, ◌-◌, ◌≤◌, List, [], ◌∷◌, ◌&&◌, count_by, not, Bool, true}
-use Rattle.tsc_span.specs.Span.{KeyBytes, Cut, before, is_below, Interval, nothing, between}
+use Rattle.tsc_span.specs.Span.{KeyBytes, Cut, before, is_below, SpanView, nothing, between}
 
 -- whether each bound lies above the one before it, and the first one above a key
 abbrev pub ascend : KeyBytes → List KeyBytes → Bool
@@ -20,17 +20,17 @@ abbrev pub stripe_below : List KeyBytes → Cut → ℕ
 stripe_below bounds c = count_by (λ k. is_below (before k) c) bounds
 
 -- the first stripe that a span touches; the empty span touches stripe 0
-abbrev pub first_touched : List KeyBytes → Interval → ℕ
+abbrev pub first_touched : List KeyBytes → SpanView → ℕ
 first_touched bounds nothing = 0
 first_touched bounds (between from to) = stripe_above bounds from
 
 -- the last stripe that a span touches
-abbrev pub last_touched : List KeyBytes → Interval → ℕ
+abbrev pub last_touched : List KeyBytes → SpanView → ℕ
 last_touched bounds nothing = 0
 last_touched bounds (between from to) = stripe_below bounds to
 
 -- A span touches a stripe: it is the first one that it touches, or one from there to the last.
-pub record IsTouched (bounds : List KeyBytes) (span : Interval) (stripe : ℕ) : Type 0 where
+pub record IsTouched (bounds : List KeyBytes) (span : SpanView) (stripe : ℕ) : Type 0 where
   pub from : first_touched bounds span ≤ stripe
   pub to : stripe ≤ first_touched bounds span
       + (last_touched bounds span - first_touched bounds span)

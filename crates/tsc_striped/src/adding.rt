@@ -155,7 +155,7 @@ impl StripedCache {
     ) -> Result<Receipt, AddFault>
         requires cache { seat.old.cache ≡ self.now }
         ensures answers { AnswersAdd seat.old seat.new (one_mark span.now value) now result }
-        ensures gate { OnOk result (G.HasTold gate.now seat.old.number) }
+        ensures gate { OnOk result (G.HasReported gate.now seat.old.number) }
     {
         let mark = MarkRef {
             span,
@@ -177,7 +177,7 @@ impl StripedCache {
     ) -> Result<Receipt, AddFault>
         requires cache { seat.old.cache ≡ self.now }
         ensures answers { AnswersAdd seat.old seat.new marks.now now result }
-        ensures gate { OnOk result (G.HasTold gate.now seat.old.number) }
+        ensures gate { OnOk result (G.HasReported gate.now seat.old.number) }
     {
         let marks = MarksRef { marks, moment: now };
         waited(self.add_marks(&Blocking(rt), seat, marks, gate))
@@ -213,7 +213,7 @@ impl StripedCache {
         requires cache { seat.old.cache ≡ self.now }
         ensures answers { AnswersTriedAdd seat.old seat.new (one_mark span.now value) now
             (Some tries) result }
-        ensures gate { OnOk result (G.HasTold gate.now seat.old.number) }
+        ensures gate { OnOk result (G.HasReported gate.now seat.old.number) }
     {
         let mark = MarkRef {
             span,
@@ -235,7 +235,7 @@ impl StripedCache {
     ) -> Result<Receipt, TryAddFault>
         requires cache { seat.old.cache ≡ self.now }
         ensures answers { AnswersTriedAdd seat.old seat.new marks.now now (Some tries) result }
-        ensures gate { OnOk result (G.HasTold gate.now seat.old.number) }
+        ensures gate { OnOk result (G.HasReported gate.now seat.old.number) }
     {
         let marks = MarksRef { marks, moment: now };
         self.add_marks(&Bounded(tries), seat, marks, gate)
@@ -309,7 +309,7 @@ impl StripedCache {
             (one_mark mark.entry.span.now mark.entry.value) mark.entry.moment
             (P.tries policy.now) result }
         ensures ended { IsErrOf result TryAddFault.Busy → HasEnd (P.tries policy.now) }
-        ensures gate { OnOk result (G.HasTold gate.now seat.old.number) }
+        ensures gate { OnOk result (G.HasReported gate.now seat.old.number) }
     {
         is_as_always(seat);
         if seat.count == u64::MAX {
@@ -342,7 +342,7 @@ impl StripedCache {
             (one_mark mark.entry.span.now mark.entry.value) mark.entry.moment
             (P.tries policy.now) result }
         ensures ended { IsErrOf result TryAddFault.Busy → HasEnd (P.tries policy.now) }
-        ensures gate { OnOk result (G.HasTold gate.now seat.old.number) }
+        ensures gate { OnOk result (G.HasReported gate.now seat.old.number) }
     {
         is_as_always(seat);
         if policy.has_no_try() {
@@ -366,7 +366,7 @@ impl StripedCache {
         ensures answers { AnswersTriedAdd seat.old seat.new marks.entry.marks.now
             marks.entry.moment (P.tries policy.now) result }
         ensures ended { IsErrOf result TryAddFault.Busy → HasEnd (P.tries policy.now) }
-        ensures gate { OnOk result (G.HasTold gate.now seat.old.number) }
+        ensures gate { OnOk result (G.HasReported gate.now seat.old.number) }
     {
         is_as_always(seat);
         if seat.count == u64::MAX {
@@ -396,7 +396,7 @@ impl StripedCache {
         ensures answers { AnswersTriedAdd seat.old seat.new marks.items moment
             (P.tries policy.now) result }
         ensures ended { IsErrOf result TryAddFault.Busy → HasEnd (P.tries policy.now) }
-        ensures gate { OnOk result (G.HasTold gate.now seat.old.number) }
+        ensures gate { OnOk result (G.HasReported gate.now seat.old.number) }
     {
         is_as_always(seat);
         fit_all(&self.setup.config, marks.as_slice());

@@ -1,3 +1,4 @@
+//! What the calls of a cache in stripes answer, and why they refuse.
 use crate::fault::StripeFault;
 use crate::{Dealer, Front, Seat, StripedCache};
 use thiserror::Error;

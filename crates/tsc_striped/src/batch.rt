@@ -24,7 +24,7 @@ pub(crate) struct Pieces {
 
 impl Model for Pieces {
     ghost use Rattle.std.specs.Prelude.{List};
-    ghost use Rattle.tsc_page_nodes.specs.Page.{Mark};
+    ghost use Rattle.tsc_page_model.specs.Page.{Mark};
 
     ghost Value = { List Mark };
 

@@ -1,3 +1,5 @@
+//! Why a call stops before it has all its stripes.
+
 /// Why a call in stripes was refused.
 #[derive(Clone, Copy)]
 pub(crate) enum StripeFault {

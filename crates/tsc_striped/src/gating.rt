@@ -8,29 +8,29 @@ use tsc_left_right::Gate;
 pub(crate) struct Publication<'g, G> {
     gate: &'g G,
     seat: u32,
-    told: bool,
+    reported: bool,
 }
 
 impl<'g, G: Gate> Publication<'g, G> {
     /// A gate that was told nothing yet.
     pub(crate) fn due(gate: &'g G, seat: u32) -> Publication<'g, G>
-        ensures told { result.told ≡ false }
+        ensures reported { result.reported ≡ false }
         ensures gate { (result.gate.now ≡ gate.now) × (result.seat ≡ seat) }
     {
         Publication {
             gate,
             seat,
-            told: false,
+            reported: false,
         }
     }
 
     /// Tells the gate of the Add.
     pub(crate) fn give(&mut self)
-        requires once { self.old.told ≡ false }
-        ensures told { self.new.told ≡ true }
-        ensures gate { G.HasTold self.old.gate.now self.old.seat }
+        requires once { self.old.reported ≡ false }
+        ensures reported { self.new.reported ≡ true }
+        ensures gate { G.HasReported self.old.gate.now self.old.seat }
     {
         self.gate.publish(self.seat);
-        self.told = true;
+        self.reported = true;
     }
 }

@@ -1,3 +1,4 @@
+//! Seats, fronts, and the dealer from which seats come.
 ghost use Rattle.std.specs.Prelude.{◌≡◌};
 ghost use Rattle.tsc_cache.specs.History.{own_count};
 ghost use Rattle.tsc_striped.specs.Seats.{IsSeat};

@@ -1,7 +1,7 @@
 //! Copies of the caches of several stripes, from one moment. Each shares the pages of its stripe.
 ghost use Rattle.std.specs.Prelude.{◌≡◌, [], ◌+◌, ◌-◌, ◌<◌, ◌≤◌, IfOk, IfErr, OnErr};
 ghost use Rattle.std.specs.Prelude.{vec_capacity, vec_len};
-ghost use Rattle.tsc_stripe_table.specs.Rule.{LaidStripe};
+ghost use Rattle.tsc_stripe_table.specs.Rule.{StoredStripe};
 ghost use Rattle.tsc_stripe_table.specs.Participating.{IsOf, IsAtRest, IsStripe, HasStripe};
 ghost use Rattle.tsc_striped.specs.Moves.{HasLooked};
 ghost use Rattle.tsc_striped.specs.Batches.{StaysOn, IsStop};
@@ -20,13 +20,13 @@ fn copy_in_hand(
     stripe: u32,
 ) -> Result<Cache, NoMemory>
     requires of { IsOf who.old shared.now.table_id }
-    requires has { (x : LaidStripe) × HasStripe who.old.me stripe x }
+    requires has { (x : StoredStripe) × HasStripe who.old.me stripe x }
     ensures same { (who.new.table_id ≡ who.old.table_id) × (who.new.me ≡ who.old.me) }
-    ensures copied { (x : LaidStripe) → HasStripe who.old.me stripe x
+    ensures copied { (x : StoredStripe) → HasStripe who.old.me stripe x
         → IfOk result (λ copy. IsCopy x.value.cache copy) }
 {
-    let laid = who.slot_mut(shared, stripe as usize);
-    let made = laid.next_all(&[], Timestamp::ZERO)?;
+    let stored = who.slot_mut(shared, stripe as usize);
+    let made = stored.next_all(&[], Timestamp::ZERO)?;
     Ok(made.cache)
 }
 

@@ -1,3 +1,4 @@
+//! A cache in stripes: how it is opened, and how seats are dealt and learn from one another.
 ghost use Rattle.std.specs.Prelude.{◌≡◌, ◌↔◌, ◌<◌, IsOk, IfOk, IfErr, IfSome, IfNone};
 ghost use Rattle.std.specs.Prelude.{All, length, [], ◌≤◌, vec_capacity};
 ghost use Rattle.tsc_stripe_table.specs.Stripes.{stripe_count, piece_of};

@@ -3,7 +3,7 @@ ghost use Rattle.std.specs.Prelude.{◌≡◌, IfOk, IfErr, OnErr, IsErrOf, IfSo
 ghost use Rattle.std.specs.Prelude.{Some, true};
 ghost use Rattle.tsc_cache.specs.Counts.{figures_of};
 ghost use Rattle.tsc_cache.specs.History.{CanBeAdded};
-ghost use Rattle.tsc_cache.specs.Settings.{fits};
+ghost use Rattle.tsc_cache.specs.ConfigView.{fits};
 ghost use Rattle.tsc_stripe_table.specs.Stripes.{state_on};
 ghost use Rattle.tsc_stripe_table.specs.Participating.{IsOf, IsAtRest, IsStripe};
 ghost use Rattle.tsc_striped.specs.Waiting.{HasEnd};
@@ -51,8 +51,8 @@ pub(crate) fn add_in<P: WaitPolicy>(
     if !policy.acquire(shared, who, stripe) {
         return Err(StripeFault::Busy);
     }
-    let laid = who.slot_mut(shared, stripe as usize);
-    match laid.add(mark.span, mark.value, mark.moment) {
+    let stored = who.slot_mut(shared, stripe as usize);
+    match stored.add(mark.span, mark.value, mark.moment) {
         Ok(made) => {
             commit(shared, who, stripe);
             Ok(made.added)
@@ -84,8 +84,8 @@ pub(crate) fn look_in<P: WaitPolicy>(
     if !policy.acquire(shared, who, stripe) {
         return None;
     }
-    let laid = who.slot_mut(shared, stripe as usize);
-    let value = laid.cache.get_max_ref(span);
+    let stored = who.slot_mut(shared, stripe as usize);
+    let value = stored.cache.get_max_ref(span);
     release_seen(shared, who, stripe);
     Some(value)
 }
@@ -108,8 +108,8 @@ pub(crate) fn figures_in<P: WaitPolicy>(
     if !policy.acquire(shared, who, stripe) {
         return None;
     }
-    let laid = who.slot_mut(shared, stripe as usize);
-    let figures = laid.cache.figures();
+    let stored = who.slot_mut(shared, stripe as usize);
+    let figures = stored.cache.figures();
     release_seen(shared, who, stripe);
     Some(figures)
 }
@@ -132,8 +132,8 @@ pub(crate) fn floor_in<P: WaitPolicy>(
     if !policy.acquire(shared, who, stripe) {
         return None;
     }
-    let laid = who.slot_mut(shared, stripe as usize);
-    let time = laid.cache.low_water();
+    let stored = who.slot_mut(shared, stripe as usize);
+    let time = stored.cache.low_water();
     release_seen(shared, who, stripe);
     Some(time)
 }

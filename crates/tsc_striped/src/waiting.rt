@@ -5,7 +5,7 @@
 //! it waits.
 ghost use Rattle.std.specs.Prelude.{◌≡◌, ◌∷◌, ◌-◌, ◌<◌, ◌≤◌, ℕ, Option, Some, None, true, false};
 ghost use Rattle.std.specs.Prelude.{IfOk, IfErr, IfSome, IfNone, IsNone, IsErrOf, OnErr};
-ghost use Rattle.tsc_stripe_table.specs.Rule.{LaidStripe, lock_word};
+ghost use Rattle.tsc_stripe_table.specs.Rule.{StoredStripe, lock_word};
 ghost use Rattle.tsc_stripe_table.specs.Steps.{Acquires};
 ghost use Rattle.tsc_stripe_table.specs.Participating.{IsOf, IsAtRest, IsStripe, CanAcquire};
 ghost use Rattle.tsc_striped.specs.Waiting.{HasEnd};
@@ -40,7 +40,7 @@ pub(crate) trait WaitPolicy {
         requires of { IsOf who.old shared.now.table_id }
         requires can { CanAcquire who.old.me.0 stripe }
         ensures table { who.new.table_id ≡ who.old.table_id }
-        ensures acquired { result ≡ true → (x : LaidStripe)
+        ensures acquired { result ≡ true → (x : StoredStripe)
             × Acquires who.old.me.0 who.new.me.0 stripe x.value.cache
             × (who.new.me.1 ≡ (stripe, x) ∷ who.old.me.1) }
         ensures busy { result ≡ false → (who.new.me ≡ who.old.me) × HasEnd (tries self.now) }
@@ -75,11 +75,11 @@ pub(crate) trait WaitPolicy {
         notice: &mut Publication<'_, G>,
     ) -> Result<Added, StripeFault>
         requires rest { IsOf who.old shared.now.table_id × IsAtRest who.old.me }
-        requires can { CanAddBatch who.old.me.0.setup batch.now × (notice.old.told ≡ false) }
+        requires can { CanAddBatch who.old.me.0.setup batch.now × (notice.old.reported ≡ false) }
         ensures table { who.new.table_id ≡ who.old.table_id }
         ensures added { IfOk result
             (λ added. AddsAll who.old.me who.new.me batch.now.marks.items batch.now.moment added
-            × G.HasTold notice.old.gate.now notice.old.seat) }
+            × G.HasReported notice.old.gate.now notice.old.seat) }
         ensures refused { OnErr result (who.new.me ≡ who.old.me) }
         ensures why { IfErr result (λ fault. IsStripeFault (tries self.now) fault) };
 

@@ -31,8 +31,8 @@ fn look_above(
     if !try_acquire(shared, who, stripe) {
         return Err(stripe);
     }
-    let laid = who.slot_mut(shared, stripe as usize);
-    let own = laid.cache.get_max_ref(span);
+    let stored = who.slot_mut(shared, stripe as usize);
+    let own = stored.cache.get_max_ref(span);
     if stripe == last {
         release(shared, who, stripe);
         return Ok(own);
@@ -69,8 +69,8 @@ pub(crate) fn look_under_all(
     if !try_acquire(shared, who, first) {
         return Err(first);
     }
-    let laid = who.slot_mut(shared, first as usize);
-    let own = laid.cache.get_max_ref(span);
+    let stored = who.slot_mut(shared, first as usize);
+    let own = stored.cache.get_max_ref(span);
     match look_above(shared, who, span, first + 1, last) {
         Ok(others) => {
             release_seen(shared, who, first);

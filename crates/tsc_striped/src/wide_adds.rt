@@ -9,7 +9,7 @@ ghost use Rattle.atomic_table.specs.Table.{rest};
 ghost use Rattle.tsc_cache.specs.State.{added_with};
 ghost use Rattle.tsc_cache.specs.History.{CanAllBeAdded};
 ghost use Rattle.tsc_stripe_table.specs.Stripes.{IsStateOn, marks_in};
-ghost use Rattle.tsc_stripe_table.specs.Rule.{LaidStripe};
+ghost use Rattle.tsc_stripe_table.specs.Rule.{StoredStripe};
 ghost use Rattle.tsc_stripe_table.specs.Steps.{Commits, IsCovered, state_in, with_state, released};
 ghost use Rattle.tsc_stripe_table.specs.Steps.{reached_of, holds_of};
 ghost use Rattle.tsc_stripe_table.specs.Participating.{IsOf, IsAtRest, HasStripe};
@@ -63,31 +63,31 @@ fn next_version(
     stripe: u32,
 ) -> Result<Version, NoMemory>
     requires of { IsOf who.old shared.now.table_id }
-    requires has { (x : LaidStripe) × HasStripe who.old.me stripe x }
+    requires has { (x : StoredStripe) × HasStripe who.old.me stripe x }
     requires pieces { HasPieces batch.now × IsAmong batch.now stripe }
-    requires room { (x : LaidStripe) → HasStripe who.old.me stripe x
-        → least_page_max ≤ x.value.cache.settings.page_max }
+    requires room { (x : StoredStripe) → HasStripe who.old.me stripe x
+        → least_page_max ≤ x.value.cache.config.page_max }
     ensures same { (who.new.table_id ≡ who.old.table_id) × (who.new.me ≡ who.old.me) }
-    ensures made { (x : LaidStripe) → HasStripe who.old.me stripe x
+    ensures made { (x : StoredStripe) → HasStripe who.old.me stripe x
         → IsCut who.old.me.0.setup.bounds batch.now → IfOk result (λ made. IsVersion x.value.cache
         made.cache (marks_in who.old.me.0.setup.bounds stripe batch.now.marks.items)
         batch.now.moment made.added) }
 {
-    let laid = who.slot_mut(shared, stripe as usize);
-    laid.next_all(batch.pieces_in(stripe), batch.moment)
+    let stored = who.slot_mut(shared, stripe as usize);
+    stored.next_all(batch.pieces_in(stripe), batch.moment)
 }
 
 /// The next version takes the place of the cache in hand, and the lock is released.
 fn put(shared: &SharedStripes, who: &mut Participant, stripe: u32, next: Cache) -> Cache
     requires of { IsOf who.old shared.now.table_id }
-    requires has { (x : LaidStripe) × HasStripe who.old.me stripe x }
+    requires has { (x : StoredStripe) × HasStripe who.old.me stripe x }
     requires stands { IsStateOn who.old.me.0.setup stripe (reached_of who.old.me.0) next }
     ensures table { who.new.table_id ≡ who.old.table_id }
     ensures released { who.new.me
         ≡ (with_state who.old.me.0 (released (state_in who.old.me.0)), rest who.old.me.1) }
 {
-    let laid = who.slot_mut(shared, stripe as usize);
-    let before = laid.replace(next);
+    let stored = who.slot_mut(shared, stripe as usize);
+    let before = stored.replace(next);
     release(shared, who, stripe);
     before
 }
@@ -101,7 +101,7 @@ fn put_last(
     next: Cache,
 ) -> Cache
     requires of { IsOf who.old shared.now.table_id }
-    requires has { (x : LaidStripe) × HasStripe who.old.me stripe x }
+    requires has { (x : StoredStripe) × HasStripe who.old.me stripe x }
     requires can { CanAllBeAdded who.old.me.0.setup.config batch.now.marks.items batch.now.moment
         × IsCovered who.old.me.0.setup.bounds (holds_of who.old.me.0)
         (entry_for who.old.me batch.now) }
@@ -111,8 +111,8 @@ fn put_last(
     ensures committed { Commits who.old.me.0 who.new.me.0 (entry_for who.old.me batch.now ∷ [])
         × (who.new.me.1 ≡ rest who.old.me.1) }
 {
-    let laid = who.slot_mut(shared, stripe as usize);
-    let before = laid.replace_by_batch(next, &batch.marks, batch.moment);
+    let stored = who.slot_mut(shared, stripe as usize);
+    let before = stored.replace_by_batch(next, &batch.marks, batch.moment);
     commit_batch(shared, who, stripe);
     before
 }
@@ -131,12 +131,12 @@ fn add_from<G: Gate>(
     requires of { IsOf who.old shared.now.table_id }
     requires can { CanAddFrom who.old.me batch.now from
         × (vec_len dropped.old + (batch.now.last - from) < vec_capacity dropped.old)
-        × (notice.old.told ≡ false) }
+        × (notice.old.reported ≡ false) }
     ensures table { (who.new.table_id ≡ who.old.table_id)
         × (vec_capacity dropped.new ≡ vec_capacity dropped.old)
         × (vec_len dropped.new ≤ vec_len dropped.old + (batch.now.last - from) + 1) }
     ensures added { IfOk result (λ added. AddsFrom who.old.me who.new.me batch.now from added
-        × G.HasTold notice.old.gate.now notice.old.seat) }
+        × G.HasReported notice.old.gate.now notice.old.seat) }
     ensures stopped { OnErr result (StaysOn who.old.me who.new.me × (notice.new ≡ notice.old)) }
     ensures why { IfErr result (λ stop. IsStop who.old.me.0.setup stop) }
 {
@@ -189,11 +189,11 @@ pub(crate) fn add_under_all<G: Gate>(
     notice: &mut Publication<'_, G>,
 ) -> Result<Added, Stop>
     requires rest { IsOf who.old shared.now.table_id × IsAtRest who.old.me }
-    requires can { CanAddBatch who.old.me.0.setup batch.now × (notice.old.told ≡ false) }
+    requires can { CanAddBatch who.old.me.0.setup batch.now × (notice.old.reported ≡ false) }
     ensures table { who.new.table_id ≡ who.old.table_id }
     ensures added { IfOk result
         (λ added. AddsAll who.old.me who.new.me batch.now.marks.items batch.now.moment added
-        × G.HasTold notice.old.gate.now notice.old.seat) }
+        × G.HasReported notice.old.gate.now notice.old.seat) }
     ensures stopped { OnErr result ((who.new.me ≡ who.old.me) × (notice.new ≡ notice.old)) }
     ensures why { IfErr result (λ stop. IsStop who.old.me.0.setup stop) }
 {

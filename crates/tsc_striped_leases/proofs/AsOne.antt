@@ -5,17 +5,17 @@ use Rattle.std.specs.List.{Contains}
 use Rattle.std.proofs.lemmas.Bool.{cases_Bool}
 use Rattle.std.proofs.lemmas.List.Elements.{Contains-append_left, Contains-append_right}
 use Rattle.tsc_time.specs.Time.{Time, is_before}
-use Rattle.tsc_time.specs.OwnedTime.{OwnedTime, unowned}
+use Rattle.tsc_time.specs.ValueView.{ValueView, unowned}
 use Rattle.tsc_time.proofs.Members.{IsIn, IsIn-from_Contains, Contains-from_IsIn}
 use Rattle.tsc_time.proofs.RatchetOrder.{IsAtMost-itself}
-use Rattle.tsc_span.specs.Span.{Interval}
-use Rattle.tsc_page_nodes.specs.Page.{Mark, values_on}
+use Rattle.tsc_span.specs.Span.{SpanView}
+use Rattle.tsc_page_model.specs.Page.{Mark, values_on}
 use Rattle.tsc_cache.proofs.FloorJoints.{above_floor}
 use Rattle.timestamp_cache.specs.HandOver.{Summary, summary_answer}
-use Rattle.timestamp_cache.proofs.Telling.{IsBound, bound_from, joint_below, above_lower}
+use Rattle.timestamp_cache.proofs.Reporting.{IsBound, bound_from, joint_below, above_lower}
 use Rattle.timestamp_cache.proofs.Within.{within_overlaps, overlaps_wider}
 use Rattle.tsc_striped_leases.specs.Merging.{floor_mark, marks_over}
-use Rattle.tsc_striped_leases.specs.Merging.{merged, TellsNoLess}
+use Rattle.tsc_striped_leases.specs.Merging.{merged, ReportsNoLess}
 
 -- the mark of a whole summary, at its floor
 abbrev whole_at_floor : Summary → Mark
@@ -50,19 +50,19 @@ floor_there least (first ∷ others) one (inr there) later =
     (Contains-append_right first.marks (marks_over least others) (whole_at_floor one)
     (floor_there least others one there later))
 
-pub merged_no_less : (of : Interval) (parts : List Summary) → TellsNoLess (merged of parts) parts
+pub merged_no_less : (of : SpanView) (parts : List Summary) → ReportsNoLess (merged of parts) parts
 merged_no_less of parts one part inner there within wider =
-    let told = merged of parts in
-    let u : OwnedTime = summary_answer told inner in
+    let reported = merged of parts in
+    let u : ValueView = summary_answer reported inner in
     let is_in = IsIn-from_Contains parts one there in
-    let bound : IsBound inner told.marks u =
-    bound_from inner told.marks told.floor u (IsAtMost-itself u) in
+    let bound : IsBound inner reported.marks u =
+    bound_from inner reported.marks reported.floor u (IsAtMost-itself u) in
     joint_below part one.marks one.floor u
-    (elim (cases_Bool (is_before told.floor one.floor)) [
-      | inl later ↦ bound (whole_at_floor one) (floor_there told.floor parts one is_in later)
+    (elim (cases_Bool (is_before reported.floor one.floor)) [
+      | inl later ↦ bound (whole_at_floor one) (floor_there reported.floor parts one is_in later)
           (overlaps_wider one.span part inner wider (within_overlaps part one.span within))
-      | inr other ↦ above_lower one.floor told.floor u other
-          (above_floor told.floor (values_on inner told.marks))
+      | inr other ↦ above_lower one.floor reported.floor u other
+          (above_floor reported.floor (values_on inner reported.marks))
     ])
-    (λ m its over. bound m (marks_there told.floor parts one m is_in its)
+    (λ m its over. bound m (marks_there reported.floor parts one m is_in its)
     (overlaps_wider m.span part inner wider over))

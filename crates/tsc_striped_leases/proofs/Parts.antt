@@ -2,9 +2,9 @@
 use Rattle.std.proofs.Common.{◌≡◌, inl, inr, refl, sym, subst, Bool, true, false, ℕ, List}
 use Rattle.std.specs.Prelude.{if◌then◌else◌}
 use Rattle.tsc_span.specs.Span.{KeyBytes, Cut, is_below, greater_cut, smaller_cut}
-use Rattle.tsc_span.specs.Span.{Interval, nothing, between}
-use Rattle.tsc_page_nodes.proofs.CutOrder.{Lt, Le, Lt-or_Le, Le-itself, Le-chain, Le_Lt-chain}
-use Rattle.tsc_page_nodes.proofs.CutOrder.{Lt_Le-chain, Le-from_Lt}
+use Rattle.tsc_span.specs.Span.{SpanView, nothing, between}
+use Rattle.tsc_span.proofs.CutOrder.{Lt, Le, Lt-or_Le, Le-itself, Le-chain, Le_Lt-chain}
+use Rattle.tsc_span.proofs.CutOrder.{Lt_Le-chain, Le-from_Lt}
 use Rattle.tsc_stripe_table.specs.Stripes.{stripe_start, stripe_end, piece_between, piece_of}
 use Rattle.tsc_striped.proofs.Overlaps.{greater_least, greater_first, greater_second_}
 use Rattle.tsc_striped.proofs.Overlaps.{smaller_first_}
@@ -69,12 +69,12 @@ within_wider s e from to x y first end is below low high =
     subst (IsWithin (between x y)) (sym piece) (below, start, stop)
 
 -- What lies of a span in a stripe, where the span lies within a wider one.
-pub record IsPartOf (bounds : List KeyBytes) (stripe : ℕ) (x y : Cut) (inner outer : Interval)
+pub record IsPartOf (bounds : List KeyBytes) (stripe : ℕ) (x y : Cut) (inner outer : SpanView)
     : Type 0 where
   pub within : IsWithin (between x y) inner
   pub wider : IsWithin (between x y) (piece_of bounds stripe outer)
 
-pub is_part_of : (bounds : List KeyBytes) (stripe : ℕ) (x y : Cut) (inner outer : Interval)
+pub is_part_of : (bounds : List KeyBytes) (stripe : ℕ) (x y : Cut) (inner outer : SpanView)
     → IsWithin inner outer → piece_of bounds stripe inner ≡ between x y → Lt x y
     → IsPartOf bounds stripe x y inner outer
 is_part_of bounds stripe x y nothing outer w part below = absurd w

@@ -1,9 +1,9 @@
 -- Summaries of several stripes, told as one.
 use Rattle.std.specs.Prelude.{◌^◌, ◌-◌, List, [], ◌∷◌, ◌++◌, if◌then◌else◌}
 use Rattle.tsc_time.specs.Time.{Time, is_before}
-use Rattle.tsc_time.specs.OwnedTime.{unowned}
-use Rattle.tsc_span.specs.Span.{Interval}
-use Rattle.tsc_page_nodes.specs.Page.{Mark}
+use Rattle.tsc_time.specs.ValueView.{unowned}
+use Rattle.tsc_span.specs.Span.{SpanView}
+use Rattle.tsc_page_model.specs.Page.{Mark}
 use Rattle.std.specs.List.{Contains}
 use Rattle.tsc_time.specs.Joint.{IsAtMost}
 use Rattle.timestamp_cache.specs.HandOver.{Summary, IsWithin, summary_answer}
@@ -32,13 +32,13 @@ abbrev pub last_time : Time
 last_time = record { wall = 2 ^ 63 - 1; logical = 2 ^ 31 - 1 }
 
 -- Some summaries as one: a summary of the whole span at the earliest floor.
-abbrev pub merged : Interval → List Summary → Summary
+abbrev pub merged : SpanView → List Summary → Summary
 merged span parts = let floor = least_floor last_time parts in
     record { span = span; floor = floor; marks = marks_over floor parts }
 
 -- A summary tells no less than each of some summaries: of any part of the span of one, whatever
 -- span around that part is asked for.
-abbrev pub TellsNoLess : Summary → List Summary → Type 0
-TellsNoLess told parts = (one : Summary) (part inner : Interval) → Contains parts one
+abbrev pub ReportsNoLess : Summary → List Summary → Type 0
+ReportsNoLess reported parts = (one : Summary) (part inner : SpanView) → Contains parts one
     → IsWithin part one.span → IsWithin part inner
-    → IsAtMost (summary_answer one part) (summary_answer told inner)
+    → IsAtMost (summary_answer one part) (summary_answer reported inner)

@@ -36,10 +36,10 @@
 //! ```
 #![tactic(auto)]
 
-ghost use Rattle.std.specs.Prelude.{◌≡◌, ◌+◌, ◌≤◌, length, IfOk, OnOk, Some};
+ghost use Rattle.std.specs.Prelude.{◌≡◌, ◌+◌, ◌≤◌, length, IfOk, OnOk, IsErrOf, Some};
 ghost use Rattle.tsc_striped.specs.Answers.{AnswersAdd, AnswersTriedAdd};
 ghost use Rattle.tsc_stripe_table.specs.Stripes.{stripe_count};
-ghost use Rattle.timestamp_cache.specs.HandOver.{marks_told};
+ghost use Rattle.timestamp_cache.specs.HandOver.{marks_reported};
 ghost use Rattle.tsc_striped_leases.specs.Leases.{HasLookedOn, SummarizeFrom, SummarizesInStripes};
 ghost use Rattle.tsc_striped_leases.specs.Leases.{TakesOverInStripes};
 
@@ -90,19 +90,19 @@ pub fn summary_in_stripes<R: Wait>(
     most: usize,
 ) -> Result<Vec<ReadSummary>, NoMemory>
     requires cache { seat.old.cache ≡ cache.now }
-    ensures told { IfOk result
-        (λ told. SummarizesInStripes seat.old seat.new span.now most told.items) }
+    ensures reported { IfOk result
+        (λ reported. SummarizesInStripes seat.old seat.new span.now most reported.items) }
     ensures looked { HasLookedOn seat.old seat.new }
 {
     let _number = seat.number();
     let snapshot = cache.snapshot(rt, seat, span)?;
-    let told = summaries(alloc, cache, &snapshot, span, most)?;
-    Ok(told)
+    let reported = summaries(alloc, cache, &snapshot, span, most)?;
+    Ok(reported)
 }
 
 /// As [`summary_in_stripes`], where the caller has no leave to wait: it tries `tries` times to
 /// acquire all locks that it needs. Where another seat held one of them at each try, the answer is
-/// `Busy`, and the seat is as it was.
+/// `Busy`, and the seat is as it was. With no tries that is always so.
 ///
 /// ```
 /// let (cache, mut dealer) = StripedCache::open(alloc, config()?, Vec::new(alloc), 1)?;
@@ -121,14 +121,16 @@ pub fn try_summary_in_stripes(
     tries: u32,
 ) -> Result<Vec<ReadSummary>, SnapshotFault>
     requires cache { seat.old.cache ≡ cache.now }
-    ensures told { IfOk result
-        (λ told. SummarizesInStripes seat.old seat.new span.now most told.items) }
+    ensures reported { IfOk result
+        (λ reported. SummarizesInStripes seat.old seat.new span.now most reported.items) }
     ensures looked { HasLookedOn seat.old seat.new }
+    ensures busy { IsErrOf result SnapshotFault.Busy → seat.new ≡ seat.old }
+    ensures no_tries { tries ≡ 0 → IsErrOf result SnapshotFault.Busy }
 {
     let _number = seat.number();
     let snapshot = cache.try_snapshot(seat, span, tries)?;
     match summaries(alloc, cache, &snapshot, span, most) {
-        Ok(told) => Ok(told),
+        Ok(reported) => Ok(reported),
         Err(_) => Err(SnapshotFault::NoMemory),
     }
 }
@@ -143,19 +145,19 @@ fn summaries(
 ) -> Result<Vec<ReadSummary>, NoMemory>
     requires { snapshot.now.first + length snapshot.now.caches.items
         ≤ stripe_count cache.now.terms.bounds }
-    ensures { IfOk result (λ told. SummarizeFrom cache.now.terms.bounds span.now most
-        snapshot.now.first snapshot.now.caches.items told.items) }
+    ensures { IfOk result (λ reported. SummarizeFrom cache.now.terms.bounds span.now most
+        snapshot.now.first snapshot.now.caches.items reported.items) }
 {
     let _stripes = cache.stripes();
-    let mut told = Vec::new(alloc);
+    let mut reported = Vec::new(alloc);
     let mut stripe = snapshot.first;
     for copy in &snapshot.caches {
         let piece = cache.piece_of(alloc, stripe, span)?;
         let one = summary(alloc, copy, &piece, most)?;
-        told.push(one)?;
+        reported.push(one)?;
         stripe += 1;
     }
-    Ok(told)
+    Ok(reported)
 }
 
 /// Adds what a summary tells at a seat of a cache in stripes, at the moment `now`: all of it as one
@@ -186,7 +188,7 @@ pub fn apply_in_stripes<R: Wait>(
     now: Timestamp,
 ) -> Result<Receipt, AddFault>
     requires cache { seat.old.cache ≡ cache.now }
-    ensures answers { AnswersAdd seat.old seat.new (marks_told summary.now) now result }
+    ensures answers { AnswersAdd seat.old seat.new (marks_reported summary.now) now result }
     ensures takes_over { OnOk result (TakesOverInStripes seat.new summary.now) }
 {
     let _number = seat.number();
@@ -225,8 +227,8 @@ pub fn try_apply_in_stripes(
     tries: u32,
 ) -> Result<Receipt, TryAddFault>
     requires cache { seat.old.cache ≡ cache.now }
-    ensures answers { AnswersTriedAdd seat.old seat.new (marks_told summary.now) now (Some tries)
-        result }
+    ensures answers { AnswersTriedAdd seat.old seat.new (marks_reported summary.now) now
+        (Some tries) result }
     ensures takes_over { OnOk result (TakesOverInStripes seat.new summary.now) }
 {
     let _number = seat.number();
@@ -244,7 +246,7 @@ pub fn try_apply_in_stripes(
 
 /// The marks that are added where a summary is applied.
 fn marks_of(summary: &ReadSummary) -> Result<Vec<Mark>, NoMemory>
-    ensures { IfOk result (λ marks. marks.items ≡ marks_told summary.now) }
+    ensures { IfOk result (λ marks. marks.items ≡ marks_reported summary.now) }
 {
     let mut marks = Vec::new(*summary.marks.allocator());
     marks.push(mark_of(&summary.span, Value::unowned(summary.floor))?)?;

@@ -1,6 +1,6 @@
 //! Summaries of several stripes, told as one.
 ghost use Rattle.std.specs.Prelude.{◌≡◌, ◌++◌, IfOk};
-ghost use Rattle.tsc_striped_leases.specs.Merging.{merged, least_floor, last_time, floor_mark, TellsNoLess};
+ghost use Rattle.tsc_striped_leases.specs.Merging.{merged, least_floor, last_time, floor_mark, ReportsNoLess};
 
 use std::alloc::Global;
 use timestamp_cache::ReadSummary;
@@ -25,23 +25,23 @@ use tsc_time::{NoMemory, Timestamp, Value};
 /// assert_eq!(rt; (told.floor, told.marks.len()), (at(5), 1));
 /// ```
 pub fn merged(alloc: Global, span: &Span, parts: Vec<ReadSummary>) -> Result<ReadSummary, NoMemory>
-    ensures value { IfOk result (λ told. told ≡ merged span.now parts.items) }
-    ensures no_less { IfOk result (λ told. TellsNoLess told parts.items) }
+    ensures value { IfOk result (λ reported. reported ≡ merged span.now parts.items) }
+    ensures no_less { IfOk result (λ reported. ReportsNoLess reported parts.items) }
 {
     match all_as_one(alloc, span, parts) {
-        Ok(told) => Ok(told),
+        Ok(reported) => Ok(reported),
         Err(_) => Err(NoMemory),
     }
 }
 
 /// The summary that [`merged`] tells.
 fn all_as_one(alloc: Global, span: &Span, parts: Vec<ReadSummary>) -> Result<ReadSummary, NoMemory>
-    ensures { IfOk result (λ told. told ≡ merged span.now parts.items) }
+    ensures { IfOk result (λ reported. reported ≡ merged span.now parts.items) }
 {
     let floor = earliest_floor(&parts);
     let mut marks = Vec::new(alloc);
     for part in parts {
-        tell_over(&mut marks, floor, part)?;
+        report_over(&mut marks, floor, part)?;
     }
     Ok(ReadSummary {
         span: span.try_copy()?,
@@ -64,7 +64,7 @@ fn earliest_floor(parts: &[ReadSummary]) -> Timestamp
 }
 
 /// Tells of one summary more, over a floor.
-fn tell_over(marks: &mut Vec<Mark>, floor: Timestamp, part: ReadSummary) -> Result<(), NoMemory>
+fn report_over(marks: &mut Vec<Mark>, floor: Timestamp, part: ReadSummary) -> Result<(), NoMemory>
     ensures { IfOk result (λ _. marks.new.items ≡
         marks.old.items ++ (floor_mark floor part ++ part.marks)) }
 {

@@ -5,55 +5,55 @@ use Rattle.std.specs.List.{Contains}
 use Rattle.std.proofs.lemmas.List.Elements.{Contains-append_cases, Contains-append_left, Contains-append_right}
 use Rattle.std.proofs.lemmas.Bool.{cases_Bool}
 use Rattle.tsc_time.specs.Time.{Time, is_before}
-use Rattle.tsc_time.specs.OwnedTime.{Owner, OwnedTime}
+use Rattle.tsc_time.specs.ValueView.{Owner, ValueView}
 use Rattle.tsc_time.specs.Joint.{IsAtMost, joint, latest}
 use Rattle.tsc_time.specs.Laws.{SameJoint}
-use Rattle.tsc_time.proofs.TimeOrder.{is_before-itself, later-tells, is_before-opposite, no_earlier-transitive, same_from_neither_before}
+use Rattle.tsc_time.proofs.TimeOrder.{is_before-itself, later-reports, is_before-opposite, no_earlier-transitive, same_from_neither_before}
 use Rattle.tsc_time.proofs.Members.{IsIn, IsIn-from_Contains, Contains-from_IsIn}
 use Rattle.tsc_time.proofs.SharedOwner.{owners_at, owners_at-has, owners_at-from, shared_owner-each, shared_owner-all}
 use Rattle.tsc_time.proofs.RatchetOrder.{IsAtMost-itself, IsAtMost-antisymmetric, IsAtMost-transitive}
 
 -- the greatest time is no earlier than the one that it starts from
-pub latest-start : (t : Time) (vs : List OwnedTime) → is_before (latest t vs) t ≡ false
+pub latest-start : (t : Time) (vs : List ValueView) → is_before (latest t vs) t ≡ false
 latest-start t [] = is_before-itself t
 latest-start t (v ∷ vs) =
     let more = latest-start t vs in
-    elim (later-tells v.time (latest t vs)) [
+    elim (later-reports v.time (latest t vs)) [
       | inl s ↦ rw s.1 more
       | inr s ↦ rw s.1
           (no_earlier-transitive t (latest t vs) v.time more s.0)
     ]
 
 -- and no earlier than any of the list
-pub latest-each : (t : Time) (vs : List OwnedTime) (x : OwnedTime) → IsIn vs x →
+pub latest-each : (t : Time) (vs : List ValueView) (x : ValueView) → IsIn vs x →
     is_before (latest t vs) x.time ≡ false
 latest-each t [] x i = absurd i
 latest-each t (v ∷ vs) x (inl e) =
-    elim (later-tells v.time (latest t vs)) [
+    elim (later-reports v.time (latest t vs)) [
       | inl s ↦ rw (s.1, ← e) (is_before-opposite v.time (latest t vs) s.0)
       | inr s ↦
           rw (s.1, ← e) (is_before-itself v.time)
     ]
 latest-each t (v ∷ vs) x (inr i) =
     let more = latest-each t vs x i in
-    elim (later-tells v.time (latest t vs)) [
+    elim (later-reports v.time (latest t vs)) [
       | inl s ↦ rw s.1 more
       | inr s ↦ rw s.1
           (no_earlier-transitive x.time (latest t vs) v.time more s.0)
     ]
 
 -- it is one of them
-pub latest-reached : (t : Time) (vs : List OwnedTime) →
-    (latest t vs ≡ t) ⊎ ((x : OwnedTime) × (IsIn vs x) × (x.time ≡ latest t vs))
+pub latest-reached : (t : Time) (vs : List ValueView) →
+    (latest t vs ≡ t) ⊎ ((x : ValueView) × (IsIn vs x) × (x.time ≡ latest t vs))
 latest-reached t [] = inl refl
 latest-reached t (v ∷ vs) =
-    elim (later-tells v.time (latest t vs)) [
+    elim (later-reports v.time (latest t vs)) [
       | inl s ↦ rw s.1 (elim (latest-reached t vs)
           [ inl e ↦ inl e | inr r ↦ inr (r.0, inr r.1, r.2) ])
       | inr s ↦ rw s.1 (inr (v, inl refl, refl))
     ]
 
-at_most-joint : (v : OwnedTime) (vs : List OwnedTime) (x : OwnedTime) → IsIn (v ∷ vs) x →
+at_most-joint : (v : ValueView) (vs : List ValueView) (x : ValueView) → IsIn (v ∷ vs) x →
     IsAtMost x (joint v vs)
 at_most-joint v vs x i =
     let t : Time = latest v.time vs in
@@ -66,12 +66,12 @@ at_most-joint v vs x i =
     ]
 
 -- each of a list is at most its joint value
-pub joint-above : (v : OwnedTime) (vs : List OwnedTime) (x : OwnedTime) → Contains (v ∷ vs) x →
+pub joint-above : (v : ValueView) (vs : List ValueView) (x : ValueView) → Contains (v ∷ vs) x →
     IsAtMost x (joint v vs)
 joint-above v vs x i = at_most-joint v vs x (IsIn-from_Contains (v ∷ vs) x i)
 
 -- one of a list has the time of its joint value
-joint-reached : (v : OwnedTime) (vs : List OwnedTime) → (x : OwnedTime) × (IsIn (v ∷ vs) x) ×
+joint-reached : (v : ValueView) (vs : List ValueView) → (x : ValueView) × (IsIn (v ∷ vs) x) ×
     (x.time ≡ latest v.time vs)
 joint-reached v vs =
     elim (latest-reached v.time vs) [ inl e ↦ (v, inl refl, sym e) | inr r ↦ (r.0, inr r.1, r.2) ]
@@ -81,16 +81,16 @@ owner_cases None = inl refl
 owner_cases (Some a) = inr (a, refl)
 
 -- at one time only a value of the same owner is at most an owned one
-owner_below : (a : Owner) (x u : OwnedTime) → u.owner ≡ Some a → x.time ≡ u.time → IsAtMost x u →
+owner_below : (a : Owner) (x u : ValueView) → u.owner ≡ Some a → x.time ≡ u.time → IsAtMost x u →
     x.owner ≡ u.owner
 owner_below a x u o e p = grind (arith, is_before-itself)
 
 -- what each of a list is at most, its joint value is at most
-pub joint-least : (v : OwnedTime) (vs : List OwnedTime) (u : OwnedTime) →
-    ((x : OwnedTime) → Contains (v ∷ vs) x → IsAtMost x u) → IsAtMost (joint v vs) u
+pub joint-least : (v : ValueView) (vs : List ValueView) (u : ValueView) →
+    ((x : ValueView) → Contains (v ∷ vs) x → IsAtMost x u) → IsAtMost (joint v vs) u
 joint-least v vs u h =
     let t : Time = latest v.time vs in
-    let below : (x : OwnedTime) → IsIn (v ∷ vs) x → IsAtMost x u =
+    let below : (x : ValueView) → IsIn (v ∷ vs) x → IsAtMost x u =
     λ x i. h x (Contains-from_IsIn (v ∷ vs) x i) in
     let r = joint-reached v vs in
     elim (below r.0 r.1) [
@@ -118,7 +118,7 @@ joint-of_a_set v w vs ws h =
     (joint-least w ws (joint v vs) (λ x i. joint-above v vs x ((h x).1 i)))
 
 -- a value alone is its own joint value
-pub joint-singleton : (v : OwnedTime) → joint v [] ≡ v
+pub joint-singleton : (v : ValueView) → joint v [] ≡ v
 joint-singleton v =
     IsAtMost-antisymmetric (joint v []) v
     (joint-least v [] v (λ x i. elim (IsIn-from_Contains (v ∷ []) x i)
@@ -126,11 +126,11 @@ joint-singleton v =
     (joint-above v [] v (Contains-from_IsIn (v ∷ []) v (inl refl)))
 
 -- one more at the end acts on the joint value of those before it
-pub joint-append : (v : OwnedTime) (vs : List OwnedTime) (w : OwnedTime) →
+pub joint-append : (v : ValueView) (vs : List ValueView) (w : ValueView) →
     joint v (vs ++ w ∷ []) ≡ joint (joint v vs) (w ∷ [])
 joint-append v vs w =
-    let whole : OwnedTime = joint v (vs ++ w ∷ []) in
-    let front : OwnedTime = joint v vs in
+    let whole : ValueView = joint v (vs ++ w ∷ []) in
+    let front : ValueView = joint v vs in
     IsAtMost-antisymmetric whole (joint front (w ∷ []))
     (joint-least v (vs ++ w ∷ []) (joint front (w ∷ []))
     (λ x i.

@@ -5,7 +5,7 @@ use Rattle.std.specs.List.{list_all}
 use Rattle.std.proofs.lemmas.Slice.Eq.{bytes_eq-Decides}
 use Rattle.std.proofs.lemmas.Bool.{and_parts, and_from, cases_Bool, both_ways}
 use Rattle.tsc_time.specs.Time.{Time, is_same_time}
-use Rattle.tsc_time.specs.OwnedTime.{Owner, OwnedTime, is_same_owner}
+use Rattle.tsc_time.specs.ValueView.{Owner, ValueView, is_same_owner}
 use Rattle.tsc_time.specs.Joint.{shared_owner, those_at}
 use Rattle.tsc_time.proofs.TimeOrder.{is_same_time-Decides}
 use Rattle.tsc_time.proofs.Members.{IsIn}
@@ -58,11 +58,11 @@ shared_owner-each (q ∷ os) p i =
     ]
 
 -- the owners of those of a list that have this time
-abbrev pub owners_at : Time → List OwnedTime → List (Option Owner)
+abbrev pub owners_at : Time → List ValueView → List (Option Owner)
 owners_at t vs = map (λ w. w.owner) (those_at t vs)
 
 -- an owner at this time is among them
-pub owners_at-has : (t : Time) (vs : List OwnedTime) (x : OwnedTime) → IsIn vs x → x.time ≡ t →
+pub owners_at-has : (t : Time) (vs : List ValueView) (x : ValueView) → IsIn vs x → x.time ≡ t →
     IsIn (owners_at t vs) x.owner
 owners_at-has t [] x i e = absurd i
 owners_at-has t (v ∷ vs) x i e =
@@ -79,11 +79,11 @@ owners_at-has t (v ∷ vs) x i e =
     ]
 
 -- and each of them has this time
-pub owners_at-from : (t : Time) (vs : List OwnedTime) (p : Option Owner) → IsIn (owners_at t vs) p →
-    (x : OwnedTime) × (IsIn vs x) × (x.time ≡ t) × (x.owner ≡ p)
+pub owners_at-from : (t : Time) (vs : List ValueView) (p : Option Owner) → IsIn (owners_at t vs) p →
+    (x : ValueView) × (IsIn vs x) × (x.time ≡ t) × (x.owner ≡ p)
 owners_at-from t [] p i = absurd i
 owners_at-from t (v ∷ vs) p i =
-    let more : IsIn (owners_at t vs) p → (x : OwnedTime) × (IsIn (v ∷ vs) x) × (x.time ≡ t) ×
+    let more : IsIn (owners_at t vs) p → (x : ValueView) × (IsIn (v ∷ vs) x) × (x.time ≡ t) ×
     (x.owner ≡ p) = λ j. let r = owners_at-from t vs p j in (r.0, inr r.1, r.2, r.3) in
     elim (cases_Bool (is_same_time v.time t)) [
       | inl s ↦ elim (rw s at i) [

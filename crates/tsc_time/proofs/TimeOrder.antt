@@ -20,32 +20,32 @@ is_same_time-Decides a b =
     (Decides-and _ _ (Decides-eqb a.wall b.wall) (Decides-eqb a.logical b.logical))
 
 -- what the test of order tells, either way
-pub is_before-tells : (a b : Time) →
+pub is_before-reports : (a b : Time) →
     ((is_before a b ≡ true) × ((a.wall < b.wall) ⊎ ((a.wall ≡ b.wall) × (a.logical < b.logical)))) ⊎
     ((is_before a b ≡ false) × ((b.wall < a.wall) ⊎ ((a.wall ≡ b.wall) × (b.logical ≤ a.logical))))
-is_before-tells a b = grind (arith, nat_tests)
+is_before-reports a b = grind (arith, nat_tests)
 
 pub is_before-itself : (a : Time) → is_before a a ≡ false
-is_before-itself a = grind (arith, is_before-tells)
+is_before-itself a = grind (arith, is_before-reports)
 
 pub is_before-transitive : (a b c : Time) → is_before a b ≡ true → is_before b c ≡ true →
     is_before a c ≡ true
-is_before-transitive a b c p q = grind (arith, is_before-tells)
+is_before-transitive a b c p q = grind (arith, is_before-reports)
 
 -- no time is before one that is before it
 pub is_before-opposite : (a b : Time) → is_before a b ≡ true → is_before b a ≡ false
-is_before-opposite a b p = grind (arith, is_before-tells)
+is_before-opposite a b p = grind (arith, is_before-reports)
 
 -- being no earlier is transitive too
 pub no_earlier-transitive : (a b c : Time) → is_before b a ≡ false → is_before c b ≡ false →
     is_before c a ≡ false
-no_earlier-transitive a b c p q = grind (arith, is_before-tells)
+no_earlier-transitive a b c p q = grind (arith, is_before-reports)
 
 -- neither is before the other only where they are the same
 pub same_from_neither_before : (a b : Time) → is_before a b ≡ false → is_before b a ≡ false → a ≡ b
-same_from_neither_before a b p q = grind (arith, is_before-tells, same_parts)
+same_from_neither_before a b p q = grind (arith, is_before-reports, same_parts)
 
 -- which of two is the later
-pub later-tells : (a b : Time) → ((is_before a b ≡ true) × (later a b ≡ b)) ⊎
+pub later-reports : (a b : Time) → ((is_before a b ≡ true) × (later a b ≡ b)) ⊎
     ((is_before a b ≡ false) × (later a b ≡ a))
-later-tells a b = grind arith
+later-reports a b = grind arith

@@ -1,7 +1,7 @@
 -- What follows from the definitions, stated for every value.
 use Rattle.std.specs.Prelude.{◌≡◌, ◌↔◌, List, ◌∷◌, Contains, true, false}
 use Rattle.tsc_time.specs.Time.{Time, is_in_range, is_before}
-use Rattle.tsc_time.specs.OwnedTime.{OwnedTime}
+use Rattle.tsc_time.specs.ValueView.{ValueView}
 use Rattle.tsc_time.specs.Joint.{joint, IsAtMost}
 
 -- both times are in range, and no time in range is before the first or after the last
@@ -13,18 +13,18 @@ pub record IsRange (first last : Time) : Type 0 where
 
 -- the ratchet order is a partial order
 pub record IsRatchetOrder : Type 0 where
-  pub itself : (v : OwnedTime) → IsAtMost v v
-  pub antisymmetric : (v w : OwnedTime) → IsAtMost v w → IsAtMost w v → v ≡ w
-  pub transitive : (u v w : OwnedTime) → IsAtMost u v → IsAtMost v w → IsAtMost u w
+  pub itself : (v : ValueView) → IsAtMost v v
+  pub antisymmetric : (v w : ValueView) → IsAtMost v w → IsAtMost w v → v ≡ w
+  pub transitive : (u v w : ValueView) → IsAtMost u v → IsAtMost v w → IsAtMost u w
 
 -- the joint value is the least that each of the list is at most
 pub record IsLeastAbove : Type 0 where
-  pub above : (v : OwnedTime) (vs : List OwnedTime) (x : OwnedTime) → Contains (v ∷ vs) x →
+  pub above : (v : ValueView) (vs : List ValueView) (x : ValueView) → Contains (v ∷ vs) x →
       IsAtMost x (joint v vs)
-  pub least : (v : OwnedTime) (vs : List OwnedTime) (u : OwnedTime) →
-      ((x : OwnedTime) → Contains (v ∷ vs) x → IsAtMost x u) → IsAtMost (joint v vs) u
+  pub least : (v : ValueView) (vs : List ValueView) (u : ValueView) →
+      ((x : ValueView) → Contains (v ∷ vs) x → IsAtMost x u) → IsAtMost (joint v vs) u
 
 -- lists that hold one set of values, in whatever order and however often, have one joint value
 abbrev pub SameJoint : Type 0
-SameJoint = (v w : OwnedTime) (vs ws : List OwnedTime) →
-    ((x : OwnedTime) → Contains (v ∷ vs) x ↔ Contains (w ∷ ws) x) → joint v vs ≡ joint w ws
+SameJoint = (v w : ValueView) (vs ws : List ValueView) →
+    ((x : ValueView) → Contains (v ∷ vs) x ↔ Contains (w ∷ ws) x) → joint v vs ≡ joint w ws

@@ -1,5 +1,5 @@
 pub mod Limits
 pub mod Time
-pub mod OwnedTime
+pub mod ValueView
 pub mod Joint
 pub mod Laws

@@ -24,21 +24,21 @@ pub fn compares_times(a: Timestamp, b: Timestamp) -> Ordering
 }
 
 /// `<` on timestamps says which is the earlier.
-pub fn tells_earlier(a: Timestamp, b: Timestamp) -> bool
+pub fn reports_earlier(a: Timestamp, b: Timestamp) -> bool
     ensures { result ≡ is_before a b }
 {
     a < b
 }
 
 /// `==` on timestamps compares both parts.
-pub fn tells_same_time(a: Timestamp, b: Timestamp) -> bool
+pub fn reports_same_time(a: Timestamp, b: Timestamp) -> bool
     ensures { IsTrue result ↔ (a ≡ b) }
 {
     a == b
 }
 
 /// `==` on values compares the times and the owners.
-pub fn tells_same_value(v: Value, w: Value) -> bool
+pub fn reports_same_value(v: Value, w: Value) -> bool
     ensures { IsTrue result ↔ (v ≡ w) }
 {
     v == w

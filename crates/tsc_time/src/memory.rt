@@ -1,3 +1,4 @@
+//! Want of memory, which all crates tell by one type.
 use std::alloc::{AllocError, AllocFailed};
 use thiserror::Error;
 

@@ -1,3 +1,5 @@
+//! Timestamps: a wall time and a logical count, in a range that both signed and unsigned numbers
+//! have.
 ghost use Rattle.std.specs.Prelude.{◌≡◌, ◌<◌, IsTrue, true, false, Some, None, if◌then◌else◌};
 ghost use Rattle.tsc_time.specs.Limits.{wall_limit, logical_limit};
 ghost use Rattle.tsc_time.specs.Time.{is_in_range, zero_time, time_minus};

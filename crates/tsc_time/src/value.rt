@@ -1,7 +1,8 @@
+//! Values: a time with the transaction that read at it, and the ratchet that joins two of them.
 ghost use Rattle.std.specs.Prelude.{◌≡◌, ◌≢◌, ◌↔◌, ◌<◌, ◌∷◌, [], length, All, IsTrue, Some, None};
 ghost use Rattle.std.specs.Str.{bytes_eq};
 ghost use Rattle.uuid.specs.Parts.{is_nil_bytes, zero_bytes};
-ghost use Rattle.tsc_time.specs.OwnedTime.{unowned, owner_of, is_same_owner, IsMadeValue};
+ghost use Rattle.tsc_time.specs.ValueView.{unowned, owner_of, is_same_owner, IsMadeValue};
 ghost use Rattle.tsc_time.specs.Joint.{joint, ratcheted};
 
 use crate::Timestamp;
@@ -26,9 +27,9 @@ pub struct Value {
 impl Model for Value {
     ghost use Rattle.std.specs.Prelude.{◌≡◌, true};
     ghost use Rattle.tsc_time.specs.Time.{is_in_range};
-    ghost use Rattle.tsc_time.specs.OwnedTime.{OwnedTime, IsMadeOwner};
+    ghost use Rattle.tsc_time.specs.ValueView.{ValueView, IsMadeOwner};
 
-    ghost Value = { OwnedTime };
+    ghost Value = { ValueView };
 
     ghost view = { λ v. record {
       time = record { wall = v.wall; logical = v.logical };

@@ -1,6 +1,6 @@
 -- What a call answers is of its kind, and says of its addition what that did.
 use Rattle.std.proofs.Common.{◌≡◌, ◌∙◌, refl, sym, ap, ℕ, Bool, true, false, true≢false, is_some, option_map}
-use Rattle.tsc_cache.specs.Settings.{Settings}
+use Rattle.tsc_cache.specs.ConfigView.{ConfigView}
 use Rattle.tsc_cache.specs.State.{CacheState}
 use Rattle.tsc_trace_format.specs.Calls.{kind_of, is_same_kind, addition_of, adds}
 use Rattle.tsc_trace_format.specs.declared.trace.Call.{Call}
@@ -47,38 +47,38 @@ said_adds (said.Get front value) = refl
 said_adds (said.Low front time) = refl
 
 -- an answer of a call's kind tells of an addition just where the call adds
-pub tells_where_adds : (call : Call) (s : CallAnswer) →
+pub reports_where_adds : (call : Call) (s : CallAnswer) →
     is_same_kind (kind_of call) (kind_of_answer s) ≡ true → is_some (outcome_of s) ≡ adds call
-tells_where_adds call s same = said_adds s ∙
+reports_where_adds call s same = said_adds s ∙
     ap adds_by_kind (sym (one_kind (kind_of call) (kind_of_answer s) same)) ∙ sym (call_adds call)
 
 -- ---- what a call answers
 
-pub kind_in : (settings : Settings) (s : CacheState) (front : ℕ) (call : Call) →
-    kind_of_answer (said_in settings s front call) ≡ kind_of call
-kind_in settings s front (Add span value now) = refl
-kind_in settings s front (Batch marks now) = refl
-kind_in settings s front (Get span) = refl
-kind_in settings s front Low = refl
+pub kind_in : (config : ConfigView) (s : CacheState) (front : ℕ) (call : Call) →
+    kind_of_answer (said_in config s front call) ≡ kind_of call
+kind_in config s front (Add span value now) = refl
+kind_in config s front (Batch marks now) = refl
+kind_in config s front (Get span) = refl
+kind_in config s front Low = refl
 
-pub front_in : (settings : Settings) (s : CacheState) (front : ℕ) (call : Call) →
-    front_of (said_in settings s front call) ≡ front
-front_in settings s front (Add span value now) = refl
-front_in settings s front (Batch marks now) = refl
-front_in settings s front (Get span) = refl
-front_in settings s front Low = refl
+pub front_in : (config : ConfigView) (s : CacheState) (front : ℕ) (call : Call) →
+    front_of (said_in config s front call) ≡ front
+front_in config s front (Add span value now) = refl
+front_in config s front (Batch marks now) = refl
+front_in config s front (Get span) = refl
+front_in config s front Low = refl
 
-pub tells_in : (settings : Settings) (s : CacheState) (front : ℕ) (call : Call) →
-    is_some (outcome_of (said_in settings s front call)) ≡ adds call
-tells_in settings s front (Add span value now) = refl
-tells_in settings s front (Batch marks now) = refl
-tells_in settings s front (Get span) = refl
-tells_in settings s front Low = refl
+pub reports_in : (config : ConfigView) (s : CacheState) (front : ℕ) (call : Call) →
+    is_some (outcome_of (said_in config s front call)) ≡ adds call
+reports_in config s front (Add span value now) = refl
+reports_in config s front (Batch marks now) = refl
+reports_in config s front (Get span) = refl
+reports_in config s front Low = refl
 
-pub told_in : (settings : Settings) (s : CacheState) (front : ℕ) (call : Call) →
-    outcome_of (said_in settings s front call) ≡
-    option_map (λ a. record { place = front; added = (made settings s a).added }) (addition_of call)
-told_in settings s front (Add span value now) = refl
-told_in settings s front (Batch marks now) = refl
-told_in settings s front (Get span) = refl
-told_in settings s front Low = refl
+pub reported_in : (config : ConfigView) (s : CacheState) (front : ℕ) (call : Call) →
+    outcome_of (said_in config s front call) ≡
+    option_map (λ a. record { place = front; added = (made config s a).added }) (addition_of call)
+reported_in config s front (Add span value now) = refl
+reported_in config s front (Batch marks now) = refl
+reported_in config s front (Get span) = refl
+reported_in config s front Low = refl

@@ -16,7 +16,7 @@ use Rattle.uuid.proofs.TextLemmas.{by_index_length, by_index_at}
 use Rattle.uuid.proofs.RoundTrips.{parses_hyphenated}
 use Rattle.tsc_time.proofs.TimeOrder.{parts_below}
 use Rattle.tsc_time.specs.Time.{Time, is_in_range}
-use Rattle.tsc_time.specs.OwnedTime.{OwnedTime, Owner, IsMadeOwner, IsMadeValue, owner_of}
+use Rattle.tsc_time.specs.ValueView.{ValueView, Owner, IsMadeOwner, IsMadeValue, owner_of}
 use Rattle.tsc_trace.specs.declared.log.CallAnswer.{CallAnswer}
 use Rattle.tsc_trace.specs.declared.log.CallAnswer.TheVariants as said
 use Rattle.tsc_trace.specs.LogText.{space, dot, time_text, owner_text, answer_text, line_text}
@@ -265,7 +265,7 @@ wrong_owner text other none = refused where
 -- what follows the first number of a lookup's fields is its time and its owner
 pub get_refused : (fields rest : List ℕ) (front : ℕ) →
     ReadsField (λ n. n < 2 ^ 64) decimal fields (Some (front, rest))
-    → ((value : OwnedTime) → IsMadeValue value →
+    → ((value : ValueView) → IsMadeValue value →
     rest ≢ time_text value.time ++ space ∷ owner_text value.owner)
     → ReadsBack IsWritableAnswer answer_text (codes "get" ++ space ∷ fields) None
 get_refused fields rest front field none = refused where
@@ -283,7 +283,7 @@ get_refused fields rest front field none = refused where
       ap (λ (bytes : List ℕ). get_or bytes 0 0) e in absurd (omega (arith, heads))
 
 -- the time and the owner stand round the first space
-pub value_parts : (rest at name : List ℕ) (value : OwnedTime) → IsWithout space at ×
+pub value_parts : (rest at name : List ℕ) (value : ValueView) → IsWithout space at ×
     (rest ≡ at ++ space ∷ name) → IsMadeValue value
     → rest ≡ time_text value.time ++ space ∷ owner_text value.owner → (at ≡ time_text value.time) ×
     (name ≡ owner_text value.owner)
@@ -300,7 +300,7 @@ pub get_read : (fields rest at name : List ℕ) (front : ℕ) (time : Time) (own
     (Some (said.Get front (record { time = time; owner = owner })))
 get_read fields rest at name front time owner field cut first second =
     ((field.0, record { time = first.0; owner = second.0 }), found) where
-      same_value : (n : ℕ) (value : OwnedTime) → front ≡ n → time ≡ value.time → owner ≡ value.owner
+      same_value : (n : ℕ) (value : ValueView) → front ≡ n → time ≡ value.time → owner ≡ value.owner
           → said.Get front (record { time = time; owner = owner }) ≡ said.Get n value
       same_value n value fronts times owners = rw (fronts, times, owners) refl
 
@@ -357,7 +357,7 @@ wrong_word text word fields cut no_add no_batch no_get no_low = refused where
 pub no_text : {E : Type 0} (text : List ℕ) (r : Result (Bor (List ℕ)) E) (Valid : E → Type 0)
     → MatchResult r (λ s. (s.now ≡ text) × IsUtf8 text) (λ e. (IsUtf8 text → ⊥) × Valid e) →
     None ≡ result_ok r → ReadsBack IsWritable line_text text None
-no_text text (Ok s) Valid told none = absurd cc
-no_text text (Err fault) Valid told none =
-    λ line writable e. told.0 (subst IsUtf8 (sym e)
+no_text text (Ok s) Valid reported none = absurd cc
+no_text text (Err fault) Valid reported none =
+    λ line writable e. reported.0 (subst IsUtf8 (sym e)
     (IsUtf8-from_ascii (line_text line) (line_ascii line writable)))

@@ -12,7 +12,7 @@ use Rattle.uuid.specs.Text.{hex_digit, nibble, hyphenated_text, lower, is_hyphen
 use Rattle.uuid.proofs.TextLemmas.{by_index_length, by_index_at, nibble_small}
 use Rattle.tsc_time.proofs.TimeOrder.{parts_below}
 use Rattle.tsc_time.specs.Time.{Time, is_in_range}
-use Rattle.tsc_time.specs.OwnedTime.{Owner}
+use Rattle.tsc_time.specs.ValueView.{Owner}
 use Rattle.tsc_trace.specs.declared.log.Line.{Line}
 use Rattle.tsc_trace.specs.declared.log.CallAnswer.{CallAnswer}
 use Rattle.tsc_trace.specs.declared.log.CallAnswer.TheVariants as said

@@ -1,8 +1,8 @@
 -- A whole run: a trace, the log that it gives, and the text of that log.
 use Rattle.std.specs.Prelude.{◌≡◌, ℕ, List, [], ◌∷◌, ◌++◌, true, false, codes, refl}
-use Rattle.tsc_time.specs.OwnedTime.{unowned}
+use Rattle.tsc_time.specs.ValueView.{unowned}
 use Rattle.tsc_span.specs.Span.{point}
-use Rattle.tsc_cache.proofs.ExampleSettings.{at, of_first, of_second, usual, twenty, added}
+use Rattle.tsc_cache.proofs.ExampleConfig.{at, of_first, of_second, usual, twenty, added}
 use Rattle.tsc_trace_format.proofs.ExampleTraces.{ended, example_trace}
 use Rattle.tsc_trace.specs.Log.{log_of}
 use Rattle.tsc_trace.specs.LogText.{log_text}

@@ -2,7 +2,7 @@
 use Rattle.std.proofs.Common.{[], ◌∷◌, Ok, codes, refl, arith}
 use Rattle.std.proofs.lemmas.List.Elements.{All-nil, All-cons}
 use Rattle.std.specs.Fmt.{digits}
-use Rattle.tsc_cache.proofs.ExampleSettings.{at}
+use Rattle.tsc_cache.proofs.ExampleConfig.{at}
 use Rattle.tsc_trace.specs.declared.log.Line.{Line}
 use Rattle.tsc_trace.specs.declared.log.CallAnswer.TheVariants as said
 use Rattle.tsc_trace.specs.LogReading.{IsWritable, ReadsAs}

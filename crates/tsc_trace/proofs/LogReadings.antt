@@ -83,7 +83,7 @@ pub refused : (bytes : List ℕ) (fault : LogFault) (number : ℕ) (text : List 
     (fault ≡ NoMemory) ⊎ ((fault ≡ Text (number + 1)) × IsNoLineText text)
     → (IsNoLineText text → IsWrongAt bytes (number + 1)) → ReadsAs bytes (Err fault)
 refused bytes fault number text (inl memory) wrong = rw memory tt
-refused bytes fault number text (inr told) wrong = rw told.0 (wrong told.1)
+refused bytes fault number text (inr reported) wrong = rw reported.0 (wrong reported.1)
 
 log_text_push : (lines : List Line) (line : Line) (after : List ℕ) →
     log_text (lines ++ line ∷ []) ++ after ≡ log_text lines ++ (line_text line ++ line_feed ∷ after)
@@ -95,13 +95,13 @@ pub one_more : (bytes rest text after : List ℕ) (old new : List Line) →
     bytes ≡ log_text old ++ rest → All IsWritable old
     → IsWithout line_feed text × (rest ≡ text ++ line_feed ∷ after) → AddsLine text old new
     → (bytes ≡ log_text new ++ after) × All IsWritable new × (length new ≡ length old + 1)
-one_more bytes rest text after old new told writable cut more =
+one_more bytes rest text after old new reported writable cut more =
     let line = more.line in
     let here : rest ≡ line_text line ++ line_feed ∷ after =
     cut.1 ∙ ap (λ t. t ++ line_feed ∷ after) more.spelled in
     let pushed : log_text new ++ after ≡ log_text old ++ (line_text line ++ line_feed ∷ after) =
     ap (λ ls. log_text ls ++ after) more.added ∙ log_text_push old line after in (
-      told ∙ ap (λ r. log_text old ++ r) here ∙ sym pushed,
+      reported ∙ ap (λ r. log_text old ++ r) here ∙ sym pushed,
       subst (All IsWritable) (sym more.added) (All-push IsWritable old line writable more.writable),
       ap length more.added ∙ length-append old (line ∷ []),
     )

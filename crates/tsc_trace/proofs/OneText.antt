@@ -5,7 +5,7 @@ use Rattle.uuid.specs.Text.{hyphenated_text, lower}
 use Rattle.tsc_cache.specs.declared.added.Added.{Added}
 use Rattle.tsc_time.proofs.TimeOrder.{parts_below}
 use Rattle.tsc_time.specs.Time.{Time, is_in_range}
-use Rattle.tsc_time.specs.OwnedTime.{OwnedTime, Owner, IsMadeOwner, IsMadeValue}
+use Rattle.tsc_time.specs.ValueView.{ValueView, Owner, IsMadeOwner, IsMadeValue}
 use Rattle.tsc_trace.specs.declared.log.Line.{Line}
 use Rattle.tsc_trace.specs.declared.log.CallAnswer.{CallAnswer}
 use Rattle.tsc_trace.specs.declared.log.CallAnswer.TheVariants as said
@@ -66,11 +66,11 @@ same_owner (Some uuid) (Some other) made made' e =
     sym (parsed_owner (hyphenated_text lower uuid) uuid made refl) ∙
     parsed_owner (hyphenated_text lower uuid) other made' e
 
-value_by_parts : (time : Time) (owner : Option Owner) (v : OwnedTime) → time ≡ v.time →
+value_by_parts : (time : Time) (owner : Option Owner) (v : ValueView) → time ≡ v.time →
     owner ≡ v.owner → record { time = time; owner = owner } ≡ v
 value_by_parts time owner v times owners = rw (times, owners) refl
 
-same_value : (v w : OwnedTime) → IsMadeValue v → IsMadeValue w
+same_value : (v w : ValueView) → IsMadeValue v → IsMadeValue w
     → time_text v.time ++ space ∷ owner_text v.owner ≡ time_text w.time ++ space ∷
     owner_text w.owner → v ≡ w
 same_value v w made made' e =

@@ -1,6 +1,6 @@
 -- The log of a trace: what each call answers where one thread takes list after list.
 use Rattle.std.specs.Prelude.{ℕ, suc, List, [], ◌∷◌, ◌++◌, length, Option, Some, None}
-use Rattle.tsc_cache.specs.Settings.{Settings}
+use Rattle.tsc_cache.specs.ConfigView.{ConfigView}
 use Rattle.tsc_cache.specs.State.{CacheState, Stepped, step_all, look}
 use Rattle.tsc_cache.specs.declared.history.Entry.{Entry}
 use Rattle.tsc_cache.specs.History.{History, own_count, state_of}
@@ -13,21 +13,21 @@ use Rattle.tsc_trace.specs.declared.log.CallAnswer.{CallAnswer}
 use Rattle.tsc_trace.specs.declared.log.CallAnswer.TheVariants as said
 
 -- what an addition makes of a state, and what it answers
-abbrev pub made : Settings → CacheState → Addition → Stepped
-made settings s a = step_all settings s a.marks a.now
+abbrev pub made : ConfigView → CacheState → Addition → Stepped
+made config s a = step_all config s a.marks a.now
 
 -- what a call answers in a state, where `front` Adds came before
-abbrev pub said_in : Settings → CacheState → ℕ → Call → CallAnswer
-said_in settings s front (Add span value now) =
-    said.Add front (made settings s (one_mark span value now)).added
-said_in settings s front (Batch marks now) =
-    said.Batch front (made settings s (several_marks marks now)).added
-said_in settings s front (Get span) = said.Get front (look s span)
-said_in settings s front Low = said.Low front s.floor
+abbrev pub said_in : ConfigView → CacheState → ℕ → Call → CallAnswer
+said_in config s front (Add span value now) =
+    said.Add front (made config s (one_mark span value now)).added
+said_in config s front (Batch marks now) =
+    said.Batch front (made config s (several_marks marks now)).added
+said_in config s front (Get span) = said.Get front (look s span)
+said_in config s front Low = said.Low front s.floor
 
 -- what a call answers after a history, from the state that the history leaves of the opening one
-abbrev pub said_after : Settings → History → Call → CallAnswer
-said_after settings h call = said_in settings (state_of settings h) (length h) call
+abbrev pub said_after : ConfigView → History → Call → CallAnswer
+said_after config h call = said_in config (state_of config h) (length h) call
 
 -- the entry that an addition makes after a history, by the list with this number, which is its seat
 abbrev pub entry_after : ℕ → History → Addition → Entry
@@ -53,18 +53,18 @@ after_calls thread h [] = h
 after_calls thread h (call ∷ calls) = after_calls thread (after_call thread h call) calls
 
 -- the lines of one list, from a place in it on
-abbrev pub lines_of_list : Settings → ℕ → ℕ → History → List Call → List Line
-lines_of_list settings thread index h [] = []
-lines_of_list settings thread index h (call ∷ calls) =
-    record { thread = thread; index = index; said = said_after settings h call } ∷
-    lines_of_list settings thread (suc index) (after_call thread h call) calls
+abbrev pub lines_of_list : ConfigView → ℕ → ℕ → History → List Call → List Line
+lines_of_list config thread index h [] = []
+lines_of_list config thread index h (call ∷ calls) =
+    record { thread = thread; index = index; said = said_after config h call } ∷
+    lines_of_list config thread (suc index) (after_call thread h call) calls
 
 -- the lines of the lists, from the list with this number on
-abbrev pub lines_of_lists : Settings → ℕ → History → List (List Call) → List Line
-lines_of_lists settings thread h [] = []
-lines_of_lists settings thread h (calls ∷ lists) =
-    lines_of_list settings thread 0 h calls ++
-    lines_of_lists settings (suc thread) (after_calls thread h calls) lists
+abbrev pub lines_of_lists : ConfigView → ℕ → History → List (List Call) → List Line
+lines_of_lists config thread h [] = []
+lines_of_lists config thread h (calls ∷ lists) =
+    lines_of_list config thread 0 h calls ++
+    lines_of_lists config (suc thread) (after_calls thread h calls) lists
 
 -- the log of a trace
 abbrev pub log_of : Trace → List Line

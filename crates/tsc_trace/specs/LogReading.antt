@@ -2,7 +2,7 @@
 -- of lines.
 use Rattle.std.specs.Prelude.{◌≡◌, ◌≢◌, ℕ, suc, ◌<◌, ◌≤◌, ◌^◌, List, [], ◌∷◌, ◌++◌, length, All, true, Result, Ok, Err}
 use Rattle.tsc_time.specs.Time.{is_in_range}
-use Rattle.tsc_time.specs.OwnedTime.{IsMadeValue}
+use Rattle.tsc_time.specs.ValueView.{IsMadeValue}
 use Rattle.tsc_trace.specs.declared.log.Line.{Line}
 use Rattle.tsc_trace.specs.declared.log.Log.{Log}
 use Rattle.tsc_trace.specs.declared.log.CallAnswer.{CallAnswer}

@@ -3,7 +3,7 @@ use Rattle.std.specs.Prelude.{ℕ, List, [], ◌∷◌, ◌++◌, Bool, Option, 
 use Rattle.std.specs.List.{flat_map, join_with_byte}
 use Rattle.uuid.specs.Text.{hyphenated_text, lower}
 use Rattle.tsc_time.specs.Time.{Time}
-use Rattle.tsc_time.specs.OwnedTime.{Owner}
+use Rattle.tsc_time.specs.ValueView.{Owner}
 use Rattle.tsc_trace.specs.declared.log.Line.{Line}
 use Rattle.tsc_trace.specs.declared.log.CallAnswer.{CallAnswer}
 use Rattle.tsc_trace.specs.declared.log.CallAnswer.TheVariants as said

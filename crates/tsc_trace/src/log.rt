@@ -1,3 +1,4 @@
+//! Logs, and the text of their lines.
 ghost use Rattle.std.specs.Prelude.{◌≡◌, ◌≤◌, All, IfOk, length};
 ghost use Rattle.tsc_trace.specs.CallAnswers.{front_of, kind_of_answer, outcome_of};
 ghost use Rattle.tsc_trace.specs.LogText.{bit_text, log_text, owner_text};
@@ -47,7 +48,7 @@ impl CallAnswer {
     }
 
     /// What it says was added.
-    pub fn told(self) -> Option<AddOutcome>
+    pub fn reported(self) -> Option<AddOutcome>
         ensures { result ≡ outcome_of self }
     {
         match self {

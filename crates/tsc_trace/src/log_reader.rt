@@ -1,3 +1,4 @@
+//! Reads the text of a log. A line is right only as it would be written.
 ghost use Rattle.std.specs.Prelude.{◌≡◌, ◌⊎◌, ◌++◌, ◌∷◌, MatchOption, MatchResult};
 ghost use Rattle.tsc_trace.specs.LogText.{line_feed, line_text};
 ghost use Rattle.tsc_trace.specs.LogReading.{IsWritable, ReadsAs};

@@ -1,5 +1,6 @@
+//! Replays of a trace on one thread.
 ghost use Rattle.std.specs.Prelude.{◌≡◌, ◌++◌, ◌∷◌, [], ◌+◌, ◌<◌, ◌≤◌, ◌^◌, length, true, IfOk, OnErr, OnOk};
-ghost use Rattle.tsc_cache.specs.Settings.{Settings, fits};
+ghost use Rattle.tsc_cache.specs.ConfigView.{ConfigView, fits};
 ghost use Rattle.tsc_cache.specs.Batch.{all_fit};
 ghost use Rattle.tsc_cache.specs.State.{CacheState};
 ghost use Rattle.tsc_cache.specs.CacheView.{RepresentsState};
@@ -25,15 +26,15 @@ pub fn add_fitting(
     value: Value,
     now: Timestamp,
 ) -> Result<Added, NoMemory>
-    requires { fits cache.old.settings span.now ≡ true }
-    ensures added { IfOk result (λ added. (settings : Settings) (s : CacheState) →
-        RepresentsState cache.old settings s
-        → added ≡ (made settings s (one_mark span.now value now)).added) }
-    ensures stands { OnOk result ((settings : Settings) (s : CacheState) →
-        RepresentsState cache.old settings s
-        → RepresentsState cache.new settings (made settings s (one_mark span.now value
+    requires { fits cache.old.config span.now ≡ true }
+    ensures added { IfOk result (λ added. (config : ConfigView) (s : CacheState) →
+        RepresentsState cache.old config s
+        → added ≡ (made config s (one_mark span.now value now)).added) }
+    ensures stands { OnOk result ((config : ConfigView) (s : CacheState) →
+        RepresentsState cache.old config s
+        → RepresentsState cache.new config (made config s (one_mark span.now value
         now)).state) }
-    ensures settings { OnOk result (cache.new.settings ≡ cache.old.settings) }
+    ensures config { OnOk result (cache.new.config ≡ cache.old.config) }
     ensures unchanged { OnErr result (cache.new ≡ cache.old) }
 {
     cache.add_one_fitting(span, value, now)
@@ -42,15 +43,15 @@ pub fn add_fitting(
 /// Adds marks that fit the cache's pages, one after another, as each batch of a [`Trace`] does. So
 /// memory alone may be wanting, and then none of them is added.
 pub fn add_all_fitting(cache: &mut Cache, marks: &[Mark], now: Timestamp) -> Result<Added, NoMemory>
-    requires { all_fit cache.old.settings marks.now ≡ true }
-    ensures added { IfOk result (λ added. (settings : Settings) (s : CacheState) →
-        RepresentsState cache.old settings s
-        → added ≡ (made settings s (several_marks marks.now now)).added) }
-    ensures stands { OnOk result ((settings : Settings) (s : CacheState) →
-        RepresentsState cache.old settings s
-        → RepresentsState cache.new settings (made settings s (several_marks marks.now
+    requires { all_fit cache.old.config marks.now ≡ true }
+    ensures added { IfOk result (λ added. (config : ConfigView) (s : CacheState) →
+        RepresentsState cache.old config s
+        → added ≡ (made config s (several_marks marks.now now)).added) }
+    ensures stands { OnOk result ((config : ConfigView) (s : CacheState) →
+        RepresentsState cache.old config s
+        → RepresentsState cache.new config (made config s (several_marks marks.now
         now)).state) }
-    ensures settings { OnOk result (cache.new.settings ≡ cache.old.settings) }
+    ensures config { OnOk result (cache.new.config ≡ cache.old.config) }
     ensures unchanged { OnErr result (cache.new ≡ cache.old) }
 {
     cache.add_all_fitting(marks, now)
@@ -70,10 +71,10 @@ impl Player {
     /// Makes a call, and gives its answer.
     fn answer(&mut self, call: &Call) -> Result<CallAnswer, NoMemory>
         requires count { self.old.adds + 1 < 2 ^ 64 }
-        requires fits { call_fits self.old.cache.settings call.now ≡ true }
+        requires fits { call_fits self.old.cache.config call.now ≡ true }
         ensures said { IfOk result
-            (λ said. (settings : Settings) (at : Standing) → StandsAt self.old settings at
-            → said ≡ said_at settings at call.now) }
+            (λ said. (config : ConfigView) (at : Standing) → StandsAt self.old config at
+            → said ≡ said_at config at call.now) }
         ensures made { OnOk result (HasMade self.old self.new (call.now ∷ [])) }
         ensures lines { self.new.lines ≡ self.old.lines }
     {
@@ -113,11 +114,11 @@ impl Player {
     ) -> Result<(), NoMemory>
         requires count { self.old.adds + length calls.now < 2 ^ 64 }
         requires index { length calls.now ≤ most_calls }
-        requires fits { EachFits self.old.cache.settings calls.now }
+        requires fits { EachFits self.old.cache.config calls.now }
         ensures lines { OnOk result
-            ((settings : Settings) (at : Standing) → StandsAt self.old settings at
+            ((config : ConfigView) (at : Standing) → StandsAt self.old config at
             → self.new.lines.items ≡ self.old.lines.items ++
-            played settings thread 0 at calls.now) }
+            played config thread 0 at calls.now) }
         ensures made { OnOk result (HasMade self.old self.new calls.now) }
     {
         for (index, call) in calls.iter().enumerate() {

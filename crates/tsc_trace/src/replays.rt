@@ -66,7 +66,7 @@ pub enum ReplayFault {
 
 impl ReplayFault {
     /// Writes the text of the fault. It takes no memory.
-    pub fn tell<W: Sink>(self, writer: &mut W) -> Result<(), WriteFailed>
+    pub fn report<W: Sink>(self, writer: &mut W) -> Result<(), WriteFailed>
         ensures ok { OnOk result (HasWritten (W.known writer.old) (W.known writer.new)
             (fault_text self)) }
         ensures err { OnErr result

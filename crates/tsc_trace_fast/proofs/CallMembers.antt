@@ -6,9 +6,9 @@ use Rattle.json.specs.Token.{Token}
 use Rattle.json.specs.Json.{read_key}
 use Rattle.uuid.specs.Parts.{zero_bytes}
 use Rattle.tsc_time.specs.Time.{Time}
-use Rattle.tsc_time.specs.OwnedTime.{owner_of}
-use Rattle.tsc_span.specs.Span.{Interval, nothing}
-use Rattle.tsc_page_nodes.specs.Page.{Mark}
+use Rattle.tsc_time.specs.ValueView.{owner_of}
+use Rattle.tsc_span.specs.Span.{SpanView, nothing}
+use Rattle.tsc_page_model.specs.Page.{Mark}
 use Rattle.tsc_trace_format.specs.declared.trace.Call.{Call}
 use Rattle.tsc_trace_format.specs.declared.trace.Call.TheVariants.{Add, Batch, Get, Low}
 use Rattle.tsc_trace_format.specs.declared.read.span.SpanForm.{SpanForm}
@@ -153,7 +153,7 @@ module _ (found : Members) (parts : CallParts) (h : KeepsCall found parts) where
   leave_now names named none = named_without (codes "now") names found named
       (kept_none time_of (codes "now") found parts.now h.now none)
 
-  pub add_is : (form : SpanForm) (at now : Time) (span : Interval) → parts.marks ≡ None →
+  pub add_is : (form : SpanForm) (at now : Time) (span : SpanView) → parts.marks ≡ None →
       parts.span ≡ Some form → parts.time ≡ Some at → parts.now ≡ Some now →
       span_of_form form ≡ Some span
       → add_of found ≡ Ok (Add span

@@ -6,7 +6,7 @@ use Rattle.json.specs.Token.{Token}
 use Rattle.json.specs.Json.{after_end_array}
 use Rattle.serde_json.specs.Data.{Data}
 use Rattle.serde_json.specs.View.{items_of}
-use Rattle.tsc_page_nodes.specs.Page.{Mark}
+use Rattle.tsc_page_model.specs.Page.{Mark}
 use Rattle.tsc_trace_format.specs.declared.trace.Call.{Call}
 use Rattle.tsc_trace_format.specs.Limits.{most_marks}
 use Rattle.tsc_trace_format.specs.Lists.{fits_trace}

@@ -8,14 +8,14 @@ use Rattle.serde_json.specs.Data.{Data, object, Members, no_members, put}
 use Rattle.json.specs.Token.{Token}
 use Rattle.json.specs.Json.{read_key}
 use Rattle.tsc_time.specs.Time.{Time}
-use Rattle.tsc_cache.specs.Settings.{Settings, settings_of}
+use Rattle.tsc_cache.specs.ConfigView.{ConfigView, made_config}
 use Rattle.tsc_trace_format.specs.declared.trace.Call.{Call}
 use Rattle.tsc_trace_format.specs.declared.read.TraceFault.TheVariants.{Config}
 use Rattle.tsc_trace_format.specs.Calls.{call_fits}
 use Rattle.tsc_trace_format.specs.Lists.{fits_trace}
 use Rattle.tsc_trace_format.specs.Traces.{Trace, EachFits, AllFit}
 use Rattle.tsc_trace_format.specs.TraceParts.{Part, ◌>>=◌, where_holds, at_call}
-use Rattle.tsc_trace_format.specs.TraceText.{array_of, object_of, needed, number_below, time_of, call_of, fitting_call, numbers_in, lists_in, lists_of, head_names, head_of, settings_in, calls_of, threads_of, trace_of}
+use Rattle.tsc_trace_format.specs.TraceText.{array_of, object_of, needed, number_below, time_of, call_of, fitting_call, numbers_in, lists_in, lists_of, head_names, head_of, config_in, calls_of, threads_of, trace_of}
 use Rattle.tsc_trace_format.proofs.Calls.{fits_threads}
 use Rattle.tsc_trace_fast.specs.TokenReads.{Got, HasMembers}
 use Rattle.tsc_trace_fast.specs.Kept.{KeepsHead, each, list_of, call_list, threads_in, each_fits}
@@ -132,58 +132,58 @@ no_head_yet = record {
 -- ---- calls that fit
 
 -- A call that fits is read with its number too.
-one_fits : (settings : Settings) (d : Data) (call : Call) → call_of d ≡ Ok call →
-    call_fits settings call ≡ true → (first : ℕ) → at_call first (fitting_call settings d) ≡ Ok call
+one_fits : (config : ConfigView) (d : Data) (call : Call) → call_of d ≡ Ok call →
+    call_fits config call ≡ true → (first : ℕ) → at_call first (fitting_call config d) ≡ Ok call
 unfolding fitting_call
-one_fits settings d call h fit first = rw (h, fit) refl
+one_fits config d call h fit first = rw (h, fit) refl
 
 -- so are the calls of a list
-calls_are : (settings : Settings) (ds : List Data) (calls : List Call) →
-    each call_of ds ≡ Ok calls → list_all (call_fits settings) calls ≡ true → (first : ℕ) →
-    calls_of settings first ds ≡ Ok calls
+calls_are : (config : ConfigView) (ds : List Data) (calls : List Call) →
+    each call_of ds ≡ Ok calls → list_all (call_fits config) calls ≡ true → (first : ℕ) →
+    calls_of config first ds ≡ Ok calls
 unfolding calls_of
-calls_are settings [] calls h fit first = ap Ok (each_nothing call_of calls h)
-calls_are settings (d ∷ ds) calls h fit first =
+calls_are config [] calls h fit first = ap Ok (each_nothing call_of calls h)
+calls_are config (d ∷ ds) calls h fit first =
     let s = each_first call_of d ds calls h in
-    let fits = two_true (call_fits settings s.0) (list_all (call_fits settings) s.1)
-    (ap (list_all (call_fits settings)) (sym s.4) ∙ fit) in
-    rest_ok (at_call first (fitting_call settings d)) (calls_of settings (suc first) ds) s.0 s.1
-    calls (one_fits settings d s.0 s.2 fits.0 first)
-    (calls_are settings ds s.1 s.3 fits.1 (suc first)) s.4
+    let fits = two_true (call_fits config s.0) (list_all (call_fits config) s.1)
+    (ap (list_all (call_fits config)) (sym s.4) ∙ fit) in
+    rest_ok (at_call first (fitting_call config d)) (calls_of config (suc first) ds) s.0 s.1
+    calls (one_fits config d s.0 s.2 fits.0 first)
+    (calls_are config ds s.1 s.3 fits.1 (suc first)) s.4
 
 -- and those of lists
-rows_are : (settings : Settings) (ds : List Data) (threads : List (List Call)) →
-    each call_list ds ≡ Ok threads → each_fits settings threads ≡ true
+rows_are : (config : ConfigView) (ds : List Data) (threads : List (List Call)) →
+    each call_list ds ≡ Ok threads → each_fits config threads ≡ true
     → (rows : List (List Data)) × (lists_in ds ≡ Ok rows) ×
-    ((first : ℕ) → threads_of settings first rows ≡ Ok threads)
+    ((first : ℕ) → threads_of config first rows ≡ Ok threads)
 unfolding lists_in threads_of
-rows_are settings [] threads h fit = ([], refl, λ first. ap Ok (each_nothing call_list threads h))
-rows_are settings (d ∷ ds) threads h fit =
+rows_are config [] threads h fit = ([], refl, λ first. ap Ok (each_nothing call_list threads h))
+rows_are config (d ∷ ds) threads h fit =
     let s = each_first call_list d ds threads h in
-    let fits = two_true (list_all (call_fits settings) s.0) (each_fits settings s.1)
-    (ap (each_fits settings) (sym s.4) ∙ fit) in
+    let fits = two_true (list_all (call_fits config) s.0) (each_fits config s.1)
+    (ap (each_fits config) (sym s.4) ∙ fit) in
     let row = array_ok call_of d s.0 s.2 in
-    let others = rows_are settings ds s.1 s.3 fits.1 in (
+    let others = rows_are config ds s.1 s.3 fits.1 in (
       row.0 ∷ others.0,
       rest_ok (array_of d) (lists_in ds) row.0 others.0 (row.0 ∷ others.0) row.1 others.1 refl,
-      λ first. rest_ok (calls_of settings first row.0)
-          (threads_of settings (first + length row.0) others.0) s.0 s.1 threads
-          (calls_are settings row.0 s.0 row.2 fits.0 first) (others.2 (first + length row.0)) s.4,
+      λ first. rest_ok (calls_of config first row.0)
+          (threads_of config (first + length row.0) others.0) s.0 s.1 threads
+          (calls_are config row.0 s.0 row.2 fits.0 first) (others.2 (first + length row.0)) s.4,
     )
 
 -- the lists of what should be calls that were kept
-lists_kept : (settings : Settings) (d : Data) (threads : List (List Call)) →
-    threads_in d ≡ Ok threads → each_fits settings threads ≡ true
+lists_kept : (config : ConfigView) (d : Data) (threads : List (List Call)) →
+    threads_in d ≡ Ok threads → each_fits config threads ≡ true
     → (rows : List (List Data)) × (lists_of d ≡ Ok rows) × (fits_trace rows ≡ true) ×
-    (threads_of settings 1 rows ≡ Ok threads)
+    (threads_of config 1 rows ≡ Ok threads)
 unfolding lists_of
-lists_kept settings d threads h fit =
+lists_kept config d threads h fit =
     let kept = by (list_of call_list d) h in
     let items = array_ok call_list d threads kept.0 in
-    let rows = rows_are settings items.0 threads items.2 fit in (
+    let rows = rows_are config items.0 threads items.2 fit in (
       rows.0,
       ap (λ r. r >>= lists_in) items.1 ∙ rows.1,
-      fits_threads settings 1 rows.0 threads (rows.2 1) kept.1,
+      fits_threads config 1 rows.0 threads (rows.2 1) kept.1,
       rows.2 1,
     )
   where
@@ -198,18 +198,18 @@ lists_kept settings d threads h fit =
     by (Ok ts) e = let f = fit_ok ts (fits_trace ts) e in (ap Ok f.0, ap fits_trace (sym f.0) ∙ f.1)
     by (Err f) e = absurd cc
 
-settings_are : (page_first page_max min_pages retention : ℕ) (low_water : Time)
-    (settings : Settings) → settings_of page_first page_max min_pages retention low_water ≡
-    Ok settings
-    → settings_in (record {
+config_is : (page_first page_max min_pages retention : ℕ) (low_water : Time)
+    (config : ConfigView) → made_config page_first page_max min_pages retention low_water ≡
+    Ok config
+    → config_in (record {
       page_first = page_first;
       page_max = page_max;
       min_pages = min_pages;
       retention = retention;
       low_water = low_water;
-    }) ≡ Ok settings
-unfolding settings_in
-settings_are page_first page_max min_pages retention low_water settings is =
+    }) ≡ Ok config
+unfolding config_in
+config_is page_first page_max min_pages retention low_water config is =
     ap (λ r. ok_or (result_ok r) Config) is
 
 -- what was asked of a result, and was there
@@ -220,14 +220,14 @@ asked_ok (Err e) o x is there = let both : None ≡ Some x = sym is ∙ there in
 
 -- the trace of an object of which these members are kept
 pub trace_is : (found : Members) (parts : HeadParts) (p q m r : ℕ) (low : Time)
-    (settings : Settings) (ts : List (List Call)) → KeepsHead found parts →
+    (config : ConfigView) (ts : List (List Call)) → KeepsHead found parts →
     parts.page_first ≡ Some p → parts.page_max ≡ Some q → parts.min_pages ≡ Some m →
     parts.retention ≡ Some r
-    → parts.low_water ≡ Some low → parts.threads ≡ Some ts → settings_of p q m r low ≡ Ok settings →
-    each_fits settings ts ≡ true →
-    trace_of (object found) ≡ Ok (record { config = settings; threads = ts })
+    → parts.low_water ≡ Some low → parts.threads ≡ Some ts → made_config p q m r low ≡ Ok config →
+    each_fits config ts ≡ true →
+    trace_of (object found) ≡ Ok (record { config = config; threads = ts })
 unfolding trace_of head_of object_of needed numbers_in
-trace_is found parts p q m r low settings ts h is_p is_q is_m is_r is_low is_ts made fit =
+trace_is found parts p q m r low config ts h is_p is_q is_m is_r is_low is_ts made fit =
     let a = kept_some (number_below (2 ^ 32)) (codes "page_first") found parts.page_first p
     h.page_first is_p in
     let b = kept_some (number_below (2 ^ 32)) (codes "page_max") found parts.page_max q h.page_max
@@ -238,7 +238,7 @@ trace_is found parts p q m r low settings ts h is_p is_q is_m is_r is_low is_ts 
     h.retention is_r in
     let f = kept_some time_of (codes "low_water") found parts.low_water low h.low_water is_low in
     let g = kept_some threads_in (codes "threads") found parts.threads ts h.threads is_ts in
-    let rows = lists_kept settings g.0 ts g.2 fit in
+    let rows = lists_kept config g.0 ts g.2 fit in
     rw (
       h.named,
       a.1,
@@ -253,7 +253,7 @@ trace_is found parts p q m r low settings ts h is_p is_q is_m is_r is_low is_ts 
       e.2,
       f.2,
       rows.1,
-      settings_are p q m r low settings made,
+      config_is p q m r low config made,
       rows.2,
       rows.3,
     ) refl
@@ -269,17 +269,17 @@ trace_got old all now new found parts (Some trace) is h kept over traces =
 
 -- ---- what a trace says of its calls
 
-list_holds : (settings : Settings) (calls : List Call) →
-    list_all (call_fits settings) calls ≡ true → EachFits settings calls
-list_holds settings [] h = All-nil (λ call. call_fits settings call ≡ true)
-list_holds settings (call ∷ calls) h = let two =
-    two_true _ _ h in All-cons (λ call. call_fits settings call ≡ true) call calls two.0
-    (list_holds settings calls two.1)
+list_holds : (config : ConfigView) (calls : List Call) →
+    list_all (call_fits config) calls ≡ true → EachFits config calls
+list_holds config [] h = All-nil (λ call. call_fits config call ≡ true)
+list_holds config (call ∷ calls) h = let two =
+    two_true _ _ h in All-cons (λ call. call_fits config call ≡ true) call calls two.0
+    (list_holds config calls two.1)
 
 -- that each was tested
-pub all_hold : (settings : Settings) (threads : List (List Call)) →
-    each_fits settings threads ≡ true → AllFit settings threads
-all_hold settings [] h = All-nil (λ calls. EachFits settings calls)
-all_hold settings (calls ∷ threads) h = let two =
-    two_true _ _ h in All-cons (λ calls. EachFits settings calls) calls threads
-    (list_holds settings calls two.0) (all_hold settings threads two.1)
+pub all_hold : (config : ConfigView) (threads : List (List Call)) →
+    each_fits config threads ≡ true → AllFit config threads
+all_hold config [] h = All-nil (λ calls. EachFits config calls)
+all_hold config (calls ∷ threads) h = let two =
+    two_true _ _ h in All-cons (λ calls. EachFits config calls) calls threads
+    (list_holds config calls two.0) (all_hold config threads two.1)

@@ -6,9 +6,9 @@ use Rattle.json.specs.Token.{Token}
 use Rattle.json.specs.Json.{read_key}
 use Rattle.uuid.specs.Parts.{zero_bytes}
 use Rattle.tsc_time.specs.Time.{Time}
-use Rattle.tsc_time.specs.OwnedTime.{owner_of}
-use Rattle.tsc_span.specs.Span.{Interval}
-use Rattle.tsc_page_nodes.specs.Page.{Mark}
+use Rattle.tsc_time.specs.ValueView.{owner_of}
+use Rattle.tsc_span.specs.Span.{SpanView}
+use Rattle.tsc_page_model.specs.Page.{Mark}
 use Rattle.tsc_trace_format.specs.TraceText.{object_of, needed, time_of, added_span, mark_names, mark_of}
 use Rattle.tsc_trace_fast.specs.TokenReads.{Got, HasMembers}
 use Rattle.tsc_trace_fast.specs.Kept.{KeepsMark, owner_there}
@@ -18,7 +18,7 @@ use Rattle.tsc_trace_fast.proofs.TokenLemmas.{members_over}
 use Rattle.tsc_trace_fast.proofs.MembersKept.{named_put, keeps_new, keeps_other, kept_some}
 
 module _ (found : Members) (parts : MarkParts) (d : Data) (h : KeepsMark found parts) where
-  pub mark_span : (span : Interval) → added_span d ≡ Ok span →
+  pub mark_span : (span : SpanView) → added_span d ≡ Ok span →
       KeepsMark (put (codes "span") d found)
       (record { span = Some span; time = parts.time; owner = parts.owner })
   mark_span span is =
@@ -56,7 +56,7 @@ pub no_mark_yet : KeepsMark no_members (record { span = None; time = None; owner
 no_mark_yet = record { named = refl; span = refl; time = refl; owner = refl }
 
 -- the mark of an object of which these members are kept
-pub mark_is : (found : Members) (parts : MarkParts) (span : Interval) (at : Time) →
+pub mark_is : (found : Members) (parts : MarkParts) (span : SpanView) (at : Time) →
     KeepsMark found parts → parts.span ≡ Some span → parts.time ≡ Some at
     → mark_of (object found) ≡ Ok (record {
       span = span;

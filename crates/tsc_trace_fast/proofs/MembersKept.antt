@@ -11,7 +11,7 @@ use Rattle.std.proofs.lemmas.Slice.Eq.{bytes_eq-Decides}
 use Rattle.serde_json.specs.Data.{Data, Members, no_members, member, put}
 use Rattle.serde_json.specs.Find.{get_member}
 use Rattle.serde_json.proofs.Views.{get_member-put, get_member-put_other}
-use Rattle.tsc_page_nodes.proofs.DistinctKeys.{bytes_eq-itself}
+use Rattle.tsc_page_model.proofs.DistinctKeys.{bytes_eq-itself}
 use Rattle.tsc_trace_format.proofs.AnyOrder.{named_itself}
 use Rattle.tsc_trace_format.specs.TraceText.{names_only}
 use Rattle.tsc_trace_fast.specs.TokenReads.{Keeps}

@@ -4,7 +4,7 @@ use Rattle.std.specs.Prelude.{codes, unwrap_or, option_map}
 use Rattle.serde_json.specs.Data.{Members}
 use Rattle.serde_json.specs.Find.{get_member}
 use Rattle.uuid.specs.Parts.{zero_bytes}
-use Rattle.tsc_time.specs.OwnedTime.{owner_of}
+use Rattle.tsc_time.specs.ValueView.{owner_of}
 use Rattle.tsc_trace_format.specs.TraceText.{owner_member}
 use Rattle.tsc_trace_fast.specs.TokenReads.{Keeps}
 use Rattle.tsc_trace_fast.specs.Kept.{owner_there}

@@ -4,7 +4,7 @@ use Rattle.std.specs.Prelude.{codes}
 use Rattle.serde_json.specs.Data.{Data, object, Members, no_members, put}
 use Rattle.json.specs.Token.{Token}
 use Rattle.json.specs.Json.{read_key}
-use Rattle.tsc_span.specs.Span.{KeyBytes, Interval}
+use Rattle.tsc_span.specs.Span.{KeyBytes, SpanView}
 use Rattle.tsc_span.specs.declared.span.Ends.{Ends}
 use Rattle.tsc_trace_format.specs.declared.read.span.SpanForm.{SpanForm}
 use Rattle.tsc_trace_format.specs.declared.read.span.SpanForm.TheVariants.{Start, StartToEnd, Range, Onward}
@@ -156,13 +156,13 @@ span_got old all now new found parts (Some form) is h kept over forms = (
   span_is found parts form kept (forms found kept),
 )
 
-is_added : (d : Data) (form : SpanForm) (span : Interval) → span_form d ≡ Ok form →
+is_added : (d : Data) (form : SpanForm) (span : SpanView) → span_form d ≡ Ok form →
     span_of_form form ≡ Some span → added_span d ≡ Ok span
 unfolding added_span
 is_added d form span is made = rw (is, made) refl
 
 -- the span of a form that is not inverted
-pub added_got : (old new : List Token) (form : SpanForm) (o : Option Interval) →
+pub added_got : (old new : List Token) (form : SpanForm) (o : Option SpanView) →
     Got 1 span_form old form new → o ≡ span_of_form form →
     IfSome o (λ span. Got 1 added_span old span new)
 added_got old new form None g is = tt

@@ -9,7 +9,7 @@ use Rattle.json.specs.Json.{after_end_array}
 use Rattle.serde_json.specs.Data.{Data, unsigned, number, string, null}
 use Rattle.serde_json.specs.Read.{number_of, number_from}
 use Rattle.uuid.specs.Parts.{zero_bytes}
-use Rattle.tsc_time.specs.OwnedTime.{Owner, owner_of}
+use Rattle.tsc_time.specs.ValueView.{Owner, owner_of}
 use Rattle.tsc_trace_format.specs.TraceData.{list_data}
 use Rattle.tsc_trace_format.specs.TraceParts.{Part}
 use Rattle.tsc_trace_format.specs.TraceText.{array_of, two_of, unsigned_of, number_below, text_of, time_in_range, time_of, ends_in, ends_of, excluded_in, excluded_of, owner_in, owner_member}

@@ -2,8 +2,8 @@
 use Rattle.std.specs.Prelude.{◌≡◌, ◌^◌, ℕ, List, [], ◌∷◌, Bool, true, Option, Some, codes, option_map, Result, Ok}
 use Rattle.std.specs.List.{list_all}
 use Rattle.serde_json.specs.Data.{Data, Members}
-use Rattle.tsc_time.specs.OwnedTime.{Owner, owner_of}
-use Rattle.tsc_cache.specs.Settings.{Settings}
+use Rattle.tsc_time.specs.ValueView.{Owner, owner_of}
+use Rattle.tsc_cache.specs.ConfigView.{ConfigView}
 use Rattle.tsc_trace_format.specs.Calls.{call_fits}
 use Rattle.tsc_trace_format.specs.Lists.{fits_trace}
 use Rattle.tsc_trace_format.specs.TraceParts.{Part, ◌>>=◌, where_holds, at_call}
@@ -76,8 +76,8 @@ threads_in d = do
   where_holds Config (fits_trace threads) threads
 
 -- whether all calls of some lists fit a page
-abbrev pub each_fits : Settings → List (List Call) → Bool
-each_fits settings threads = list_all (λ calls. list_all (call_fits settings) calls) threads
+abbrev pub each_fits : ConfigView → List (List Call) → Bool
+each_fits config threads = list_all (λ calls. list_all (call_fits config) calls) threads
 
 -- the members of a head
 pub record KeepsHead (found : Members) (parts : HeadParts) : Type 0 where

@@ -9,18 +9,18 @@ use Rattle.std.specs.Ordering.{nat_cmp, match_ordering}
 use Rattle.std.specs.Cmp.Lexicographic.{slice_cmp}
 use Rattle.std.proofs.lemmas.Cmp.{nat_list_cmp_total, tied_itself}
 use Rattle.std.proofs.lemmas.List.Sums.{sum_by-cons}
-use Rattle.tsc_span.proofs.CutOrder.{key_cmp-same}
+use Rattle.tsc_span.proofs.CutsTotal.{key_cmp-same}
 use Rattle.tsc_time.specs.Time.{Time}
-use Rattle.tsc_time.specs.OwnedTime.{Owner}
-use Rattle.tsc_span.specs.Span.{Interval}
-use Rattle.tsc_cache.specs.Settings.{Settings}
+use Rattle.tsc_time.specs.ValueView.{Owner}
+use Rattle.tsc_span.specs.Span.{SpanView}
+use Rattle.tsc_cache.specs.ConfigView.{ConfigView}
 use Rattle.serde_json.specs.Data.{Data, object, Items, Members, no_members, member}
 use Rattle.serde_json.specs.Find.{get_member}
-use Rattle.tsc_page_nodes.specs.Page.{Mark}
+use Rattle.tsc_page_model.specs.Page.{Mark}
 use Rattle.tsc_trace_format.specs.Limits.{most_marks}
 use Rattle.tsc_trace_format.specs.Lists.{fits_trace}
 use Rattle.tsc_trace_format.specs.MemberOrder.{IsReordered, itself, arrays, objects, AreReordered, no_more, one_more, FindsReordered, neither, both_find}
-use Rattle.tsc_trace_format.specs.TraceText.{listed, array_of, object_of, text_of, unsigned_of, number_below, names_only, only_named, needed, needed_as, two_of, time_in_range, time_of, key_of, owner_member, ends_of, excluded_of, start_form, start_to_end_form, range_form, onward_form, form_of, span_names, form_in, span_form, added_span, looked_up_span, add_names, add_in, add_of, mark_names, mark_in, mark_of, marks_in, few_of, marks_of, batch_names, batch_in, batch_of, get_names, get_in, get_of, low_of, call_by_name, call_of, fitting_call, numbers_in, lists_in, lists_of, head_names, head_in, head_of, settings_in, calls_of, threads_of, trace_of, json_of, trace_of_bytes}
+use Rattle.tsc_trace_format.specs.TraceText.{listed, array_of, object_of, text_of, unsigned_of, number_below, names_only, only_named, needed, needed_as, two_of, time_in_range, time_of, key_of, owner_member, ends_of, excluded_of, start_form, start_to_end_form, range_form, onward_form, form_of, span_names, form_in, span_form, added_span, looked_up_span, add_names, add_in, add_of, mark_names, mark_in, mark_of, marks_in, few_of, marks_of, batch_names, batch_in, batch_of, get_names, get_in, get_of, low_of, call_by_name, call_of, fitting_call, numbers_in, lists_in, lists_of, head_names, head_in, head_of, config_in, calls_of, threads_of, trace_of, json_of, trace_of_bytes}
 use Rattle.tsc_trace_format.specs.declared.read.head.Numbers.{Numbers}
 use Rattle.tsc_trace_format.specs.declared.read.TraceFault.{TraceFault}
 use Rattle.tsc_trace_format.specs.declared.read.TraceFault.TheVariants.{NotJson, Config}
@@ -280,11 +280,11 @@ same_looked_up d e same = rw (same_span d e same) refl
 -- ---- calls
 
 -- an Add of its parts
-abbrev add_with : Part Interval → Part Time → Part (Option Owner) → Part Time → Part Call
+abbrev add_with : Part SpanView → Part Time → Part (Option Owner) → Part Time → Part Call
 add_with span time owner now = both (both span time) (both owner now) >>= λ parts. Ok
     (Add parts.0.0 (record { time = parts.0.1; owner = parts.1.0 }) parts.1.1)
 
-same_add_with : (a b : Part Interval) (c d : Part Time) (e f : Part (Option Owner))
+same_add_with : (a b : Part SpanView) (c d : Part Time) (e f : Part (Option Owner))
     (g h : Part Time) → a ≡ b → c ≡ d → e ≡ f → g ≡ h → add_with a c e g ≡ add_with b d f h
 same_add_with a b c d e f g h p q r s = rw (p, q, r, s) refl
 
@@ -299,11 +299,11 @@ same_add ms ns finds =
     (same_needed (codes "now") time_of time_of ms ns same_time finds))
 
 -- a mark of its parts
-abbrev mark_with : Part Interval → Part Time → Part (Option Owner) → Part Mark
+abbrev mark_with : Part SpanView → Part Time → Part (Option Owner) → Part Mark
 mark_with span time owner = both (both span time) owner >>= λ parts. Ok
     (record { span = parts.0.0; value = record { time = parts.0.1; owner = parts.1 } })
 
-same_mark_with : (a b : Part Interval) (c d : Part Time) (e f : Part (Option Owner)) → a ≡ b →
+same_mark_with : (a b : Part SpanView) (c d : Part Time) (e f : Part (Option Owner)) → a ≡ b →
     c ≡ d → e ≡ f → mark_with a c e ≡ mark_with b d f
 same_mark_with a b c d e f p q r = rw (p, q, r) refl
 
@@ -363,7 +363,7 @@ same_batch ms ns finds =
     (same_needed (codes "now") time_of time_of ms ns same_time finds))
 
 same_get_in : (ms ns : Members) → FindSame ms ns → get_in ms ≡ get_in ns
-same_get_in ms ns finds = ap (λ (span : Part Interval). span >>= λ span. Ok (Get span))
+same_get_in ms ns finds = ap (λ (span : Part SpanView). span >>= λ span. Ok (Get span))
     (same_needed (codes "span") looked_up_span looked_up_span ms ns same_looked_up finds)
 
 same_get : (ms ns : Members) → FindSame ms ns → get_of ms ≡ get_of ns
@@ -399,17 +399,17 @@ same_call d e (objects {ms} {ns} finds) =
     then_each _ _ _ _ (same_needed (codes "op") text_of text_of ms ns same_text finds)
     (λ op. same_named op ms ns finds)
 
-same_fitting : (settings : Settings) (d e : Data) → IsReordered d e →
-    fitting_call settings d ≡ fitting_call settings e
+same_fitting : (config : ConfigView) (d e : Data) → IsReordered d e →
+    fitting_call config d ≡ fitting_call config e
 unfolding fitting_call
-same_fitting settings d e same = rw (same_call d e same) refl
+same_fitting config d e same = rw (same_call d e same) refl
 
-same_calls : (settings : Settings) (first : ℕ) (ds es : List Data) → RowReordered ds es →
-    calls_of settings first ds ≡ calls_of settings first es
+same_calls : (config : ConfigView) (first : ℕ) (ds es : List Data) → RowReordered ds es →
+    calls_of config first ds ≡ calls_of config first es
 unfolding calls_of
-same_calls settings first ds es row_end = refl
-same_calls settings first ds es (row_more d e ds' es' same rest) =
-    rw (same_fitting settings d e same, same_calls settings (suc first) ds' es' rest) refl
+same_calls config first ds es row_end = refl
+same_calls config first ds es (row_more d e ds' es' same rest) =
+    rw (same_fitting config d e same, same_calls config (suc first) ds' es' rest) refl
 
 -- ---- the head, and all lists
 
@@ -435,15 +435,15 @@ same_sum ls ks (rows_more ds es ls' ks' same rest) =
 same_fits : (ls ks : List (List Data)) → RowsReordered ls ks → fits_trace ls ≡ fits_trace ks
 same_fits ls ks same = rw (same_count ls ks same, same_sum ls ks same) refl
 
-same_threads : (settings : Settings) (first : ℕ) (ls ks : List (List Data)) → RowsReordered ls ks →
-    threads_of settings first ls ≡ threads_of settings first ks
+same_threads : (config : ConfigView) (first : ℕ) (ls ks : List (List Data)) → RowsReordered ls ks →
+    threads_of config first ls ≡ threads_of config first ks
 unfolding threads_of
-same_threads settings first ls ks rows_end = refl
-same_threads settings first ls ks (rows_more ds es ls' ks' same rest) =
+same_threads config first ls ks rows_end = refl
+same_threads config first ls ks (rows_more ds es ls' ks' same rest) =
     rw (
-      same_calls settings first ds es same,
+      same_calls config first ds es same,
       same_length ds es same,
-      same_threads settings (first + length es) ls' ks' rest,
+      same_threads config (first + length es) ls' ks' rest,
     ) refl
 
 same_lists_in : (ds es : List Data) → RowReordered ds es →
@@ -548,37 +548,37 @@ same_head d e (objects {ms} {ns} finds) =
 -- ---- traces
 
 -- the trace of lists, under some settings
-abbrev with_lists : Settings → List (List Data) → Result Trace TraceFault
-with_lists settings lists = threads_of settings 1 lists >>= λ threads. Ok
-    (record { config = settings; threads = threads })
+abbrev with_lists : ConfigView → List (List Data) → Result Trace TraceFault
+with_lists config lists = threads_of config 1 lists >>= λ threads. Ok
+    (record { config = config; threads = threads })
 
 -- the trace of lists, if they fit
-abbrev with_fitting : Settings → List (List Data) → Result Trace TraceFault
-with_fitting settings lists = where_holds Config (fits_trace lists) lists >>= with_lists settings
+abbrev with_fitting : ConfigView → List (List Data) → Result Trace TraceFault
+with_fitting config lists = where_holds Config (fits_trace lists) lists >>= with_lists config
 
 -- the trace of a head
 abbrev trace_with : Numbers × List (List Data) → Result Trace TraceFault
-trace_with head = settings_in head.0 >>= λ settings. with_fitting settings head.1
+trace_with head = config_in head.0 >>= λ config. with_fitting config head.1
 
-same_if_fitting : (settings : Settings) (b c : Bool) (ls ks : List (List Data)) → b ≡ c →
-    threads_of settings 1 ls ≡ threads_of settings 1 ks →
-    (where_holds Config b ls >>= with_lists settings) ≡
-    (where_holds Config c ks >>= with_lists settings)
-same_if_fitting settings true true ls ks e same = rw same refl
-same_if_fitting settings true false ls ks e same = absurd cc
-same_if_fitting settings false true ls ks e same = absurd cc
-same_if_fitting settings false false ls ks e same = refl
+same_if_fitting : (config : ConfigView) (b c : Bool) (ls ks : List (List Data)) → b ≡ c →
+    threads_of config 1 ls ≡ threads_of config 1 ks →
+    (where_holds Config b ls >>= with_lists config) ≡
+    (where_holds Config c ks >>= with_lists config)
+same_if_fitting config true true ls ks e same = rw same refl
+same_if_fitting config true false ls ks e same = absurd cc
+same_if_fitting config false true ls ks e same = absurd cc
+same_if_fitting config false false ls ks e same = refl
 
-same_settings : (settings : Result Settings TraceFault) (ls ks : List (List Data)) →
-    RowsReordered ls ks → (settings >>= λ settings. with_fitting settings ls) ≡
-    (settings >>= λ settings. with_fitting settings ks)
-same_settings (Ok settings) ls ks same =
-    same_if_fitting settings _ _ ls ks (same_fits ls ks same) (same_threads settings 1 ls ks same)
-same_settings (Err fault) ls ks same = refl
+same_config : (config : Result ConfigView TraceFault) (ls ks : List (List Data)) →
+    RowsReordered ls ks → (config >>= λ config. with_fitting config ls) ≡
+    (config >>= λ config. with_fitting config ks)
+same_config (Ok config) ls ks same =
+    same_if_fitting config _ _ ls ks (same_fits ls ks same) (same_threads config 1 ls ks same)
+same_config (Err fault) ls ks same = refl
 
 same_trace_with : (m n : Numbers) (ls ks : List (List Data)) → m ≡ n → RowsReordered ls ks →
     trace_with (m, ls) ≡ trace_with (n, ks)
-same_trace_with m n ls ks is same = rw is (same_settings (settings_in n) ls ks same)
+same_trace_with m n ls ks is same = rw is (same_config (config_in n) ls ks same)
 
 same_after_head : {p q : Part (Numbers × List (List Data))} → PartsAs SameHead p q →
     (at_call 0 p >>= trace_with) ≡ (at_call 0 q >>= trace_with)

@@ -9,7 +9,7 @@ use Rattle.std.proofs.Math.ListN.{drop_of_length-le}
 use Rattle.serde_json.specs.Data.{Data}
 use Rattle.serde_json.specs.View.{view}
 use Rattle.serde_json.specs.declared.value.Value.{Value}
-use Rattle.tsc_cache.specs.Settings.{Settings}
+use Rattle.tsc_cache.specs.ConfigView.{ConfigView}
 use Rattle.tsc_trace_format.specs.declared.trace.Call.{Call}
 use Rattle.tsc_trace_format.specs.declared.read.TraceFault.{TraceFault}
 use Rattle.tsc_trace_format.specs.declared.read.TraceFault.TheVariants.{NoMemory}
@@ -82,41 +82,41 @@ lists_are_done front vs i total le so_far =
 
 -- ---- calls
 
-calls_step : (settings : Settings) (first : ℕ) (d : Data) (ds : List Data) →
-    calls_of settings first (d ∷ ds) ≡ one_and_rest (at_call first (fitting_call settings d))
-    (calls_of settings (first + 1) ds)
+calls_step : (config : ConfigView) (first : ℕ) (d : Data) (ds : List Data) →
+    calls_of config first (d ∷ ds) ≡ one_and_rest (at_call first (fitting_call config d))
+    (calls_of config (first + 1) ds)
 unfolding calls_of
-calls_step settings first d ds = rw add-one refl
+calls_step config first d ds = rw add-one refl
 
-pub calls_go_on : (settings : Settings) (front : List Call) (vs : List Value) (i first : ℕ)
+pub calls_go_on : (config : ConfigView) (front : List Call) (vs : List Value) (i first : ℕ)
     (v : Value) (call : Call) (total : Result (List Call) TraceFault) → i < length vs →
-    v ≡ get_or vs i v → at_call first (fitting_call settings (view v)) ≡ Ok call
-    → with_front front (calls_of settings first (map view (drop i vs))) ≡ total →
-    with_front (front ++ call ∷ []) (calls_of settings (first + 1) (map view (drop (i + 1) vs)))
+    v ≡ get_or vs i v → at_call first (fitting_call config (view v)) ≡ Ok call
+    → with_front front (calls_of config first (map view (drop i vs))) ≡ total →
+    with_front (front ++ call ∷ []) (calls_of config (first + 1) (map view (drop (i + 1) vs)))
     ≡ total
-calls_go_on settings front vs i first v call total lt at is so_far =
-    sym (ap (λ ds. with_front front (calls_of settings first ds)) (here view vs i v lt at) ∙
-    ap (with_front front) (calls_step settings first (view v) _) ∙ regroup front _ _ call is)
+calls_go_on config front vs i first v call total lt at is so_far =
+    sym (ap (λ ds. with_front front (calls_of config first ds)) (here view vs i v lt at) ∙
+    ap (with_front front) (calls_step config first (view v) _) ∙ regroup front _ _ call is)
     ∙ so_far
 
-pub calls_end : (settings : Settings) (fault : TraceFault) (front : List Call) (vs : List Value)
+pub calls_end : (config : ConfigView) (fault : TraceFault) (front : List Call) (vs : List Value)
     (i first : ℕ) (v : Value) (total : Result (List Call) TraceFault) → i < length vs →
     v ≡ get_or vs i v
-    → (fault ≡ NoMemory) ⊎ (at_call first (fitting_call settings (view v)) ≡ Err fault) →
-    with_front front (calls_of settings first (map view (drop i vs))) ≡ total →
+    → (fault ≡ NoMemory) ⊎ (at_call first (fitting_call config (view v)) ≡ Err fault) →
+    with_front front (calls_of config first (map view (drop i vs))) ≡ total →
     (fault ≡ NoMemory) ⊎ (total ≡ Err fault)
-calls_end settings fault front vs i first v total lt at (inl memory) so_far = inl memory
-calls_end settings fault front vs i first v total lt at (inr is) so_far =
-    inr (sym so_far ∙ ap (λ ds. with_front front (calls_of settings first ds))
-    (here view vs i v lt at) ∙ ap (with_front front) (calls_step settings first (view v) _) ∙
+calls_end config fault front vs i first v total lt at (inl memory) so_far = inl memory
+calls_end config fault front vs i first v total lt at (inr is) so_far =
+    inr (sym so_far ∙ ap (λ ds. with_front front (calls_of config first ds))
+    (here view vs i v lt at) ∙ ap (with_front front) (calls_step config first (view v) _) ∙
     refused front _ _ fault is)
 
-pub calls_are_done : (settings : Settings) (front : List Call) (vs : List Value) (i first : ℕ)
+pub calls_are_done : (config : ConfigView) (front : List Call) (vs : List Value) (i first : ℕ)
     (total : Result (List Call) TraceFault) → length vs ≤ i →
-    with_front front (calls_of settings first (map view (drop i vs))) ≡ total → total ≡ Ok front
+    with_front front (calls_of config first (map view (drop i vs))) ≡ total → total ≡ Ok front
 unfolding calls_of
-calls_are_done settings front vs i first total le so_far =
-    let none : with_front front (calls_of settings first (map view (drop i vs))) ≡ Ok front =
+calls_are_done config front vs i first total le so_far =
+    let none : with_front front (calls_of config first (map view (drop i vs))) ≡ Ok front =
     rw (past view vs i le) (ap (λ (cs : List Call). Ok cs) (append-nil front)) in
     sym so_far ∙ none
 
@@ -126,47 +126,47 @@ calls_are_done settings front vs i first total le so_far =
 abbrev pub row : Bor (List Value) → List Data
 row r = map view r.now
 
-threads_step : (settings : Settings) (first : ℕ) (ds : List Data) (lists : List (List Data)) →
-    threads_of settings first (ds ∷ lists) ≡ one_and_rest (calls_of settings first ds)
-    (threads_of settings (first + length ds) lists)
+threads_step : (config : ConfigView) (first : ℕ) (ds : List Data) (lists : List (List Data)) →
+    threads_of config first (ds ∷ lists) ≡ one_and_rest (calls_of config first ds)
+    (threads_of config (first + length ds) lists)
 unfolding threads_of
-threads_step settings first ds lists = refl
+threads_step config first ds lists = refl
 
-pub threads_go_on : (settings : Settings) (front : List (List Call))
+pub threads_go_on : (config : ConfigView) (front : List (List Call))
     (rows : List (Bor (List Value))) (i first : ℕ) (r : Bor (List Value)) (calls : List Call)
     (total : Result (List (List Call)) TraceFault) → i < length rows → r ≡ get_or rows i r
-    → calls_of settings first (row r) ≡ Ok calls
-    → with_front front (threads_of settings first (rows_view (drop i rows))) ≡ total →
+    → calls_of config first (row r) ≡ Ok calls
+    → with_front front (threads_of config first (rows_view (drop i rows))) ≡ total →
     with_front (front ++ calls ∷ [])
-    (threads_of settings (first + length r.now) (rows_view (drop (i + 1) rows))) ≡ total
-threads_go_on settings front rows i first r calls total lt at is so_far =
+    (threads_of config (first + length r.now) (rows_view (drop (i + 1) rows))) ≡ total
+threads_go_on config front rows i first r calls total lt at is so_far =
     let more = with_front (front ++ calls ∷ []) in
-    ap (λ n. more (threads_of settings (first + n) (map row (drop (i + 1) rows))))
+    ap (λ n. more (threads_of config (first + n) (map row (drop (i + 1) rows))))
     (sym (length-map r.now view))
-    ∙ sym (ap (λ ls. with_front front (threads_of settings first ls)) (here row rows i r lt at) ∙
-    ap (with_front front) (threads_step settings first (row r) _) ∙ regroup front _ _ calls is)
+    ∙ sym (ap (λ ls. with_front front (threads_of config first ls)) (here row rows i r lt at) ∙
+    ap (with_front front) (threads_step config first (row r) _) ∙ regroup front _ _ calls is)
     ∙ so_far
 
-pub threads_end : (settings : Settings) (fault : TraceFault) (front : List (List Call))
+pub threads_end : (config : ConfigView) (fault : TraceFault) (front : List (List Call))
     (rows : List (Bor (List Value))) (i first : ℕ) (r : Bor (List Value))
     (total : Result (List (List Call)) TraceFault) → i < length rows → r ≡ get_or rows i r
-    → (fault ≡ NoMemory) ⊎ (calls_of settings first (row r) ≡ Err fault) →
-    with_front front (threads_of settings first (rows_view (drop i rows))) ≡ total →
+    → (fault ≡ NoMemory) ⊎ (calls_of config first (row r) ≡ Err fault) →
+    with_front front (threads_of config first (rows_view (drop i rows))) ≡ total →
     (fault ≡ NoMemory) ⊎ (total ≡ Err fault)
-threads_end settings fault front rows i first r total lt at (inl memory) so_far = inl memory
-threads_end settings fault front rows i first r total lt at (inr is) so_far =
-    inr (sym so_far ∙ ap (λ ls. with_front front (threads_of settings first ls))
-    (here row rows i r lt at) ∙ ap (with_front front) (threads_step settings first (row r) _) ∙
+threads_end config fault front rows i first r total lt at (inl memory) so_far = inl memory
+threads_end config fault front rows i first r total lt at (inr is) so_far =
+    inr (sym so_far ∙ ap (λ ls. with_front front (threads_of config first ls))
+    (here row rows i r lt at) ∙ ap (with_front front) (threads_step config first (row r) _) ∙
     refused front _ _ fault is)
 
-pub threads_are_done : (settings : Settings) (front : List (List Call))
+pub threads_are_done : (config : ConfigView) (front : List (List Call))
     (rows : List (Bor (List Value))) (i first : ℕ) (total : Result (List (List Call)) TraceFault) →
     length rows ≤ i
-    → with_front front (threads_of settings first (rows_view (drop i rows))) ≡ total →
+    → with_front front (threads_of config first (rows_view (drop i rows))) ≡ total →
     total ≡ Ok front
 unfolding threads_of
-threads_are_done settings front rows i first total le so_far =
-    let none : with_front front (threads_of settings first (rows_view (drop i rows))) ≡ Ok front =
+threads_are_done config front rows i first total le so_far =
+    let none : with_front front (threads_of config first (rows_view (drop i rows))) ≡ Ok front =
     rw (past row rows i le) (ap (λ (cs : List (List Call)). Ok cs) (append-nil front)) in
     sym so_far ∙ none
 
@@ -189,13 +189,13 @@ one_longer (Ok x) (Err fault) xs n h many = absurd cc
 one_longer (Err fault) rest xs n h many = absurd cc
 
 -- there are as many calls as JSON values
-as_many_calls : (settings : Settings) (first : ℕ) (ds : List Data) (calls : List Call) →
-    calls_of settings first ds ≡ Ok calls → length calls ≡ length ds
+as_many_calls : (config : ConfigView) (first : ℕ) (ds : List Data) (calls : List Call) →
+    calls_of config first ds ≡ Ok calls → length calls ≡ length ds
 unfolding calls_of
-as_many_calls settings first [] calls is = let e : [] ≡ calls = cc in ap length (sym e)
-as_many_calls settings first (d ∷ ds) calls is =
-    one_longer (at_call first (fitting_call settings d)) (calls_of settings (suc first) ds) calls
-    (length ds) is (λ ys. as_many_calls settings (suc first) ds ys)
+as_many_calls config first [] calls is = let e : [] ≡ calls = cc in ap length (sym e)
+as_many_calls config first (d ∷ ds) calls is =
+    one_longer (at_call first (fitting_call config d)) (calls_of config (suc first) ds) calls
+    (length ds) is (λ ys. as_many_calls config (suc first) ds ys)
 
 lengths_of : {F : Type 0} (one : Result (List Call) F) (rest : Result (List (List Call)) F)
     (threads : List (List Call)) (n : ℕ) (ns : List ℕ) → one_and_rest one rest ≡ Ok threads
@@ -207,23 +207,23 @@ lengths_of (Ok calls) (Err fault) threads n ns h first then = absurd cc
 lengths_of (Err fault) rest threads n ns h first then = absurd cc
 
 -- the lists of calls are as long as those of JSON values
-same_lengths : (settings : Settings) (first : ℕ) (lists : List (List Data))
-    (threads : List (List Call)) → threads_of settings first lists ≡ Ok threads →
+same_lengths : (config : ConfigView) (first : ℕ) (lists : List (List Data))
+    (threads : List (List Call)) → threads_of config first lists ≡ Ok threads →
     map length threads ≡ map length lists
 unfolding threads_of
-same_lengths settings first [] threads is = let e : [] ≡ threads = cc in ap (map length) (sym e)
-same_lengths settings first (ds ∷ lists) threads is =
-    lengths_of (calls_of settings first ds) (threads_of settings (first + length ds) lists) threads
-    (length ds) (map length lists) is (λ calls. as_many_calls settings first ds calls)
-    (λ ts. same_lengths settings (first + length ds) lists ts)
+same_lengths config first [] threads is = let e : [] ≡ threads = cc in ap (map length) (sym e)
+same_lengths config first (ds ∷ lists) threads is =
+    lengths_of (calls_of config first ds) (threads_of config (first + length ds) lists) threads
+    (length ds) (map length lists) is (λ calls. as_many_calls config first ds calls)
+    (λ ts. same_lengths config (first + length ds) lists ts)
 
 -- so a trace may have the ones where it may have the others
-pub threads_fit : (settings : Settings) (first : ℕ) (lists : List (List Data))
-    (threads : List (List Call)) → threads_of settings first lists ≡ Ok threads →
+pub threads_fit : (config : ConfigView) (first : ℕ) (lists : List (List Data))
+    (threads : List (List Call)) → threads_of config first lists ≡ Ok threads →
     fits_trace lists ≡ true → fits_trace threads ≡ true
-threads_fit settings first lists threads is fit =
+threads_fit config first lists threads is fit =
     let lengths : map length threads ≡ map length lists =
-    same_lengths settings first lists threads is in
+    same_lengths config first lists threads is in
     let many : length threads ≡ length lists = sym (length-map threads length) ∙ ap length lengths ∙
     length-map lists length in
     let calls : sum_by length threads ≡ sum_by length lists = sym (sum-map length threads) ∙
@@ -231,12 +231,12 @@ threads_fit settings first lists threads is fit =
     rw (many, calls) fit
 
 -- and the other way round
-pub fits_threads : (settings : Settings) (first : ℕ) (lists : List (List Data))
-    (threads : List (List Call)) → threads_of settings first lists ≡ Ok threads →
+pub fits_threads : (config : ConfigView) (first : ℕ) (lists : List (List Data))
+    (threads : List (List Call)) → threads_of config first lists ≡ Ok threads →
     fits_trace threads ≡ true → fits_trace lists ≡ true
-fits_threads settings first lists threads is fit =
+fits_threads config first lists threads is fit =
     let lengths : map length threads ≡ map length lists =
-    same_lengths settings first lists threads is in
+    same_lengths config first lists threads is in
     let many : length threads ≡ length lists = sym (length-map threads length) ∙ ap length lengths ∙
     length-map lists length in
     let calls : sum_by length threads ≡ sum_by length lists = sym (sum-map length threads) ∙

@@ -1,7 +1,7 @@
 -- A trace that the worked examples read and play.
 use Rattle.std.specs.Prelude.{ℕ, List, [], ◌∷◌, ◌++◌, codes}
 use Rattle.tsc_span.specs.Span.{point}
-use Rattle.tsc_cache.proofs.ExampleSettings.{of_first, of_second, usual, twenty, without_end}
+use Rattle.tsc_cache.proofs.ExampleConfig.{of_first, of_second, usual, twenty, without_end}
 use Rattle.tsc_trace_format.specs.declared.trace.Call.{Call}
 use Rattle.tsc_trace_format.specs.declared.trace.Call.TheVariants.{Add, Get, Low}
 use Rattle.tsc_trace_format.specs.Traces.{Trace}

@@ -4,7 +4,7 @@ use Rattle.std.proofs.lemmas.Bool.Decides.{nat_tests}
 use Rattle.serde_json.specs.Data.{Data}
 use Rattle.serde_json.specs.View.{view}
 use Rattle.serde_json.specs.declared.value.Value.{Value}
-use Rattle.tsc_page_nodes.specs.Page.{Mark}
+use Rattle.tsc_page_model.specs.Page.{Mark}
 use Rattle.tsc_trace_format.specs.declared.read.part.PartFault.{PartFault}
 use Rattle.tsc_trace_format.specs.declared.read.part.Refusal.{Refusal}
 use Rattle.tsc_trace_format.specs.declared.read.part.Refusal.TheVariants as refusal

@@ -5,7 +5,7 @@ use Rattle.uuid.specs.Text.{parsed}
 use Rattle.uuid.specs.Parts.{zero_bytes}
 use Rattle.serde_json.specs.Data.{Data, null, boolean, number, string, array, object}
 use Rattle.serde_json.specs.Find.{as_null}
-use Rattle.tsc_time.specs.OwnedTime.{owner_of}
+use Rattle.tsc_time.specs.ValueView.{owner_of}
 use Rattle.tsc_trace_format.specs.declared.read.part.Refusal.{Refusal}
 use Rattle.tsc_trace_format.specs.declared.read.part.Refusal.TheVariants as refusal
 use Rattle.tsc_trace_format.specs.declared.read.part.PartFault.TheVariants.{Uuid}

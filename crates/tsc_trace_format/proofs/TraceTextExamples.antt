@@ -6,13 +6,13 @@ use Rattle.uuid.proofs.OnLiterals.{uuid_on_literals}
 use Rattle.serde_json.proofs.OnLiterals.{serde_json_on_literals}
 use Rattle.serde_json.specs.Data.{unsigned, Data, number, string, array, object, Items, no_items, item, no_members, member}
 use Rattle.tsc_time.specs.Time.{Time}
-use Rattle.tsc_time.specs.OwnedTime.{unowned}
+use Rattle.tsc_time.specs.ValueView.{unowned}
 use Rattle.tsc_span.specs.Span.{nothing, between, before, after, last, point}
 use Rattle.tsc_trace_format.specs.declared.trace.Call.TheVariants.{Add, Batch, Get}
 use Rattle.tsc_trace_format.specs.declared.read.TraceFault.TheVariants.{NotJson, Shape, Number, Hex, Uuid, Config, TooLarge}
 use Rattle.tsc_trace_format.specs.declared.read.part.PartFault.TheVariants as part
 use Rattle.tsc_trace_format.specs.TraceText.{json_of, trace_of_bytes}
-use Rattle.tsc_trace_format.specs.TraceText.{array_of, object_of, text_of, unsigned_of, number_below, needed, two_of, time_in_range, time_of, key_of, owner_in, owner_member, ends_in, ends_of, excluded_in, excluded_of, start_form, start_to_end_form, range_form, onward_form, form_of, span_form, span_of_form, added_span, looked_up_span, add_of, mark_of, marks_in, few_of, marks_of, batch_of, get_of, low_of, call_by_name, call_of, fitting_call, numbers_in, lists_in, lists_of, head_of, settings_in, calls_of, threads_of, trace_of}
+use Rattle.tsc_trace_format.specs.TraceText.{array_of, object_of, text_of, unsigned_of, number_below, needed, two_of, time_in_range, time_of, key_of, owner_in, owner_member, ends_in, ends_of, excluded_in, excluded_of, start_form, start_to_end_form, range_form, onward_form, form_of, span_form, span_of_form, added_span, looked_up_span, add_of, mark_of, marks_in, few_of, marks_of, batch_of, get_of, low_of, call_by_name, call_of, fitting_call, numbers_in, lists_in, lists_of, head_of, config_in, calls_of, threads_of, trace_of}
 use Rattle.tsc_trace_format.proofs.ExampleTraces.{ended, example_trace}
 
 -- a time: its wall time and its logical count
@@ -117,7 +117,7 @@ unfolding array_of object_of text_of unsigned_of number_below needed two_of time
     key_of owner_in owner_member ends_in ends_of excluded_in excluded_of start_form
     start_to_end_form range_form onward_form form_of span_form span_of_form added_span
     looked_up_span add_of get_of low_of call_by_name call_of fitting_call numbers_in lists_in
-    lists_of head_of settings_in calls_of threads_of trace_of hex_on_literals uuid_on_literals
+    lists_of head_of config_in calls_of threads_of trace_of hex_on_literals uuid_on_literals
 the_trace_of_a_json_value = refl
 
 -- ---- spans
@@ -222,7 +222,7 @@ pub the_first_wrong_call : trace_of
     (one_call low_call_and_more)))))) ≡ Err (Hex 3)
 unfolding array_of object_of text_of unsigned_of number_below needed two_of time_in_range time_of
     key_of start_form form_of span_form span_of_form looked_up_span get_of low_of call_by_name
-    call_of fitting_call numbers_in lists_in lists_of head_of settings_in calls_of threads_of
+    call_of fitting_call numbers_in lists_in lists_of head_of config_in calls_of threads_of
     trace_of hex_on_literals
 the_first_wrong_call = refl
 
@@ -230,20 +230,20 @@ the_first_wrong_call = refl
 pub a_configuration_before_calls : trace_of
     (trace_on_pages 63 132 (one_list (one_call low_call_and_more))) ≡ Err Config
 unfolding array_of object_of text_of unsigned_of number_below needed two_of time_in_range time_of
-    numbers_in lists_in lists_of head_of settings_in trace_of
+    numbers_in lists_in lists_of head_of config_in trace_of
 a_configuration_before_calls = refl
 
 pub a_number_of_the_head : trace_of (trace_on_pages 4294967296 132 (one_list no_items)) ≡
     Err (Number 0)
 unfolding array_of object_of text_of unsigned_of number_below needed two_of time_in_range time_of
-    numbers_in lists_in lists_of head_of settings_in trace_of
+    numbers_in lists_in lists_of head_of config_in trace_of
 a_number_of_the_head = refl
 
 -- in the head too the shape comes before the numbers
 pub a_shape_of_the_head : trace_of (trace_on_pages 4294967296 132 (one_call low_call)) ≡
     Err (Shape 0)
 unfolding array_of object_of text_of unsigned_of number_below needed two_of time_in_range time_of
-    numbers_in lists_in lists_of head_of settings_in trace_of
+    numbers_in lists_in lists_of head_of config_in trace_of
 a_shape_of_the_head = refl
 
 -- pages on which two keys of one byte have no place together
@@ -255,7 +255,7 @@ pub an_add_that_is_too_large : trace_of
 unfolding array_of object_of text_of unsigned_of number_below needed two_of time_in_range time_of
     key_of owner_in owner_member start_form start_to_end_form form_of span_form span_of_form
     added_span looked_up_span add_of get_of call_by_name call_of fitting_call numbers_in lists_in
-    lists_of head_of settings_in calls_of threads_of trace_of hex_on_literals uuid_on_literals
+    lists_of head_of config_in calls_of threads_of trace_of hex_on_literals uuid_on_literals
 an_add_that_is_too_large = refl
 
 -- one mark of a batch is enough
@@ -266,7 +266,7 @@ pub a_batch_with_a_mark_that_is_too_large : trace_of
 unfolding array_of object_of text_of unsigned_of number_below needed two_of time_in_range time_of
     key_of owner_member start_form start_to_end_form form_of span_form span_of_form added_span
     mark_of marks_in few_of marks_of batch_of call_by_name call_of fitting_call numbers_in lists_in
-    lists_of head_of settings_in calls_of threads_of trace_of hex_on_literals
+    lists_of head_of config_in calls_of threads_of trace_of hex_on_literals
 a_batch_with_a_mark_that_is_too_large = refl
 
 -- what else is wrong with a call comes before that
@@ -275,7 +275,7 @@ pub a_wrong_owner_of_one_that_is_too_large : trace_of
 unfolding array_of object_of text_of unsigned_of number_below needed two_of time_in_range time_of
     key_of owner_in owner_member start_form start_to_end_form form_of span_form span_of_form
     added_span looked_up_span add_of get_of call_by_name call_of fitting_call numbers_in lists_in
-    lists_of head_of settings_in calls_of threads_of trace_of hex_on_literals uuid_on_literals
+    lists_of head_of config_in calls_of threads_of trace_of hex_on_literals uuid_on_literals
 a_wrong_owner_of_one_that_is_too_large = refl
 
 -- of any size
@@ -295,12 +295,12 @@ pub a_lookup_is_never_too_large : trace_of
 unfolding array_of object_of text_of unsigned_of number_below needed two_of time_in_range time_of
     key_of owner_in owner_member start_form start_to_end_form form_of span_form span_of_form
     added_span looked_up_span add_of get_of call_by_name call_of fitting_call numbers_in lists_in
-    lists_of head_of settings_in calls_of threads_of trace_of hex_on_literals uuid_on_literals
+    lists_of head_of config_in calls_of threads_of trace_of hex_on_literals uuid_on_literals
 a_lookup_is_never_too_large = refl
 
 pub no_list : trace_of (trace_data no_items) ≡ Err Config
 unfolding array_of object_of text_of unsigned_of number_below needed two_of time_in_range time_of
-    numbers_in lists_in lists_of head_of settings_in trace_of
+    numbers_in lists_in lists_of head_of config_in trace_of
 no_list = refl
 
 -- ---- the bytes of a file
@@ -328,7 +328,7 @@ unfolding array_of object_of text_of unsigned_of number_below needed two_of time
     key_of owner_in owner_member ends_in ends_of excluded_in excluded_of start_form
     start_to_end_form range_form onward_form form_of span_form span_of_form added_span
     looked_up_span add_of get_of low_of call_by_name call_of fitting_call numbers_in lists_in
-    lists_of head_of settings_in calls_of threads_of trace_of serde_json_on_literals hex_on_literals
+    lists_of head_of config_in calls_of threads_of trace_of serde_json_on_literals hex_on_literals
     uuid_on_literals is_utf8 chars
 the_trace_of_a_file = refl
 

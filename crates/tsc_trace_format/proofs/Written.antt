@@ -14,16 +14,16 @@ use Rattle.uuid.proofs.RoundTrips.{parses_hyphenated}
 use Rattle.serde_json.specs.Data.{Data, unsigned, number, string}
 use Rattle.serde_json.specs.View.{items_of}
 use Rattle.tsc_time.specs.Time.{Time, is_in_range}
-use Rattle.tsc_time.specs.OwnedTime.{IsMadeOwner}
+use Rattle.tsc_time.specs.ValueView.{IsMadeOwner}
 use Rattle.tsc_span.proofs.MadeSpans.{only_less, less_before, less_or_equal}
-use Rattle.tsc_span.specs.Span.{KeyBytes, key_cmp, before, after, last, Interval, nothing, between}
+use Rattle.tsc_span.specs.Span.{KeyBytes, key_cmp, before, after, last, SpanView, nothing, between}
 use Rattle.tsc_span.specs.MadeSpan.{IsKey, IsMadeSpan}
-use Rattle.tsc_span.proofs.CutOrder.{key_cmp-same}
+use Rattle.tsc_span.proofs.CutsTotal.{key_cmp-same}
 use Rattle.tsc_span.proofs.Ranges.{range_of_less, range_of_equal}
-use Rattle.tsc_page_nodes.specs.declared.TheConstants.{LEAST_SIZE, MOST_SIZE}
+use Rattle.tsc_page_model.specs.declared.TheConstants.{LEAST_SIZE, MOST_SIZE}
 use Rattle.tsc_cache.specs.declared.config.TheConstants.{LEAST_MIN_PAGES, MOST_MIN_PAGES, LONGEST_RETENTION}
-use Rattle.tsc_cache.specs.Settings.{Settings, are_page_sizes, IsWithinLimits}
-use Rattle.tsc_page_nodes.specs.Page.{Mark}
+use Rattle.tsc_cache.specs.ConfigView.{ConfigView, are_page_sizes, IsWithinLimits}
+use Rattle.tsc_page_model.specs.Page.{Mark}
 use Rattle.tsc_trace_format.specs.Limits.{most_marks}
 use Rattle.tsc_trace_format.specs.Lists.{fits_trace}
 use Rattle.tsc_trace_format.specs.declared.trace.Call.{Call}
@@ -33,7 +33,7 @@ use Rattle.tsc_trace_format.specs.Traces.{Trace, EachFits, AllFit}
 use Rattle.tsc_trace_format.specs.declared.read.head.Numbers.{Numbers}
 use Rattle.tsc_trace_format.specs.declared.read.span.SpanForm.{SpanForm}
 use Rattle.tsc_trace_format.specs.declared.read.span.SpanForm.TheVariants.{Range, Onward}
-use Rattle.tsc_trace_format.specs.TraceText.{listed, array_of, object_of, text_of, unsigned_of, number_below, needed, two_of, time_in_range, time_of, key_of, owner_in, owner_member, ends_in, ends_of, excluded_in, excluded_of, range_form, onward_form, form_of, span_form, span_of_form, added_span, looked_up_span, add_of, mark_of, marks_in, few_of, marks_of, batch_of, get_of, low_of, call_by_name, call_of, fitting_call, numbers_in, lists_in, lists_of, head_of, settings_in, calls_of, threads_of, trace_of}
+use Rattle.tsc_trace_format.specs.TraceText.{listed, array_of, object_of, text_of, unsigned_of, number_below, needed, two_of, time_in_range, time_of, key_of, owner_in, owner_member, ends_in, ends_of, excluded_in, excluded_of, range_form, onward_form, form_of, span_form, span_of_form, added_span, looked_up_span, add_of, mark_of, marks_in, few_of, marks_of, batch_of, get_of, low_of, call_by_name, call_of, fitting_call, numbers_in, lists_in, lists_of, head_of, config_in, calls_of, threads_of, trace_of}
 use Rattle.tsc_trace_format.specs.TraceData.{list_data, key_data, time_data, owner_data, start_bracket, end_bracket, range_data, onward_data, span_data, mark_data, call_data, trace_data, IsTracedMark, IsMadeCall, IsMadeTrace}
 use Rattle.tsc_trace_format.specs.TraceLaws.{ReadsWhatIsWritten}
 
@@ -91,12 +91,12 @@ empty_key : IsKey []
 empty_key = record { fits = refl; bytes = All-nil (λ b. b < 256) }
 
 -- a span is written in a form that is read again, and is the span of that form
-pub record IsBack (s : Interval) : Type 0 where
+pub record IsBack (s : SpanView) : Type 0 where
   pub form : SpanForm
   pub read : span_form (span_data s) ≡ Ok form
   pub span : span_of_form form ≡ Some s
 
-span_back : (s : Interval) → IsMadeSpan s → IsBack s
+span_back : (s : SpanView) → IsMadeSpan s → IsBack s
 unfolding span_of_form
 span_back nothing made = record {
   form =
@@ -141,11 +141,11 @@ span_back (between last (before m)) made = absurd (let e = made.2 in cc)
 span_back (between last (after m)) made = absurd (let e = made.2 in cc)
 span_back (between last last) made = absurd (let e = made.2 in cc)
 
-added_back : (s : Interval) → IsMadeSpan s → added_span (span_data s) ≡ Ok s
+added_back : (s : SpanView) → IsMadeSpan s → added_span (span_data s) ≡ Ok s
 unfolding added_span
 added_back s made = let back = span_back s made in rw (back.read, back.span) refl
 
-looked_up_back : (s : Interval) → IsMadeSpan s → looked_up_span (span_data s) ≡ Ok s
+looked_up_back : (s : SpanView) → IsMadeSpan s → looked_up_span (span_data s) ≡ Ok s
 unfolding looked_up_span
 looked_up_back s made = let back = span_back s made in rw (back.read, back.span) refl
 
@@ -204,19 +204,19 @@ call_back (Batch marks now) made =
 call_back (Get span) made = rw (looked_up_back span made) refl
 call_back Low made = refl
 
-fitting_back : (settings : Settings) (c : Call) → IsMadeCall c → call_fits settings c ≡ true →
-    fitting_call settings (call_data c) ≡ Ok c
+fitting_back : (config : ConfigView) (c : Call) → IsMadeCall c → call_fits config c ≡ true →
+    fitting_call config (call_data c) ≡ Ok c
 unfolding fitting_call
-fitting_back settings c made fit = rw (call_back c made, fit) refl
+fitting_back config c made fit = rw (call_back c made, fit) refl
 
-calls_back : (settings : Settings) (first : ℕ) (cs : List Call) → All IsMadeCall cs →
-    EachFits settings cs → calls_of settings first (map call_data cs) ≡ Ok cs
+calls_back : (config : ConfigView) (first : ℕ) (cs : List Call) → All IsMadeCall cs →
+    EachFits config cs → calls_of config first (map call_data cs) ≡ Ok cs
 unfolding calls_of
-calls_back settings first [] made fit = refl
-calls_back settings first (c ∷ cs) made fit =
+calls_back config first [] made fit = refl
+calls_back config first (c ∷ cs) made fit =
     rw (
-      fitting_back settings c (made 0 c (omega arith)) (fit 0 c (omega arith)),
-      calls_back settings (suc first) cs (λ k d lt. made (suc k) d (omega arith))
+      fitting_back config c (made 0 c (omega arith)) (fit 0 c (omega arith)),
+      calls_back config (suc first) cs (λ k d lt. made (suc k) d (omega arith))
           (λ k d lt. fit (suc k) d (omega arith)),
     ) refl
 
@@ -230,16 +230,16 @@ unfolding lists_in
 lists_back [] = refl
 lists_back (calls ∷ threads) = rw (array_back (map call_data calls), lists_back threads) refl
 
-threads_back : (settings : Settings) (first : ℕ) (threads : List (List Call)) →
-    All (λ calls. All IsMadeCall calls) threads → AllFit settings threads →
-    threads_of settings first (rows_of threads) ≡ Ok threads
+threads_back : (config : ConfigView) (first : ℕ) (threads : List (List Call)) →
+    All (λ calls. All IsMadeCall calls) threads → AllFit config threads →
+    threads_of config first (rows_of threads) ≡ Ok threads
 unfolding threads_of
-threads_back settings first [] made fit = refl
-threads_back settings first (calls ∷ threads) made fit =
-    let others = threads_back settings (first + length (map call_data calls)) threads
+threads_back config first [] made fit = refl
+threads_back config first (calls ∷ threads) made fit =
+    let others = threads_back config (first + length (map call_data calls)) threads
     (λ k d lt. made (suc k) d (omega arith)) (λ k d lt. fit (suc k) d (omega arith)) in
     rw (
-      calls_back settings first calls (made 0 calls (omega arith)) (fit 0 calls (omega arith)),
+      calls_back config first calls (made 0 calls (omega arith)) (fit 0 calls (omega arith)),
       others,
     ) refl
 
@@ -295,7 +295,7 @@ fits_64_bits n most within small =
     lt-ltb n (2 ^ 64) (omega arith)
 
 -- the numbers of a configuration
-abbrev pub numbers_of : Settings → Numbers
+abbrev pub numbers_of : ConfigView → Numbers
 numbers_of s = record {
   page_first = s.page_first;
   page_max = s.page_max;
@@ -331,8 +331,8 @@ head_back t made =
       lists_back t.threads,
     ) refl
 
-config_back : (s : Settings) → IsWithinLimits s → settings_in (numbers_of s) ≡ Ok s
-unfolding settings_in
+config_back : (s : ConfigView) → IsWithinLimits s → config_in (numbers_of s) ≡ Ok s
+unfolding config_in
 config_back s limits = rw (limits.sizes, limits.min_pages, limits.retention) refl
 
 pub written_is_read : ReadsWhatIsWritten

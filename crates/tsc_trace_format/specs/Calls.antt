@@ -1,10 +1,10 @@
 -- The calls of a trace by their kinds, and by what they add.
 use Rattle.std.specs.Prelude.{Bool, true, false, List, [], ◌∷◌, Option, Some, None, is_some}
 use Rattle.tsc_time.specs.Time.{Time}
-use Rattle.tsc_time.specs.OwnedTime.{OwnedTime}
-use Rattle.tsc_span.specs.Span.{Interval}
-use Rattle.tsc_page_nodes.specs.Page.{Mark}
-use Rattle.tsc_cache.specs.Settings.{Settings}
+use Rattle.tsc_time.specs.ValueView.{ValueView}
+use Rattle.tsc_span.specs.Span.{SpanView}
+use Rattle.tsc_page_model.specs.Page.{Mark}
+use Rattle.tsc_cache.specs.ConfigView.{ConfigView}
 use Rattle.tsc_cache.specs.Batch.{all_fit}
 use Rattle.tsc_trace_format.specs.declared.trace.Call.{Call}
 use Rattle.tsc_trace_format.specs.declared.trace.Call.TheVariants.{Add, Batch, Get, Low}
@@ -32,7 +32,7 @@ pub record Addition : Type 0 where
   pub now : Time
 
 -- one mark: a span with its value
-abbrev pub one_mark : Interval → OwnedTime → Time → Addition
+abbrev pub one_mark : SpanView → ValueView → Time → Addition
 one_mark span value now = record { marks = record { span = span; value = value } ∷ []; now = now }
 
 -- several marks
@@ -51,10 +51,10 @@ abbrev pub adds : Call → Bool
 adds call = is_some (addition_of call)
 
 -- whether each mark of what may be added fits a page
-abbrev pub addition_fits : Settings → Option Addition → Bool
-addition_fits settings None = true
-addition_fits settings (Some addition) = all_fit settings addition.marks
+abbrev pub addition_fits : ConfigView → Option Addition → Bool
+addition_fits config None = true
+addition_fits config (Some addition) = all_fit config addition.marks
 
 -- whether all that a call adds fits a page
-abbrev pub call_fits : Settings → Call → Bool
-call_fits settings call = addition_fits settings (addition_of call)
+abbrev pub call_fits : ConfigView → Call → Bool
+call_fits config call = addition_fits config (addition_of call)

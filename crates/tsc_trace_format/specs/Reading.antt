@@ -2,7 +2,7 @@
 use Rattle.std.specs.Prelude.{◌≡◌, ◌⊎◌, ℕ, [], ◌∷◌, ◌++◌, Result, Ok, Err}
 use Rattle.std.specs.declared.alloc.Global.{Global}
 use Rattle.std.specs.declared.vec.Vec.{Vec}
-use Rattle.tsc_page_nodes.specs.Page.{Mark}
+use Rattle.tsc_page_model.specs.Page.{Mark}
 use Rattle.tsc_trace_format.specs.declared.read.TraceFault.{TraceFault}
 use Rattle.tsc_trace_format.specs.declared.read.TraceFault.TheVariants.{NoMemory}
 use Rattle.tsc_trace_format.specs.declared.read.part.Refusal.{Refusal}
@@ -21,9 +21,9 @@ Gives view (Err e) read = Refuses e read
 
 -- What a reader returned whose faults have the numbers of calls, seen by a view, is what the
 -- definition reads, unless memory ran out.
-abbrev pub Tells : {X Y : Type 0} → (X → Y) → Result X TraceFault → Result Y TraceFault → Type 0
-Tells view (Ok x) read = read ≡ Ok (view x)
-Tells view (Err fault) read = (fault ≡ NoMemory) ⊎ (read ≡ Err fault)
+abbrev pub Reports : {X Y : Type 0} → (X → Y) → Result X TraceFault → Result Y TraceFault → Type 0
+Reports view (Ok x) read = read ≡ Ok (view x)
+Reports view (Err fault) read = (fault ≡ NoMemory) ⊎ (read ≡ Err fault)
 
 -- of two refusals want of memory, and else the lesser fault
 abbrev pub lesser_refusal : Refusal → Refusal → Refusal
@@ -39,10 +39,10 @@ joined (Err d) (Ok y) = Err d
 joined (Err d) (Err e) = Err (lesser_refusal d e)
 
 -- what was read of the call with this number
-abbrev pub told_at : {A : Type 0} → ℕ → Result A Refusal → Result A TraceFault
-told_at call (Ok x) = Ok x
-told_at call (Err refusal.Memory) = Err NoMemory
-told_at call (Err (refusal.Fault fault)) = Err (fault_at call fault)
+abbrev pub reported_at : {A : Type 0} → ℕ → Result A Refusal → Result A TraceFault
+reported_at call (Ok x) = Ok x
+reported_at call (Err refusal.Memory) = Err NoMemory
+reported_at call (Err (refusal.Fault fault)) = Err (fault_at call fault)
 
 -- marks and one more, which both were read, or the lesser refusal of both, unless memory ran out
 abbrev pub AddsMark : Result (Vec Mark Global) Refusal → Result Mark Refusal →

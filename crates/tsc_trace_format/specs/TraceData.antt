@@ -5,11 +5,11 @@ use Rattle.uuid.specs.Text.{hyphenated_text, lower}
 use Rattle.serde_json.specs.Data.{Data, null, unsigned, number, string, array, object, no_members, member}
 use Rattle.serde_json.specs.View.{items_of}
 use Rattle.tsc_time.specs.Time.{Time, is_in_range}
-use Rattle.tsc_time.specs.OwnedTime.{Owner, IsMadeValue}
-use Rattle.tsc_span.specs.Span.{KeyBytes, before, after, last, Interval, nothing, between}
+use Rattle.tsc_time.specs.ValueView.{Owner, IsMadeValue}
+use Rattle.tsc_span.specs.Span.{KeyBytes, before, after, last, SpanView, nothing, between}
 use Rattle.tsc_span.specs.MadeSpan.{IsMadeSpan}
-use Rattle.tsc_cache.specs.Settings.{IsWithinLimits}
-use Rattle.tsc_page_nodes.specs.Page.{Mark}
+use Rattle.tsc_cache.specs.ConfigView.{IsWithinLimits}
+use Rattle.tsc_page_model.specs.Page.{Mark}
 use Rattle.tsc_trace_format.specs.Limits.{most_marks}
 use Rattle.tsc_trace_format.specs.Lists.{fits_trace}
 use Rattle.tsc_trace_format.specs.declared.trace.Call.{Call}
@@ -57,7 +57,7 @@ onward_data start excluded =
     (member (codes "start") (key_data start) no_members))
 
 -- A span: the empty one as a key between two round brackets. Nothing begins at the last cut.
-abbrev pub span_data : Interval → Data
+abbrev pub span_data : SpanView → Data
 span_data nothing = range_data [] [] true true
 span_data (between (before k) (before m)) = range_data k m false true
 span_data (between (before k) (after m)) = range_data k m false false

@@ -10,11 +10,11 @@ use Rattle.serde_json.specs.Data.{Data, null, boolean, number, string, array, ob
 use Rattle.serde_json.specs.Read.{read}
 use Rattle.serde_json.specs.Find.{get_member, as_number, as_u64, as_str, as_array, as_object}
 use Rattle.tsc_time.specs.Time.{Time, is_in_range}
-use Rattle.tsc_time.specs.OwnedTime.{Owner, owner_of}
+use Rattle.tsc_time.specs.ValueView.{Owner, owner_of}
 use Rattle.tsc_span.specs.declared.span.Ends.{Ends}
-use Rattle.tsc_span.specs.Span.{KeyBytes, Interval, nothing, point, range, onward, start_to_end, fits_key}
-use Rattle.tsc_cache.specs.Settings.{Settings, settings_of}
-use Rattle.tsc_page_nodes.specs.Page.{Mark}
+use Rattle.tsc_span.specs.Span.{KeyBytes, SpanView, nothing, point, range, onward, start_to_end, fits_key}
+use Rattle.tsc_cache.specs.ConfigView.{ConfigView, made_config}
+use Rattle.tsc_page_model.specs.Page.{Mark}
 use Rattle.tsc_trace_format.specs.Limits.{most_marks}
 use Rattle.tsc_trace_format.specs.Lists.{fits_trace}
 use Rattle.tsc_trace_format.specs.TraceParts.{Part, both, ◌>>=◌, where_holds, at_call}
@@ -203,20 +203,20 @@ span_form d = do
   form_in ms
 
 -- the span of a form, unless it is inverted
-unfoldable pub span_of_form : SpanForm → Option Interval
+unfoldable pub span_of_form : SpanForm → Option SpanView
 span_of_form (Start start) = Some (point start)
 span_of_form (StartToEnd start end) = start_to_end start end
 span_of_form (Range start end ends) = range start end ends.exclude_from ends.exclude_to
 span_of_form (Onward start excluded) = Some (onward start excluded)
 
 -- the span of an Add, which may not be inverted
-unfoldable pub added_span : Data → Part Interval
+unfoldable pub added_span : Data → Part SpanView
 added_span d = do
   form ← span_form d
   ok_or (span_of_form form) Span
 
 -- the span of a lookup, where an inverted one is the empty span
-unfoldable pub looked_up_span : Data → Part Interval
+unfoldable pub looked_up_span : Data → Part SpanView
 looked_up_span d = do
   form ← span_form d
   Ok (unwrap_or (span_of_form form) nothing)
@@ -228,7 +228,7 @@ abbrev pub add_names : List (List ℕ)
 add_names = codes "op" ∷ codes "span" ∷ codes "time" ∷ codes "owner" ∷ codes "now" ∷ []
 
 -- the span and the time of an Add
-abbrev pub span_and_time : Members → Part (Interval × Time)
+abbrev pub span_and_time : Members → Part (SpanView × Time)
 span_and_time ms = both (needed_as (codes "span") added_span ms)
     (needed_as (codes "time") time_of ms)
 
@@ -254,7 +254,7 @@ abbrev pub mark_names : List (List ℕ)
 mark_names = codes "span" ∷ codes "time" ∷ codes "owner" ∷ []
 
 -- the span, the time and the owner of a mark
-abbrev pub mark_parts : Members → Part ((Interval × Time) × Option Owner)
+abbrev pub mark_parts : Members → Part ((SpanView × Time) × Option Owner)
 mark_parts ms = both (span_and_time ms) (owner_member (get_member (codes "owner") ms))
 
 -- the mark with these members
@@ -351,10 +351,10 @@ call_of d = do
   call_by_name op ms
 
 -- A call, all of which has to fit a page. Nothing else of it may be wrong where that is looked at.
-unfoldable pub fitting_call : Settings → Data → Part Call
-fitting_call settings d = do
+unfoldable pub fitting_call : ConfigView → Data → Part Call
+fitting_call config d = do
   call ← call_of d
-  where_holds TooLarge (call_fits settings call) call
+  where_holds TooLarge (call_fits config call) call
 
 -- ---- the head
 
@@ -413,27 +413,27 @@ head_of d = do
   head_in ms
 
 -- the configuration of the numbers of a head
-unfoldable pub settings_in : Numbers → Result Settings TraceFault
-settings_in numbers = ok_or (result_ok
-    (settings_of numbers.page_first numbers.page_max numbers.min_pages numbers.retention
+unfoldable pub config_in : Numbers → Result ConfigView TraceFault
+config_in numbers = ok_or (result_ok
+    (made_config numbers.page_first numbers.page_max numbers.min_pages numbers.retention
     numbers.low_water)) Config
 
 -- ---- the trace
 
 -- the calls of a list, of which the first has this number
-unfoldable pub calls_of : Settings → ℕ → List Data → Result (List Call) TraceFault
-calls_of settings first [] = Ok []
-calls_of settings first (d ∷ ds) = do
-  call ← at_call first (fitting_call settings d)
-  calls ← calls_of settings (suc first) ds
+unfoldable pub calls_of : ConfigView → ℕ → List Data → Result (List Call) TraceFault
+calls_of config first [] = Ok []
+calls_of config first (d ∷ ds) = do
+  call ← at_call first (fitting_call config d)
+  calls ← calls_of config (suc first) ds
   Ok (call ∷ calls)
 
 -- the calls of lists, of which the first call has this number
-unfoldable pub threads_of : Settings → ℕ → List (List Data) → Result (List (List Call)) TraceFault
-threads_of settings first [] = Ok []
-threads_of settings first (ds ∷ lists) = do
-  calls ← calls_of settings first ds
-  threads ← threads_of settings (first + length ds) lists
+unfoldable pub threads_of : ConfigView → ℕ → List (List Data) → Result (List (List Call)) TraceFault
+threads_of config first [] = Ok []
+threads_of config first (ds ∷ lists) = do
+  calls ← calls_of config first ds
+  threads ← threads_of config (first + length ds) lists
   Ok (calls ∷ threads)
 
 -- The trace of a JSON value: the head comes first, and counts as call 0, then its bounds, and then
@@ -441,10 +441,10 @@ threads_of settings first (ds ∷ lists) = do
 unfoldable pub trace_of : Data → Result Trace TraceFault
 trace_of d = do
   head ← at_call 0 (head_of d)
-  settings ← settings_in head.0
+  config ← config_in head.0
   lists ← where_holds Config (fits_trace head.1) head.1
-  threads ← threads_of settings 1 lists
-  Ok (record { config = settings; threads = threads })
+  threads ← threads_of config 1 lists
+  Ok (record { config = config; threads = threads })
 
 -- the JSON value that bytes are
 abbrev pub json_of : List ℕ → Option Data

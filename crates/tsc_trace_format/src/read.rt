@@ -1,3 +1,4 @@
+//! Reads a trace from the values of a JSON text, and tells the first fault of several.
 ghost use Rattle.std.specs.Prelude.{◌≡◌, ◌⊎◌, Ok, Err, IfOk, IfErr};
 ghost use Rattle.serde_json.specs.View.{view};
 ghost use Rattle.tsc_trace_format.specs.TraceText.{trace_of_bytes, json_of};

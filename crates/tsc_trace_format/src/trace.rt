@@ -1,3 +1,4 @@
+//! Traces and their calls, within the limits of the format.
 ghost use Rattle.std.specs.Prelude.{◌≡◌, ◌≤◌, true, map, length, nat_le, option_map, slice_get, IfSome, SomeIff};
 ghost use Rattle.std.specs.List.{sum_by};
 ghost use Rattle.tsc_trace_format.specs.Calls.{adds, call_fits, kind_of};
@@ -111,7 +112,7 @@ pub struct Marks {
 
 impl Model for Marks {
     ghost use Rattle.std.specs.Prelude.{List};
-    ghost use Rattle.tsc_page_nodes.specs.Page.{Mark};
+    ghost use Rattle.tsc_page_model.specs.Page.{Mark};
 
     ghost Value = { List Mark };
 

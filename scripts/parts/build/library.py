@@ -90,7 +90,7 @@ def objects_of(kit, work, is_proved):
     """Proves the crate, and names the files of its archive; or makes an object that nobody proved.
     """
     if not is_proved:
-        call(UNPROVED, "--library", "tsc_c", f"{work}/cache.o")
+        call(*UNPROVED, "--library", "tsc_c", f"{work}/cache.o")
         return [f"{work}/cache.o"]
     say("proving and building the library for C; docs/PROOFS.md says what that takes")
     call("rt", "lib", cwd=f"{ROOT}/crates/tsc_c")

@@ -16,7 +16,7 @@ from parts.repository import crates, files, text_or_none
 
 # The groups, and whose definitions these are.
 GROUPS = {
-    "the cache": ["tsc_time/*", "tsc_span/*", "tsc_page_nodes/*", "tsc_page/*", "tsc_cache/*"],
+    "the cache": ["tsc_time/*", "tsc_span/*", "tsc_page_model/*", "tsc_page/*", "tsc_cache/*"],
     "what threads are promised": ["tsc_shared/*"],
     "when a write is clear of reads, and what is told of a lease": [
         "timestamp_cache/[!S]*", "timestamp_cache/SeatSummaries",

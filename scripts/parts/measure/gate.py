@@ -2,14 +2,15 @@
 
 The command is `taskset -c 0,1 rt ci` where none is given: what the gate takes on two processors.
 `rt ci` on all of them, `rt all check` or `rt must-fail NAME` can be measured too. The command runs in
-a fresh clone of the commit that is checked out, so from nothing. What it prints goes to standard
-error, so that standard output has the table alone, in Markdown. With --edits a list of the edits
-follows, with the processor seconds of each.
+a fresh clone of the commit that is checked out. What it prints goes to standard error, so that
+standard output has the table alone, in Markdown. With --edits a list of the edits follows, with the
+processor seconds of each.
 
 Where the command is a whole `rt ci` and ends well, the table takes the place of the one between the
 marks of docs/PROOFS.md, with the day and the commit; --into names another file, and --no-write none.
-With --table the command runs here, the table goes to a file alone, and what the command prints stays
-as it is: so the gate watches its own run.
+A crate that `rt ci` takes from what an earlier run kept is not measured: its row stays as it was.
+`rt ci --anew` measures all. With --table the command runs here, the table goes to a file alone, and
+what the command prints stays as it is: so the gate watches its own run.
 
 Four times a second it looks at the processes below the command, of which one belongs to a crate by
 its words and to an edit by its folder. What a process spends after the last look is in no column but
@@ -39,6 +40,9 @@ GATE = ["taskset", "-c", "0,1", "rt", "ci"]
 COLUMNS = ["Crate", "Proof", "Tests", "Edits", "Together"]
 BEGIN, END = "<!-- gate: begin -->\n", "<!-- gate: end -->"
 Measured = namedtuple("Measured", "day commit minutes processors")
+ROW = re.compile(r"^\| `(\w+)` \| ([\d.]+) \| ([\d.]+) \| ([\d.]+) \| [\d.]+ \|$", re.M)
+# What `rt ci` says of a crate that an earlier run proved.
+KEPT = re.compile(rb"^(?:rt: )?(\w+) is kept: ")
 MEASURED = re.compile(
     r"^Measured on (\d{4}-\d\d-\d\d) at commit `(\w+)` by `[^`]*`:\n"
     r"(\d+) minutes by the clock on (\d+) processors",
@@ -156,13 +160,20 @@ def row_of(name, minutes):
     return f"| {' | '.join([name, *(f'{it:.1f}' for it in minutes), f'{sum(minutes):.1f}'])} |"
 
 
-def table(seen):
+def rows_in(text):
+    """Returns the minutes of each crate in the table of a document."""
+    rows = ROW.findall(text.partition(BEGIN)[2].partition(END)[0])
+    return {crate: [float(it) for it in minutes] for crate, *minutes in rows}
+
+
+def table(seen, former):
+    """Makes the table, with the former rows of crates that were not measured."""
     spent = spent_on(seen, lambda work: (work.crate, work.kind))
     yield f"| {' | '.join(COLUMNS)} |"
     yield "|---" * len(COLUMNS) + "|"
     sums = [0.0 for _ in KINDS]
     for crate in crates():
-        minutes = [spent.get((crate, kind), 0) / 60 for kind in KINDS]
+        minutes = former.get(crate) or [spent.get((crate, kind), 0) / 60 for kind in KINDS]
         sums = [a + b for a, b in zip(sums, minutes)]
         yield row_of(f"`{crate}`", minutes)
     yield row_of("all", sums)
@@ -185,6 +196,16 @@ def put_into(path, lines):
         raise Fault(f"{path} has no marks for the table", 1)
     with open(path, "w", encoding="utf-8") as file:
         file.write(before + begin + "\n".join(lines) + "\n" + end + after)
+
+
+def pass_on(lines, to, kept):
+    """Passes lines on, and keeps the names of the crates that were not proved anew."""
+    for line in lines:
+        to.write(line)
+        to.flush()
+        found = KEPT.match(line)
+        if found:
+            kept.add(found[1].decode())
 
 
 def arguments(parser):
@@ -216,13 +237,14 @@ def main(given):
 def measure(words, folder, given):
     say(f"watching {' '.join(words)}")
     begun, taken = time.monotonic(), stolen()
-    to = None if given.table else sys.stderr
-    started = subprocess.Popen(words, cwd=folder, stdin=subprocess.DEVNULL, stdout=to)
+    to = sys.stdout if given.table else sys.stderr
+    started = subprocess.Popen(words, cwd=folder, stdin=subprocess.DEVNULL, stdout=subprocess.PIPE)
     signal.signal(signal.SIGTERM, lambda *_: started.terminate())
-    seen, ended = {}, threading.Event()
+    seen, kept, ended = {}, set(), threading.Event()
     watcher = threading.Thread(target=watch, args=(started.pid, seen, ended))
     watcher.start()
     try:
+        pass_on(started.stdout, to.buffer, kept)
         status = started.wait()
     finally:
         ended.set()
@@ -233,11 +255,14 @@ def measure(words, folder, given):
     lost = ", ".join(f"{cpu} {now - taken.get(cpu, 0):.1f}" for cpu, now in stolen().items())
     commit = told_by("git", "rev-parse", "--short", "HEAD", cwd=folder)
     by_clock = f"{minutes:.0f} minutes by the clock on {processors_of(words)} processors"
+    former = {crate: row for crate, row in rows_in(content(given.into)).items() if crate in kept}
+    of_others = [f"Rows of an earlier run: {', '.join(f'`{it}`' for it in crates() if it in former)}."]
     lines = [
         f"Measured on {datetime.date.today()} at commit `{commit}` by `{' '.join(words)}`:",
         f"{by_clock}, {total:.0f} processor minutes.",
+        *(of_others if former else []),
         "",
-        *table(seen),
+        *table(seen, former),
     ]
     lines_of_edits = ["", *edit_lines(seen)] if given.edits else []
     told = "\n".join([*lines, "", f"Minutes that the host took for others: {lost}.", *lines_of_edits])
@@ -245,6 +270,6 @@ def measure(words, folder, given):
         write(given.table, f"{told}\n")
         return status
     print(told)
-    if not status and words[-2:] == GATE[-2:] and not given.no_write:
+    if not status and " ".join(words).endswith(("rt ci", "rt ci --anew")) and not given.no_write:
         put_into(given.into, lines)
     return status

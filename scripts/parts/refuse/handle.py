@@ -26,8 +26,8 @@ CHANGES = [
             " else { (true, Slot::Handle(ReadHandle { copy, length })) },"
         ),
         "    length: u64,": "    length: u64,\n    refused: bool,",
-        "        let (laid, handle) = handle_on(active, length);": (
-            "        let (laid, handle) = handle_on(active, length, refused && seat == 1);"
+        "        let (made, handle) = handle_on(active, length);": (
+            "        let (made, handle) = handle_on(active, length, refused && seat == 1);"
         ),
     },
     {

@@ -15,18 +15,18 @@ import time
 
 from parts.check.definitions import GROUPS
 from parts.draw.documents import drawn
-from parts.frame import ROOT, Cases, command_of, outcome, temporary, text_at, text_of, write
+from parts.frame import NO_RT, ROOT, Cases, command_of, outcome, temporary, text_at, text_of, write
 from parts.test.library import ANSWERS as LOOKED_AT, DROPPED
 
 # The parts of the gate, in their order, which stand in `scripts/`. The first one runs `rt ci`.
 PARTS = [
-    "measure gate", "check all", "test gate", "test launcher", "test first-answer", "test program",
-    "refuse thread", "refuse growth", "refuse stop", "refuse handle", "test examples",
+    "measure gate", "check all", "test gate", "test launcher", "test interrupts", "test installed",
+    "test unproved", "test first-answer", "test program", "refuse thread", "refuse growth", "refuse stop", "refuse handle", "test examples",
     "measure steps", "test library", "test release", "test store",
 ]
 # What the gate itself calls, and what it installs for its parts where that is missing.
 OWN_TOOLS = ["bash", "cat", "dirname", "grep", "mkfifo", "mktemp", "rm", "sh", "sort", "tail", "tee"]
-NEEDED = ["go", "cargo", "clang", "cmake", "pkg-config", "dpkg-deb", "valgrind"]
+NEEDED = ["go", "cargo", "clang", "cmake", "pkg-config", "dpkg-deb", "valgrind", "zsh", "mandoc"]
 # A tool and a header, what stands in for others where it is missing, and what installs it.
 MISSING = [
     ("go", {"go": None}, "printf '#!/bin/sh\\n' >{room}/bin/go; /bin/chmod +x {room}/bin/go"),
@@ -403,7 +403,7 @@ def try_frame(cases, room):
         cases.expect(f"{kind} --help", outcome(f"{scripts}/{kind}", "--help")[0], 0)
         for words in ([], ["nothing"], ["--nothing"]):
             cases.expect(f"{kind} {words}", outcome(f"{scripts}/{kind}", *words)[0], 2)
-        for part in sorted(it[:-3] for it in os.listdir(f"{scripts}/parts/{kind}") if it.endswith(".py")):
+        for part in sorted(it[:-3].replace("_", "-") for it in os.listdir(f"{scripts}/parts/{kind}") if it.endswith(".py")):
             cases.expect(f"{kind} {part} --help", outcome(f"{scripts}/{kind}", part, "--help")[0], 0)
             cases.expect(f"{kind} {part} --nothing", outcome(f"{scripts}/{kind}", part, "--nothing")[0], 2)
     cases.expect("no script left a compiled one", outcome("find", scripts, "-name", "__pycache__"), (0, ""))
@@ -769,9 +769,33 @@ def try_growths(cases, room):
         cases.expect(f"refuse growth: {words} of one growth of 5,000 bytes, which is made good", got, well)
 
 
+# A call of each part that needs the toolchain.
+CALLS = "draw inside examples/two_readers.json; measure commands; measure forms; measure gate; measure library"
+CALLS += "; measure library --unproved; measure modules tsc_time; refuse growth; refuse growth all --unproved"
+CALLS += "; refuse handle; refuse stop; refuse thread; test examples; test first-answer; test library"
+CALLS += "; test library --unproved; test program; test program --unproved; test races; test release"
+CALLS += "; build unproved tscache OUT; install --unproved OUT"
+CALLS = ["../.ci/run", *CALLS.split("; ")]
+CALLS += [f"build {it}{how} OUT" for it in ("library", "program", "release") for how in ("", " --unproved")]
+
+
+def try_without_rt(cases, room):
+    """Each call says once that the toolchain is missing, and makes nothing."""
+    os.makedirs(f"{room}/all")
+    for folder in os.environ["PATH"].split(":"):
+        for it in os.listdir(folder) if os.path.isdir(folder) else []:
+            if it != "rt" and not os.path.lexists(f"{room}/all/{it}"):
+                os.symlink(f"{folder}/{it}", f"{room}/all/{it}")
+    env = {it: text for it, text in os.environ.items() if it not in ("PROGRAM", "TESTS", "BUILT")}
+    for words in CALLS:
+        status, told = outcome(*f"{ROOT}/scripts/{words}".replace("OUT", f"{room}/out").split(), env={**env, "PATH": f"{room}/all"})
+        got = status != 0, told.count(NO_RT), "Traceback" in told or "not found" in told or os.path.exists(f"{room}/out")
+        cases.expect(f"{words} without rt", got, (True, 1, False), told)
+
+
 def run(cases, _):
     with temporary() as work:
         parts = try_gate, try_measure, try_frame, try_library, try_store, try_checks, try_pictures, try_programs
-        for part in (*parts, try_growths):
+        for part in (*parts, try_growths, try_without_rt):
             os.makedirs(f"{work}/{part.__name__}")
             part(cases, f"{work}/{part.__name__}/room")

@@ -13,7 +13,7 @@ import os
 import re
 import tempfile
 
-from parts import builds
+from parts.build import unproved
 from parts.frame import ROOT, kit, outcome, temporary, write
 from parts.repository import named
 
@@ -51,7 +51,7 @@ def compile_to(unproved, kit, work, text, out):
 
 def build(crate, work, folder):
     """Builds both programs."""
-    unproved, here = builds.unproved(), kit()
+    here = kit()
     unproved.ATTRIBUTES = ((" sanitize_address", " sanitize_thread"), *unproved.ATTRIBUTES[1:])
     kept = f"{work}/module.bc"
     os.mkdir(f"{work}/kit")

@@ -13,7 +13,6 @@ cases are in `packaging/tests`.
 import hashlib
 import os
 import shlex
-import shutil
 import sys
 
 from parts.frame import ROOT, Fault, needs_rt, outcome, read, say, temporary, write
@@ -22,7 +21,6 @@ from parts.repository import version
 sys.path.insert(0, f"{ROOT}/packaging/tests")
 
 from archive import built, entries, same_bytes
-from cases import append
 from debian import debian
 from installing import install, install_from_a_checkout, links, refused_installations
 from installing import staged, uninstall, upgrade
@@ -42,10 +40,7 @@ def first_release(cases, work):
     cases.expect("a checkout that is not clean", status, (70, told))
     os.remove(f"{clone}/new")
     cases.expect("wrong words", outcome("scripts/build", "release", "--proved", cwd=clone)[0], 2)
-    append(f"{clone}/.git/info/exclude", "real-build-unproved\n")
-    real = "real-build-unproved"
-    shutil.copy(f"{clone}/scripts/build-unproved", f"{clone}/scripts/{real}")
-    stand_in(clone, {"scripts/build-unproved": KEEPING})
+    stand_in(clone, {"scripts/build": KEEPING})
     os.mkdir(f"{work}/kept")
     env = {**os.environ, "KEEP": f"{work}/kept"}
     status, told = outcome("scripts/build", "release", "--unproved", out, cwd=clone, env=env)

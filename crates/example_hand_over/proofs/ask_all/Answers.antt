@@ -12,7 +12,7 @@ loop-write-preserved g c =
     one_more_made (IsPushed g.F.Former.cache g.F.Former.range) writes c.loop-write.all.items
     c.push.new.self.items (drop i writes) (drop (i + 1) writes) (slice_index_or writes i _) _
     c.loop-write.invariant (left_at writes i _ c.loop-write-test.true) c.in_ok-push.ensures.items
-    c.in_ok-told.ensures
+    c.in_ok-reported.ensures
 
 pub returns : goal.returns
 returns g c =

@@ -8,8 +8,8 @@ use Rattle.example_hand_over.proofs.ask_on.Goals as goal
 
 pub returns : goal.returns
 returns g c =
-    pushed_row g.F.Former.cache g.F.Former.range c.args.write.now c.args.span.now c.in_ok-told.told
-    c.id_of.result c.at.result c.write-told.result
+    pushed_row g.F.Former.cache g.F.Former.range c.args.write.now c.args.span.now
+    c.in_ok-reported.reported c.id_of.result c.at.result c.write-reported.result
     (λ (t : Time). IsClearOf (cache_answer c.args.next.now.cache c.args.span.now) c.id_of.result t)
-    c.requires c.id_of.ensures c.at.ensures (search rules) c.write-told.ensures.former
-    c.write-told.ensures.pushed
+    c.requires c.id_of.ensures c.at.ensures (search rules) c.write-reported.ensures.former
+    c.write-reported.ensures.pushed

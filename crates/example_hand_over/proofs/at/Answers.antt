@@ -10,5 +10,5 @@ use Rattle.example_hand_over.proofs.at.Goals as goal
 pub returns : goal.returns
 returns c =
     let time : Time = record { wall = c.args.wall; logical = 0 } in
-    c.unwrap_or.ensures ∙ ap (λ told. unwrap_or told last_time) c.new.ensures ∙
+    c.unwrap_or.ensures ∙ ap (λ reported. unwrap_or reported last_time) c.new.ensures ∙
     time_or (is_in_range time) time last_time

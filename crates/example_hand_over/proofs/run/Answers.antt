@@ -12,9 +12,9 @@ returns-clause-first g c =
     let range = c.args.range.now in
     let reads = c.args.tables.reads.now in
     let writes = c.args.tables.writes.now in
-    if_ok_as (λ told. AllZip (IsPushed cache range) writes told.0.items)
-    (λ told. AllZip (IsClear reads range) writes told.0.items) c.hand_on_twice.result
-    (λ told. zip_as (IsPushed cache range) (IsClear reads range) writes told.0.items
+    if_ok_as (λ reported. AllZip (IsPushed cache range) writes reported.0.items)
+    (λ reported. AllZip (IsClear reads range) writes reported.0.items) c.hand_on_twice.result
+    (λ reported. zip_as (IsPushed cache range) (IsClear reads range) writes reported.0.items
     (λ write at. clear_of_table cache reads range write at c.in_ok-cache.ensures))
     c.hand_on_twice.ensures.first
 
@@ -24,8 +24,8 @@ returns-clause-second g c =
     let range = c.args.range.now in
     let reads = c.args.tables.reads.now in
     let writes = c.args.tables.writes.now in
-    if_ok_as (λ told. AllZip (IsPushed cache range) writes told.1.items)
-    (λ told. AllZip (IsClear reads range) writes told.1.items) c.hand_on_twice.result
-    (λ told. zip_as (IsPushed cache range) (IsClear reads range) writes told.1.items
+    if_ok_as (λ reported. AllZip (IsPushed cache range) writes reported.1.items)
+    (λ reported. AllZip (IsClear reads range) writes reported.1.items) c.hand_on_twice.result
+    (λ reported. zip_as (IsPushed cache range) (IsClear reads range) writes reported.1.items
     (λ write at. clear_of_table cache reads range write at c.in_ok-cache.ensures))
     c.hand_on_twice.ensures.second

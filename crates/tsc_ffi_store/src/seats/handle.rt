@@ -37,11 +37,11 @@ impl Model for SeatHandle {
 
 impl SeatHandle {
     ghost use Rattle.std.specs.Prelude.{◌≡◌, []};
-    ghost use Rattle.tsc_cache.specs.Settings.{fits};
+    ghost use Rattle.tsc_cache.specs.ConfigView.{fits};
     ghost use Rattle.tsc_cache.specs.Batch.{all_fit};
     ghost use Rattle.tsc_ffi_store.specs.Kinds.{ByKind, config_of, front_of, IsAnySeat};
     ghost use Rattle.tsc_ffi_store.specs.ReturnSlots.{came};
-    ghost use Rattle.tsc_ffi_store.specs.Asking.{LooksShared, LooksStriped, TellsFloor, TellsFloorStriped, CountsShared, CountsStriped, SumsUpShared, SumsUpStriped, AddsShared, AddsStriped, LacksShared, LacksStriped, one_mark};
+    ghost use Rattle.tsc_ffi_store.specs.Asking.{LooksShared, LooksStriped, ReportsFloor, ReportsFloorStriped, CountsShared, CountsStriped, SumsUpShared, SumsUpStriped, AddsShared, AddsStriped, LacksShared, LacksStriped, one_mark};
 
     /// How the cache was set up.
     pub fn config(&self) -> Config
@@ -98,10 +98,7 @@ impl SeatHandle {
                 let AnyCache::Shared(cache) = &self.shared.cache else {
                     unreachable!()
                 };
-                match cache.get_max_ref(seat, span) {
-                    Ok(answer) => Ok(answer),
-                    Err(_) => unreachable!(),
-                }
+                Ok(cache.get_max_ref(seat, span))
             }
             AnySeat::Striped(seat) => {
                 let AnyCache::Striped(cache) = &self.shared.cache else {
@@ -114,7 +111,7 @@ impl SeatHandle {
 
     /// Where the floor stands, and in stripes the earliest floor.
     pub fn low_water(&mut self) -> Result<LowWater, Refusal>
-        ensures floor { ByKind TellsFloor TellsFloorStriped self.old.seat self.new.seat result }
+        ensures floor { ByKind ReportsFloor ReportsFloorStriped self.old.seat self.new.seat result }
         ensures same { self.new.returns ≡ self.old.returns }
     {
         match &mut self.seat {
@@ -122,10 +119,7 @@ impl SeatHandle {
                 let AnyCache::Shared(cache) = &self.shared.cache else {
                     unreachable!()
                 };
-                match cache.low_water(seat) {
-                    Ok(answer) => Ok(answer),
-                    Err(_) => unreachable!(),
-                }
+                Ok(cache.floor(seat))
             }
             AnySeat::Striped(seat) => {
                 let AnyCache::Striped(cache) = &self.shared.cache else {
@@ -167,7 +161,7 @@ impl SeatHandle {
         span: &Span,
         most: usize,
     ) -> Result<SeatSummary, Refusal>
-        ensures told { ByKind (SumsUpShared span.now most) (SumsUpStriped span.now most)
+        ensures reported { ByKind (SumsUpShared span.now most) (SumsUpStriped span.now most)
             self.old.seat self.new.seat result }
         ensures same { self.new.returns ≡ self.old.returns }
     {

@@ -1,3 +1,4 @@
+//! What calls at a seat answer, of whichever kind its cache is.
 use tsc_cache::Added;
 use tsc_shared::SeatFigures;
 

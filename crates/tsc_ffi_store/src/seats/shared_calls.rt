@@ -25,9 +25,9 @@ pub(crate) fn figures(cache: &SharedCache, seat: &mut Seat) -> Counted
             },
             memory: snapshot.cache.memory(),
         },
-        Err(_) => match cache.figures(seat) {
-            Ok(figures) => Counted { figures, memory: 0 },
-            Err(_) => unreachable!(),
+        Err(_) => Counted {
+            figures: cache.figures(seat),
+            memory: 0,
         },
     }
 }
@@ -44,7 +44,7 @@ pub(crate) fn summary(
     ensures { SumsUpShared span.now most seat.old seat.new result }
 {
     match summary_at(alloc, cache, seat, span, most) {
-        Ok(told) => Ok(told),
+        Ok(reported) => Ok(reported),
         Err(_) => Err(Refusal::NoMemory),
     }
 }
@@ -86,8 +86,6 @@ fn is_full(cache: &SharedCache, seat: &mut Seat) -> bool
     ensures below { result ≡ false → length seat.new.seen < seat.old.cache.limit }
     ensures looked { HasLookedOn seat.old seat.new }
 {
-    match cache.low_water(seat) {
-        Ok(floor) => floor.front >= cache.history_limit(),
-        Err(_) => unreachable!(),
-    }
+    let floor = cache.floor(seat);
+    floor.front >= cache.history_limit()
 }

@@ -2,7 +2,7 @@
 //! that others were in the way.
 ghost use Rattle.std.specs.Prelude.{◌≡◌, ◌⊎◌};
 ghost use Rattle.tsc_striped_leases.specs.Merging.{earlier};
-ghost use Rattle.tsc_ffi_store.specs.Asking.{LooksStriped, TellsFloorStriped, CountsStriped, SumsUpStriped, IsPlacedInStripes};
+ghost use Rattle.tsc_ffi_store.specs.Asking.{LooksStriped, ReportsFloorStriped, CountsStriped, SumsUpStriped, IsPlacedInStripes};
 ghost use Rattle.tsc_ffi_store.specs.declared.refusal.Refusal.TheVariants as refusal;
 ghost use Rattle.tsc_ffi_store.specs.StripedCalls.{both_figures, no_figures, LooksOn, RefusesInStripes};
 
@@ -41,7 +41,7 @@ pub(crate) fn look(
 /// The earliest floor of all stripes, which are read one after another.
 pub(crate) fn floor(cache: &StripedCache, seat: &mut Seat) -> Result<LowWater, Refusal>
     requires cache { seat.old.cache ≡ cache.now }
-    ensures { TellsFloorStriped seat.old seat.new result }
+    ensures { ReportsFloorStriped seat.old seat.new result }
 {
     let _number = seat.number();
     let mut time = Timestamp::MAX;

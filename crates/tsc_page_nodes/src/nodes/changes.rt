@@ -76,13 +76,13 @@ pub(super) fn split(
     ensures room { (more : ℕ) → HaveRoom keys.old values.old (more + (if is_some new then 1 else 0))
         → HaveRoom keys.new values.new more }
 {
-    let Some((place, key)) = new else { return };
-    let value = match place.checked_sub(1) {
+    let Some((index, key)) = new else { return };
+    let value = match index.checked_sub(1) {
         Some(before) => values[before].gap,
         None => Value::unowned(Timestamp::ZERO),
     };
-    keys.insert(place, key).ok();
-    values.insert(place, Values { value, gap: value }).ok();
+    keys.insert(index, key).ok();
+    values.insert(index, Values { value, gap: value }).ok();
 }
 
 /// Ratchets a value into the keys and gaps between two cuts, whose keys may stand at places that
@@ -106,12 +106,12 @@ pub(super) fn raise_values(
         keys,
         values: values.as_slice(),
     };
-    let (raised_keys, raised_gaps) = lists.places_between(from, to, hint);
-    for place in raised_keys {
-        values[place].value.raise(&value);
+    let (raised_keys, raised_gaps) = lists.indices_between(from, to, hint);
+    for index in raised_keys {
+        values[index].value.raise(&value);
     }
-    for place in raised_gaps {
-        values[place].gap.raise(&value);
+    for index in raised_gaps {
+        values[index].gap.raise(&value);
     }
 }
 
@@ -150,23 +150,23 @@ pub(super) fn insert_between(
 pub(super) fn insert(
     keys: &mut Vec<PrefixedKey>,
     values: &mut Vec<Values>,
-    place: usize,
+    index: usize,
     add: &KeyInsertion<'_>,
 ) -> Result<(), NoMemory>
     requires same { length keys.old.items ≡ length values.old.items }
     requires sorted { IsSorted (paired keys.old.items values.old.items) }
-    requires falls { FallsAt (paired keys.old.items values.old.items) add.now.key place }
+    requires falls { FallsAt (paired keys.old.items values.old.items) add.now.key index }
     ensures same { length keys.new.items ≡ length values.new.items }
     ensures added { OnOk result (paired keys.new.items values.new.items ≡
         raise_nodes (point add.now.key) add.now.value
-        (with_new (paired keys.old.items values.old.items) (Some (place, add.now.key)))) }
+        (with_new (paired keys.old.items values.old.items) (Some (index, add.now.key)))) }
     ensures unchanged { OnErr result
         (paired keys.new.items values.new.items ≡ paired keys.old.items values.old.items) }
 {
     keys.reserve(1)?;
     values.reserve(1)?;
     let copy = add.copy_key(*keys.allocator())?;
-    split(keys, values, Some((place, copy)));
-    values[place].value.raise(&add.value());
+    split(keys, values, Some((index, copy)));
+    values[index].value.raise(&add.value());
     Ok(())
 }

@@ -2,8 +2,8 @@
 ghost use Rattle.std.specs.Prelude.{◌≡◌, ◌↔◌, IsTrue, true, false, IsOk, IfOk, option_map};
 ghost use Rattle.tsc_span.specs.Span.{is_below, between};
 ghost use Rattle.tsc_span.specs.Cuts.{cut_of};
-ghost use Rattle.tsc_page_nodes.specs.PageView.{is_new_among};
-ghost use Rattle.tsc_page_nodes.specs.Nodes.{paired, FallsAt, IsFoundAt, IsPlaceOf, IsPlaceTold, HasKeysBelow, StandsAt, index_of, key_above, first_gap, IsNewKey, HoldsKeysOn, HoldsGapsOn, node_keys};
+ghost use Rattle.tsc_page_model.specs.PageView.{is_new_among};
+ghost use Rattle.tsc_page_nodes.specs.Nodes.{paired, FallsAt, IsFoundAt, IsCutAt, IsIndexReported, HasKeysBelow, StandsAt, index_of, key_above, first_gap, IsNewKey, HoldsKeysOn, HoldsGapsOn, node_keys};
 
 use crate::nodes::Values;
 use crate::prefix::{PrefixedBytes, PrefixedCut, PrefixedKey};
@@ -47,10 +47,10 @@ impl<'a> Lists<'a> {
     }
 
     /// Whether all keys before a place lie below a key, by a look at the last of them.
-    fn keys_below(&self, place: usize, key: &PrefixedBytes<'_>) -> bool
-        ensures { IsTrue result → HasKeysBelow self.now key.now place }
+    fn keys_below(&self, index: usize, key: &PrefixedBytes<'_>) -> bool
+        ensures { IsTrue result → HasKeysBelow self.now key.now index }
     {
-        let Some(before) = place.checked_sub(1) else {
+        let Some(before) = index.checked_sub(1) else {
             return true
         };
         match self.keys.get(before) {
@@ -60,11 +60,11 @@ impl<'a> Lists<'a> {
     }
 
     /// Whether all keys from a place on lie above a key, by a look at the first of them.
-    fn keys_above(&self, place: usize, key: &PrefixedBytes<'_>) -> bool
-        ensures { IsTrue result → HasKeysBelow self.now key.now place →
-            FallsAt self.now key.now place }
+    fn keys_above(&self, index: usize, key: &PrefixedBytes<'_>) -> bool
+        ensures { IsTrue result → HasKeysBelow self.now key.now index →
+            FallsAt self.now key.now index }
     {
-        match self.keys.get(place) {
+        match self.keys.get(index) {
             Some(other) => key.compare(other).is_gt(),
             None => true,
         }
@@ -76,22 +76,22 @@ impl<'a> Lists<'a> {
         ensures { HasKeysBelow self.now key.now result }
     {
         let mut low = 0;
-        let mut place = STRIDE;
-        while place < self.keys.len() {
-            if key.compare(&self.keys[place]).is_le() {
-                low = place;
+        let mut index = STRIDE;
+        while index < self.keys.len() {
+            if key.compare(&self.keys[index]).is_le() {
+                low = index;
             }
-            place += STRIDE;
+            index += STRIDE;
         }
         low
     }
 
-    /// Finds a key as `find` does, by a look at one key of the list after another from `place` on.
-    fn find_from(&self, place: usize, key: &PrefixedBytes<'_>) -> Result<usize, usize>
-        requires low { HasKeysBelow self.now key.now place }
+    /// Finds a key as `find` does, by a look at one key of the list after another from `index` on.
+    fn find_from(&self, index: usize, key: &PrefixedBytes<'_>) -> Result<usize, usize>
+        requires low { HasKeysBelow self.now key.now index }
         ensures { IsFoundAt self.now key.now result }
     {
-        for i in place..self.keys.len() {
+        for i in index..self.keys.len() {
             match key.compare(&self.keys[i]) {
                 Ordering::Less => {}
                 Ordering::Equal => return Ok(i),
@@ -102,10 +102,10 @@ impl<'a> Lists<'a> {
     }
 
     /// Whether a key stands at a place.
-    fn stands_at(&self, place: usize, key: &PrefixedBytes<'_>) -> bool
-        ensures { IsTrue result ↔ StandsAt self.now key.now place }
+    fn stands_at(&self, index: usize, key: &PrefixedBytes<'_>) -> bool
+        ensures { IsTrue result ↔ StandsAt self.now key.now index }
     {
-        match self.keys.get(place) {
+        match self.keys.get(index) {
             Some(other) => key.compare(other).is_eq(),
             None => false,
         }
@@ -113,36 +113,36 @@ impl<'a> Lists<'a> {
 
     /// Where a cut lies: where its key does, or behind all. The key may stand at a place that is
     /// told.
-    fn place_of(&self, cut: &PrefixedCut<'_>, hint: Option<usize>) -> Result<usize, usize>
-        ensures { IsPlaceOf self.now cut.now result }
+    fn find_cut(&self, cut: &PrefixedCut<'_>, hint: Option<usize>) -> Result<usize, usize>
+        ensures { IsCutAt self.now cut.now result }
     {
         let Some(key) = cut.key() else {
             return Err(self.keys.len())
         };
         match hint {
-            Some(place) if self.stands_at(place, &key) => Ok(place),
+            Some(index) if self.stands_at(index, &key) => Ok(index),
             _ => self.find(&key),
         }
     }
 
     /// The place of the first key above a cut, by where the cut lies.
-    fn key_above(&self, place: Result<usize, usize>, cut: Cut<'_>) -> usize
-        requires { IsPlaceOf self.now (cut_of cut) place }
-        ensures { result ≡ key_above place (cut_of cut.entry) }
+    fn key_above(&self, index: Result<usize, usize>, cut: Cut<'_>) -> usize
+        requires { IsCutAt self.now (cut_of cut) index }
+        ensures { result ≡ key_above index (cut_of cut.entry) }
     {
-        match (place, cut) {
+        match (index, cut) {
             (Ok(at), Cut::After(_)) => {
                 prove!(at < self.keys.len());
                 at + 1
             }
-            _ => index_of(place),
+            _ => index_of(index),
         }
     }
 
     /// The places of the nodes whose keys lie between two cuts, and of those whose gaps overlap
     /// what does. The keys of the cuts may stand at places that are told; else they are searched
     /// for.
-    pub(super) fn places_between(
+    pub(super) fn indices_between(
         &self,
         from: &PrefixedCut<'_>,
         to: &PrefixedCut<'_>,
@@ -154,8 +154,8 @@ impl<'a> Lists<'a> {
     {
         // A field is read so that the proof has the invariant: the keys are in order.
         let _keys = self.keys;
-        let low = self.place_of(from, hint.0);
-        let high = self.place_of(to, hint.1);
+        let low = self.find_cut(from, hint.0);
+        let high = self.find_cut(to, hint.1);
         let keys = self.key_above(low, from.cut())..self.key_above(high, to.cut());
         (keys, first_gap(low)..index_of(high))
     }
@@ -171,8 +171,8 @@ impl<'a> Lists<'a> {
             (λ found. IsNewKey self.now (option_map (λ k. k.now) key.entry) found.1) }
         ensures memory { is_new_among (node_keys self.now) (option_map (λ k. k.now) key.entry) ≡
             false → IsOk result }
-        ensures place { IfOk result
-            (λ found. IsPlaceTold self.now (option_map (λ k. k.now) key.entry) found.1 found.0) }
+        ensures index { IfOk result (λ found. IsIndexReported self.now
+            (option_map (λ k. k.now) key.entry) found.1 found.0) }
     {
         // A field is read so that the proof has the invariant: the keys are in order.
         let _keys = self.keys;
@@ -180,30 +180,30 @@ impl<'a> Lists<'a> {
             return Ok((None, None))
         };
         match self.find(&PrefixedBytes::new(key.bytes())) {
-            Ok(place) => Ok((Some(place), None)),
-            Err(place) => {
+            Ok(index) => Ok((Some(index), None)),
+            Err(index) => {
                 let copy = PrefixedKey::copy_of(alloc, key)?;
-                Ok((Some(place), Some((place, copy))))
+                Ok((Some(index), Some((index, copy))))
             }
         }
     }
 }
 
 /// The place of a node at which a cut lies, or before which it does.
-fn index_of(place: Result<usize, usize>) -> usize
-    ensures { result ≡ index_of place }
+fn index_of(index: Result<usize, usize>) -> usize
+    ensures { result ≡ index_of index }
 {
-    match place {
+    match index {
         Ok(at) | Err(at) => at,
     }
 }
 
 /// The place of the first gap that stops above a cut: a gap in which it lies is that of the node
 /// before.
-fn first_gap(place: Result<usize, usize>) -> usize
-    ensures { result ≡ first_gap place }
+fn first_gap(index: Result<usize, usize>) -> usize
+    ensures { result ≡ first_gap index }
 {
-    match place {
+    match index {
         Ok(at) => at,
         Err(at) => at.saturating_sub(1),
     }

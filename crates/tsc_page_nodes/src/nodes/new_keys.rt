@@ -49,10 +49,10 @@ pub(super) fn found_cost(new: &Option<(usize, PrefixedKey)>) -> u32
 }
 
 /// A place, or the next one if a node came in before it.
-pub(super) fn moved(place: Option<usize>, more: bool) -> Option<usize>
-    ensures none { place ≡ None → result ≡ None }
-    ensures moved { IfSome place (λ i. i < usize.MAX →
+pub(super) fn moved(index: Option<usize>, more: bool) -> Option<usize>
+    ensures none { index ≡ None → result ≡ None }
+    ensures moved { IfSome index (λ i. i < usize.MAX →
         result ≡ Some (i + (if more then 1 else 0))) }
 {
-    Some(place?.saturating_add(usize::from(more)))
+    Some(index?.saturating_add(usize::from(more)))
 }

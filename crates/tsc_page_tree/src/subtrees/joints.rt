@@ -6,7 +6,7 @@ ghost use Rattle.tsc_page_nodes.specs.Nodes.{answer_of};
 ghost use Rattle.tsc_page_tree.specs.Leaves.{AreSubtrees, GoesBeyond, IsSubtree, nodes_of, start_of};
 
 use crate::subtrees::Subtree;
-use crate::subtrees::places::{goes_on, subtree_at};
+use crate::subtrees::indices::{goes_on, subtree_at};
 use tsc_page_nodes::PrefixedCut;
 use tsc_span::Cut;
 use tsc_time::{Timestamp, Value, ratchet};
@@ -22,14 +22,14 @@ pub fn join_between<P: Subtree>(
     requires order { is_below from.now to.now ≡ true }
     ensures { result ≡ answer_of (nodes_of (map P.nodes subtrees.now)) (between from.now to.now) }
 {
-    let place = subtree_at(subtrees, from);
-    if place >= subtrees.len() {
+    let index = subtree_at(subtrees, from);
+    if index >= subtrees.len() {
         return Value::unowned(Timestamp::ZERO);
     }
-    if goes_on(subtrees, place, to) {
-        joint_beyond(subtrees, place, from, to)
+    if goes_on(subtrees, index, to) {
+        joint_beyond(subtrees, index, from, to)
     } else {
-        subtrees[place].join_between(from, to)
+        subtrees[index].join_between(from, to)
     }
 }
 
@@ -61,11 +61,11 @@ fn joint_below<P: Subtree>(subtrees: &[P], start: usize, to: &PrefixedCut<'_>) -
 {
     let least = PrefixedCut::new(Cut::Before(&[]));
     let mut best = Value::unowned(Timestamp::ZERO);
-    for place in start..subtrees.len() {
-        if !goes_on(subtrees, place, to) {
-            return joined(best, &subtrees[place], &least, to);
+    for index in start..subtrees.len() {
+        if !goes_on(subtrees, index, to) {
+            return joined(best, &subtrees[index], &least, to);
         }
-        best.raise(&subtrees[place].joint());
+        best.raise(&subtrees[index].joint());
     }
     best
 }

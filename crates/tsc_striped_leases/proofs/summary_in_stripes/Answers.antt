@@ -16,13 +16,13 @@ summaries-requires g c =
     c.in_ok-snapshot.snapshot.first (length c.in_ok-snapshot.snapshot.caches.items) bounds
     taken.first taken.all
 
-pub returns-clause-told : goal.returns-clause-told
-returns-clause-told g c =
+pub returns-clause-reported : goal.returns-clause-reported
+returns-clause-reported g c =
     let bounds : c.args.cache.now.terms.bounds ≡ c.args.seat.now.cache.terms.bounds =
     ap (λ (x : StripedView). x.terms.bounds) (sym c.requires.cache) in
     summarizes_in_stripes c.args.seat.now c.snapshot.new.seat c.args.span.now c.args.most
-    c.in_ok-snapshot.snapshot c.in_ok-told.told.items c.number-number.ensures.seat
+    c.in_ok-snapshot.snapshot c.in_ok-reported.reported.items c.number-number.ensures.seat
     c.in_ok-snapshot.ensures.taken
     (subst (λ (b : List KeyBytes). SummarizeFrom b c.args.span.now c.args.most
-    c.in_ok-snapshot.snapshot.first c.in_ok-snapshot.snapshot.caches.items c.in_ok-told.told.items)
-    bounds c.in_ok-told.ensures)
+    c.in_ok-snapshot.snapshot.first c.in_ok-snapshot.snapshot.caches.items
+    c.in_ok-reported.reported.items) bounds c.in_ok-reported.ensures)

@@ -5,7 +5,7 @@
 ghost use Rattle.std.specs.Prelude.{◌≡◌, ◌<◌, ◌^◌, ◌++◌, ◌∷◌};
 ghost use Rattle.std.specs.Prelude.{codes, decimal, option_map, true, MatchOption};
 ghost use Rattle.tsc_time.specs.Time.{is_in_range};
-ghost use Rattle.tsc_time.specs.OwnedTime.{IsMadeOwner, owner_of};
+ghost use Rattle.tsc_time.specs.ValueView.{IsMadeOwner, owner_of};
 ghost use Rattle.tsc_trace.specs.LogText.{bit_text, dot, line_text, owner_text, answer_text, space, time_text};
 ghost use Rattle.tsc_trace.specs.LogReading.{IsWritable, IsWritableAnswer};
 ghost use Rattle.tsc_trace.specs.ReadingBack.{IsAnyBit, IsWithout, ReadsBack, ReadsField};

@@ -2,7 +2,7 @@
 
 ghost use Rattle.std.specs.Prelude.{◌≡◌, Ok, IfSome, OnSome};
 ghost use Rattle.serde_json.specs.Data.{Data, Members, object, put};
-ghost use Rattle.tsc_time.specs.OwnedTime.{owner_of};
+ghost use Rattle.tsc_time.specs.ValueView.{owner_of};
 ghost use Rattle.tsc_trace_format.specs.TraceText.{owner_in, mark_of, marks_of};
 ghost use Rattle.tsc_trace_fast.specs.Kept.{KeepsMark, owner_there, list_of};
 ghost use Rattle.tsc_trace_fast.specs.TokenReads.{Reads, Got};

@@ -3,7 +3,7 @@
 ghost use Rattle.std.specs.Prelude.{◌≡◌, map, codes};
 ghost use Rattle.serde_json.specs.Find.{get_member};
 ghost use Rattle.serde_json.specs.View.{view, members_view};
-ghost use Rattle.tsc_time.specs.OwnedTime.{owner_of};
+ghost use Rattle.tsc_time.specs.ValueView.{owner_of};
 ghost use Rattle.tsc_trace_format.specs.Reading.{AddsMark, Gives};
 ghost use Rattle.tsc_trace_format.specs.TraceParts.{both};
 ghost use Rattle.tsc_trace_format.specs.TraceText.{batch_of, few_of, mark_of, mark_parts, marks_and_now, marks_in, marks_of, needed_as};

@@ -2,8 +2,8 @@
 
 ghost use Rattle.std.specs.Prelude.{◌≡◌, ◌+◌, ◌^◌, ◌<◌, map, length, option_map, Some, codes};
 ghost use Rattle.serde_json.specs.View.{view, members_view};
-ghost use Rattle.tsc_time.specs.OwnedTime.{owner_of};
-ghost use Rattle.tsc_trace_format.specs.Reading.{Gives, Tells};
+ghost use Rattle.tsc_time.specs.ValueView.{owner_of};
+ghost use Rattle.tsc_trace_format.specs.Reading.{Gives, Reports};
 ghost use Rattle.tsc_trace_format.specs.TraceParts.{both, at_call};
 ghost use Rattle.tsc_trace_format.specs.TraceText.{unsigned_of, needed_as, time_in_range, time_of, owner_in, owner_member, added_span, looked_up_span, span_and_time, owner_and_now, add_of, get_of, low_of, call_by_name, call_of, fitting_call, calls_of};
 
@@ -201,7 +201,7 @@ fn fitting_call(alloc: Global, config: &Config, value: &Value) -> Result<Call, R
 
 /// The call with this number.
 fn call_at(alloc: Global, config: &Config, number: u64, value: &Value) -> Result<Call, TraceFault>
-    ensures { Tells (λ call. call) result
+    ensures { Reports (λ call. call) result
         (at_call number (fitting_call config.now (view value.now))) }
 {
     at_call(number, fitting_call(alloc, config, value))
@@ -215,7 +215,7 @@ pub(super) fn calls(
     values: &[Value],
 ) -> Result<Vec<Call>, TraceFault>
     requires { first + length values.now < 2 ^ 64 }
-    ensures { Tells (λ calls. calls.items) result
+    ensures { Reports (λ calls. calls.items) result
         (calls_of config.now first (map view values.now)) }
 {
     let mut calls = Vec::new(alloc);

@@ -5,10 +5,10 @@ ghost use Rattle.std.specs.List.{sum_by};
 ghost use Rattle.serde_json.specs.View.{view, members_view};
 ghost use Rattle.tsc_trace_format.specs.Limits.{most_calls};
 ghost use Rattle.tsc_trace_format.specs.Lists.{fits_trace};
-ghost use Rattle.tsc_trace_format.specs.Reading.{Gives, Tells};
+ghost use Rattle.tsc_trace_format.specs.Reading.{Gives, Reports};
 ghost use Rattle.tsc_trace_format.specs.Rows.{rows_view};
 ghost use Rattle.tsc_trace_format.specs.TraceParts.{at_call};
-ghost use Rattle.tsc_trace_format.specs.TraceText.{needed_as, number_below, page_sizes, page_numbers, head_times, numbers_in, lists_in, lists_of, head_of, settings_in, threads_of, trace_of};
+ghost use Rattle.tsc_trace_format.specs.TraceText.{needed_as, number_below, page_sizes, page_numbers, head_times, numbers_in, lists_in, lists_of, head_of, config_in, threads_of, trace_of};
 
 use super::TraceFault;
 use super::call::{calls, time_in};
@@ -135,16 +135,16 @@ fn head<'v>(alloc: Global, value: &'v Value) -> Result<(Numbers, Vec<&'v [Value]
 
 /// The head of a trace, which counts as call 0.
 fn head_at_0<'v>(alloc: Global, value: &'v Value) -> Result<(Numbers, Vec<&'v [Value]>), TraceFault>
-    ensures { Tells (λ head. (head.0, rows_view head.1.items)) result
+    ensures { Reports (λ head. (head.0, rows_view head.1.items)) result
         (at_call 0 (head_of (view value.now))) }
 {
     at_call(0, head(alloc, value))
 }
 
 /// The configuration of the numbers of a head.
-#[tactic(auto, unfolding(crate::specs::TraceText::settings_in))]
+#[tactic(auto, unfolding(crate::specs::TraceText::config_in))]
 fn config(numbers: Numbers) -> Result<Config, TraceFault>
-    ensures { Tells (λ config. config) result (settings_in numbers) }
+    ensures { Reports (λ config. config) result (config_in numbers) }
 {
     Config::new(
         numbers.page_first,
@@ -180,7 +180,7 @@ fn fits(lists: &[&[Value]]) -> bool
 /// The calls of lists, numbered from 1 on.
 fn threads(alloc: Global, config: &Config, lists: &[&[Value]]) -> Result<Vec<Vec<Call>>, TraceFault>
     requires { sum_by length (rows_view lists.now) ≤ most_calls }
-    ensures { Tells (λ threads. map (λ calls. calls.items) threads.items) result
+    ensures { Reports (λ threads. map (λ calls. calls.items) threads.items) result
         (threads_of config.now 1 (rows_view lists.now)) }
 {
     let mut threads = Vec::new(alloc);
@@ -195,7 +195,7 @@ fn threads(alloc: Global, config: &Config, lists: &[&[Value]]) -> Result<Vec<Vec
 /// The trace that a JSON value is.
 #[tactic(auto, unfolding(crate::specs::TraceText::trace_of))]
 pub(super) fn trace(alloc: Global, value: &Value) -> Result<Trace, TraceFault>
-    ensures { Tells (λ trace. trace) result (trace_of (view value.now)) }
+    ensures { Reports (λ trace. trace) result (trace_of (view value.now)) }
 {
     let (numbers, lists) = head_at_0(alloc, value)?;
     let config = config(numbers)?;

@@ -1,7 +1,7 @@
 //! What a part of a trace is read as, or why it is refused.
 
 ghost use Rattle.std.specs.Prelude.{◌≡◌};
-ghost use Rattle.tsc_trace_format.specs.Reading.{joined, lesser_refusal, told_at};
+ghost use Rattle.tsc_trace_format.specs.Reading.{joined, lesser_refusal, reported_at};
 ghost use Rattle.tsc_trace_format.specs.TraceParts.{fault_at, fault_number};
 ghost use Rattle.tsc_trace_format.specs.declared.read.part.Refusal.TheVariants.{Memory};
 
@@ -113,7 +113,7 @@ pub(crate) fn both<A: Drop, B: Drop>(
 
 /// A part of the call with this number.
 pub(crate) fn at_call<T: Drop>(call: u64, part: Result<T, Refusal>) -> Result<T, TraceFault>
-    ensures { result ≡ told_at call part }
+    ensures { result ≡ reported_at call part }
 {
     match part {
         Ok(value) => Ok(value),

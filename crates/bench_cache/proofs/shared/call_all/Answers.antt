@@ -20,14 +20,14 @@ handle_syncs : (R : RattleType) → IsSync (param 0 R) → (ℓ : Lifetime) (κ 
     IsSync (ShrRef ℓ κ (param 0 R))
 handle_syncs R s ℓ κ = shr_sync ℓ κ (param 0 R) s
 
-pub map_vec-told-requires-send-J : goal.map_vec-told-requires-send-J
-map_vec-told-requires-send-J g c κs within = search (sendable, crosses, seat_sends) depth 20
+pub map_vec-reported-requires-send-J : goal.map_vec-reported-requires-send-J
+map_vec-reported-requires-send-J g c κs within = search (sendable, crosses, seat_sends) depth 20
 
-pub map_vec-told-requires-send-X : goal.map_vec-told-requires-send-X
-map_vec-told-requires-send-X g c κs within = search (sendable, crosses) depth 20
+pub map_vec-reported-requires-send-X : goal.map_vec-reported-requires-send-X
+map_vec-reported-requires-send-X g c κs within = search (sendable, crosses) depth 20
 
-pub map_vec-told-requires-sync-F : goal.map_vec-told-requires-sync-F
-map_vec-told-requires-sync-F g c κs within =
+pub map_vec-reported-requires-sync-F : goal.map_vec-reported-requires-sync-F
+map_vec-reported-requires-sync-F g c κs within =
     search (
       sendable,
       crosses,

@@ -11,7 +11,7 @@ loop-row-preserved g c = record {
       (seen_by c.loop-row.self.me.seat) (seen_by c.args.self.now.me.seat) c.loop-row.row-index _
       c.loop-row-test.true c.read_key.ensures.seat c.loop-row.invariant.seat
       c.loop-row.invariant.added c.in_ok-read_key.ensures.added;
-  told = omega (arith, c.in_ok-read_key.ensures.told, c.loop-row.invariant.told);
+  reported = omega (arith, c.in_ok-read_key.ensures.reported, c.loop-row.invariant.reported);
   seat = begins_on _ _ _ c.read_key.ensures.seat c.loop-row.invariant.seat;
   plan = c.read_key.ensures.plan ∙ c.loop-row.invariant.plan;
   wrote = c.read_key.ensures.wrote ∙ c.loop-row.invariant.wrote;

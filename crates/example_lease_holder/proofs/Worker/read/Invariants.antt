@@ -11,7 +11,7 @@ use Rattle.example_lease_holder.proofs.Worker.read.Given as goal
 abbrev pub invariant-loop-row : goal.invariant-loop-row
 invariant-loop-row g l = record {
   added : HasFirst l.plan l.row-index (since (seen_by l.initial.self.me.seat) (seen_by l.self.me.seat));
-  told : length l.self.told.items ≡ length l.initial.self.told.items + l.row-index;
+  reported : length l.self.reported.items ≡ length l.initial.self.reported.items + l.row-index;
   seat : BeginsWith (seen_by l.self.me.seat) (seen_by l.initial.self.me.seat);
   plan : l.self.plan ≡ l.initial.self.plan;
   wrote : l.self.wrote ≡ l.initial.self.wrote;

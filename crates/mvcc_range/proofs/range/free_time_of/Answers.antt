@@ -3,7 +3,7 @@
 use Rattle.std.proofs.Common.{◌≡◌, ap, sym, subst}
 use Rattle.std.specs.Prelude.{option_map}
 use Rattle.timestamp_cache.specs.Words.{KeyBytes}
-use Rattle.timestamp_cache.specs.Earliest.{TellsEarliest}
+use Rattle.timestamp_cache.specs.Earliest.{ReportsEarliest}
 use Rattle.mvcc_versions.specs.Versions.{Write, chain_of, newest_time, IsAfter}
 use Rattle.mvcc_range.specs.Steps.{IsFreeOf}
 use Rattle.mvcc_range.proofs.Times.{free_of}
@@ -17,7 +17,7 @@ returns-in-Some c =
       key = c.write.inside.key;
       content = option_map (λ b. b.items) c.write.inside.content;
     } in
-    subst (λ (x : Write). TellsEarliest (IsFreeOf cache chains c.args.by x) c.args.from
+    subst (λ (x : Write). ReportsEarliest (IsFreeOf cache chains c.args.by x) c.args.from
     c.clear_time.result) c.write.view_is
     (free_of cache chains c.args.by w c.args.from c.in-Some.after c.clear_time.result
     c.in-Some.ensures c.clear_time.ensures)

@@ -3,9 +3,9 @@
 use Rattle.std.proofs.Common.{◌≡◌, ◌∙◌, ◌∷◌, ◌+◌, ap, sym, subst, drop, [], Some, List}
 use Rattle.std.specs.BTreeMap.{BTreeMap}
 use Rattle.timestamp_cache.specs.Words.{KeyBytes}
-use Rattle.mvcc_versions.specs.Versions.{Version, Write, laid, chain_of}
+use Rattle.mvcc_versions.specs.Versions.{Version, Write, stored, chain_of}
 use Rattle.mvcc_versions.specs.Maps.{HaveRoom, nodes_of}
-use Rattle.mvcc_versions.proofs.Linking.{next_write, popped, room_on, laid_on}
+use Rattle.mvcc_versions.proofs.Linking.{next_write, popped, room_on, stored_on}
 use Rattle.mvcc_versions.proofs.chains.link_all.Goals as goal
 use Rattle.mvcc_versions.proofs.chains.link_all.Goals.{in-Some, in_default}
 
@@ -35,9 +35,9 @@ loop-write-preserved c =
                 (room_on ws i w m b.link_write.new.chains d b.link_write.ensures.room
                 c.loop-write.invariant.room);
             chains = subst (λ (x : BTreeMap KeyBytes (List Version)). (k : KeyBytes)
-                → laid k at by (drop (i + 1) ws) (chain_of x.entries k) ≡ laid k at by ws
+                → stored k at by (drop (i + 1) ws) (chain_of x.entries k) ≡ stored k at by ws
                 (chain_of old.entries k)) (sym b.chains-is)
-                (laid_on ws i w at by old m b.link_write.new.chains b.in-Some.node d node
+                (stored_on ws i w at by old m b.link_write.new.chains b.in-Some.node d node
                 b.link_write.ensures.chains c.loop-write.invariant.chains);
           }
       | in_default b ↦ absurd (b.in_default.not-Some first pop.0)

@@ -2,7 +2,7 @@
 -- another.
 use Rattle.std.proofs.Common.{◌≡◌, ◌∙◌, ap, sym, subst, List}
 use Rattle.std.proofs.lemmas.Result.{IfOk-weaker}
-use Rattle.timestamp_cache.specs.Words.{Interval}
+use Rattle.timestamp_cache.specs.Words.{SpanView}
 use Rattle.mvcc_versions.specs.Versions.{Contents, Row, Read, Matches, after_writes}
 use Rattle.mvcc_versions.specs.OwnRows.{put_writes}
 use Rattle.mvcc_versions.proofs.OwnRows.{rows_written}
@@ -19,7 +19,7 @@ returns c =
     = subst (λ (q : Read). Matches q there) (sym c.read.view_is) m in
     let same : put_writes span rows ws ≡ over.items
     = sym (is ∙ ap (λ (xs : List Row). put_writes span xs ws) c.deref.ensures.value) in
-    subst (λ (s : Interval). Matches (record { span = s; rows = over.items }) after)
+    subst (λ (s : SpanView). Matches (record { span = s; rows = over.items }) after)
     (ap (λ (q : Read). q.span) c.read.view_is)
     (subst (λ (xs : List Row). Matches (record { span = span; rows = xs }) after) same
     (rows_written span rows ws there was))) c.rows_over.ensures

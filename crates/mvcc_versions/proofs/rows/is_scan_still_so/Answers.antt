@@ -9,16 +9,16 @@ pub returns : goal.returns
 returns c =
     let span = c.read.inside.span in
     let rows = c.in_ok-rows.rows.items in
-    let told = c.read.inside.rows.items in
+    let reported = c.read.inside.rows.items in
     let there = as_of c.args.at c.args.chains.now.entries in
     let is : Matches (record { span = span; rows = rows }) there = c.in_ok-rows.ensures in (
-      λ yes. let same : rows ≡ told = sym c.deref.ensures.value ∙ (c.same_rows.ensures.0 yes
+      λ yes. let same : rows ≡ reported = sym c.deref.ensures.value ∙ (c.same_rows.ensures.0 yes
           ∙ c.deref-2.ensures.value) in
           subst (λ (q : Read). Matches q there) c.read.view_is
           (subst (λ (xs : List Row). Matches (record { span = span; rows = xs }) there) same
           is),
-      λ m. let was : Matches (record { span = span; rows = told }) there =
+      λ m. let was : Matches (record { span = span; rows = reported }) there =
           subst (λ (q : Read). Matches q there) (sym c.read.view_is) m in
-          c.same_rows.ensures.1 (c.deref.ensures.value ∙ (matches_once span rows told there is was
-          ∙ sym c.deref-2.ensures.value)),
+          c.same_rows.ensures.1 (c.deref.ensures.value ∙
+          (matches_once span rows reported there is was ∙ sym c.deref-2.ensures.value)),
     )

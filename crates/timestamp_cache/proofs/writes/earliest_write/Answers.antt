@@ -1,6 +1,6 @@
 -- One span more is one time more that is no earlier.
 use Rattle.std.proofs.Common.{rules, sym, subst, arith}
-use Rattle.tsc_time.specs.OwnedTime.{OwnedTime}
+use Rattle.tsc_time.specs.ValueView.{ValueView}
 use Rattle.timestamp_cache.specs.Clear.{IsClearOf}
 use Rattle.timestamp_cache.specs.Earliest.{IsEarliest}
 use Rattle.timestamp_cache.proofs.Earliest.{first_none, first_more, first_all, clear_of_all_reads}
@@ -14,7 +14,7 @@ loop-span-preserved c =
     first_more c.args.cache.now c.args.spans.now c.loop-span.span-index c.span-item.result c.args.by
     c.args.at c.loop-span.time c.in_ok-time.time c.loop-span-test.true (sym c.span-item.is)
     c.loop-span.invariant
-    (subst (λ (v : OwnedTime). IsEarliest (λ t. IsClearOf v c.args.by t) c.loop-span.time
+    (subst (λ (v : ValueView). IsEarliest (λ t. IsClearOf v c.args.by t) c.loop-span.time
     c.in_ok-time.time) c.get_max.ensures.value c.in_ok-time.ensures)
 
 pub returns-clause-reads : goal.returns-clause-reads

@@ -22,8 +22,8 @@ returns-in-None-clause-asked g c =
     asked_last g.C.Lookup.kind g.met.C.Lookup.laws c.args.seat.now l.seat
     c.earliest_of_one.new.seat c.args.spans.now l.span-index c.span-item.result c.args.by c.args.at
     l.time c.number-number.ensures c.loop-span-test.true (sym c.span-item.is) l.invariant
-    (subst (λ (told : Option Time). AsksEarliestAt g.C.Lookup.kind l.seat
-    c.earliest_of_one.new.seat c.span-item.result c.args.by l.time told) c.in-None.is
+    (subst (λ (reported : Option Time). AsksEarliestAt g.C.Lookup.kind l.seat
+    c.earliest_of_one.new.seat c.span-item.result c.args.by l.time reported) c.in-None.is
     c.in_ok-next.ensures.asked)
 
 pub loop-span-preserved : goal.loop-span-preserved
@@ -32,8 +32,8 @@ loop-span-preserved g c =
     asked_more g.C.Lookup.kind g.met.C.Lookup.laws c.args.seat.now l.seat
     c.earliest_of_one.new.seat c.args.spans.now l.span-index c.span-item.result c.args.by c.args.at
     l.time c.in-Some.next c.loop-span-test.true (sym c.span-item.is) l.invariant
-    (subst (λ (told : Option Time). AsksEarliestAt g.C.Lookup.kind l.seat
-    c.earliest_of_one.new.seat c.span-item.result c.args.by l.time told) c.in-Some.is
+    (subst (λ (reported : Option Time). AsksEarliestAt g.C.Lookup.kind l.seat
+    c.earliest_of_one.new.seat c.span-item.result c.args.by l.time reported) c.in-Some.is
     c.in_ok-next.ensures.asked)
 
 pub returns-in_err-next-clause-refused : goal.returns-in_err-next-clause-refused

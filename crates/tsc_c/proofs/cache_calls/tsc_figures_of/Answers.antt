@@ -2,7 +2,7 @@
 use Rattle.std.proofs.Common.{refl, rules}
 use Rattle.std.specs.Prelude.{Ok, Err}
 use Rattle.tsc_ffi_store.specs.declared.refusal.Refusal.TheVariants as refusal
-use Rattle.tsc_ffi_store.specs.CacheCalls.{AnswersAlways, TellsFigures}
+use Rattle.tsc_ffi_store.specs.CacheCalls.{AnswersAlways, ReportsFigures}
 use Rattle.tsc_c.proofs.Held.{none_read, reads_there, reads_none_there}
 use Rattle.tsc_c.proofs.cache_calls.tsc_figures_of.Goals as goal
 
@@ -10,9 +10,9 @@ pub returns-in-Some-cache-clause-answers : goal.returns-in-Some-cache-clause-ans
 returns-in-Some-cache-clause-answers c = record {
   did = Ok tt;
   code_is = search rules;
-  answers = reads_there (AnswersAlways (λ held. TellsFigures held c.figures_in.new.out))
+  answers = reads_there (AnswersAlways (λ held. ReportsFigures held c.figures_in.new.out))
       c.args.store.now.owned c.in-Some.held.now c.args.handle c.in-Some-cache.cache.now (Ok tt)
-      (search rules) (search rules) (record { told = c.figures_in.ensures; done = refl });
+      (search rules) (search rules) (record { reported = c.figures_in.ensures; done = refl });
   kept = tt;
 }
 
@@ -20,7 +20,7 @@ pub returns-in-None-cache-clause-answers : goal.returns-in-None-cache-clause-ans
 returns-in-None-cache-clause-answers c = record {
   did = Err refusal.Closed;
   code_is = search rules;
-  answers = reads_none_there (AnswersAlways (λ held. TellsFigures held c.args.out.now))
+  answers = reads_none_there (AnswersAlways (λ held. ReportsFigures held c.args.out.now))
       c.args.store.now.owned c.in-Some.held.now c.args.handle (search rules) (search rules);
   kept = search rules;
 }
@@ -29,7 +29,7 @@ pub returns-in-None-clause-answers : goal.returns-in-None-clause-answers
 returns-in-None-clause-answers c = record {
   did = Err refusal.Closed;
   code_is = search rules;
-  answers = none_read (AnswersAlways (λ held. TellsFigures held c.args.out.now))
+  answers = none_read (AnswersAlways (λ held. ReportsFigures held c.args.out.now))
       c.args.store.now.owned c.args.handle (search rules);
   kept = search rules;
 }

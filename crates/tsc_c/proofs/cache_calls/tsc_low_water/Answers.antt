@@ -13,7 +13,7 @@ returns-in-Some-cache-clause-answers c = record {
   code_is = search rules;
   answers = reads_there (AnswersAlways (λ held. StandsAt held.cache (time_of c.floor_in.new.out)))
       c.args.store.now.owned c.in-Some.held.now c.args.handle c.in-Some-cache.cache.now (Ok tt)
-      (search rules) (search rules) (record { told = c.floor_in.ensures; done = refl });
+      (search rules) (search rules) (record { reported = c.floor_in.ensures; done = refl });
   kept = tt;
 }
 

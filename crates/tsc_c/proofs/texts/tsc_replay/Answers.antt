@@ -3,4 +3,4 @@ use Rattle.std.proofs.Common.{rules}
 use Rattle.tsc_c.proofs.texts.tsc_replay.Goals as goal
 
 pub returns-clause-said : goal.returns-clause-said
-returns-clause-said c = λ done. let put = c.tell.ensures.put done in (put.0, search rules, put.2)
+returns-clause-said c = λ done. let put = c.report.ensures.put done in (put.0, search rules, put.2)

@@ -1,7 +1,7 @@
 -- One mark after another can be made.
 use Rattle.std.proofs.Common.{◌≡◌, rules, sym, subst, arith, true}
-use Rattle.tsc_page_nodes.specs.Page.{Mark}
-use Rattle.tsc_cache.specs.Settings.{fits}
+use Rattle.tsc_page_model.specs.Page.{Mark}
+use Rattle.tsc_cache.specs.ConfigView.{fits}
 use Rattle.tsc_cache.specs.History.{CanBeAdded}
 use Rattle.tsc_cache.proofs.Batches.{one_more_made, all_made}
 use Rattle.tsc_cache.proofs.laws.can_all_be_added.Goals as goal

@@ -60,15 +60,16 @@ loop-thread-preserved c =
     ap Some (sym c.deref.ensures.value) in
     let from = c.loop-thread.from in
     let lines = c.args.lines.now in
-    let told = c.in_default.ensures in
+    let reported = c.in_default.ensures in
     let rest = calls_of_lists (thread + 1) (drop (thread + 1) lists) in
     let size : length c.deref.result.now ≡ c.len-from.result = c.deref.ensures.len ∙
     sym c.len-from.ensures in
     record {
-      within = subst (λ n. from + n ≤ length lines) size told.within;
+      within = subst (λ n. from + n ≤ length lines) size reported.within;
       first = next_list lists thread from c.deref.result.now lines
           (first_other 0 (calls_of trace) lines) here c.loop-thread.invariant.first
-          ∙ told.first rest ∙ ap (λ n. first_other (from + n) rest (drop (from + n) lines)) size;
+          ∙ reported.first rest ∙ ap (λ n. first_other (from + n) rest (drop (from + n) lines))
+          size;
     }
 
 pub returns-then-from-lines-clause-first : goal.returns-then-from-lines-clause-first

@@ -14,54 +14,54 @@ use Rattle.tsc_check.specs.Verdict.{is_of_kind, is_same_answer}
 use Rattle.tsc_check.proofs.sweep.is_other_add.Goals as goal
 
 pub returns-in_ok-made-in-Add-clause-other : goal.returns-in_ok-made-in-Add-clause-other
-returns-in_ok-made-in-Add-clause-other c = λ settings h s add kind.
+returns-in_ok-made-in-Add-clause-other c = λ config h s add kind.
     let said = c.args.said in
     let did = c.in_ok-made-in-Add.made in
     let call : Call = Add c.in-Add.span c.in-Add.value c.in-Add.now in
-    let told : outcome_of (said_after settings h call) ≡
+    let reported : outcome_of (said_after config h call) ≡
     Some (record { place = length h; added = did }) =
     ap (λ (a : Added). Some (record { place = length h; added = a }))
-    (sym (c.in_ok-made-in-Add.ensures.added settings (state_of settings h) s)) in
+    (sym (c.in_ok-made-in-Add.ensures.added config (state_of config h) s)) in
     subst (λ (d : Call). is_of_kind d said ≡ true →
-    c.is_other_added.result ≡ not (is_same_answer said (said_after settings h d)))
+    c.is_other_added.result ≡ not (is_same_answer said (said_after config h d)))
     (sym c.in-Add.is)
-    (λ same. c.is_other_added.ensures (said_after settings h call) (length h) same told) kind
+    (λ same. c.is_other_added.ensures (said_after config h call) (length h) same reported) kind
 
 pub returns-in_ok-made-in-Add-clause-stands : goal.returns-in_ok-made-in-Add-clause-stands
-returns-in_ok-made-in-Add-clause-stands c = λ settings thread h s.
+returns-in_ok-made-in-Add-clause-stands c = λ config thread h s.
     let e = entry_after thread h (one_mark c.in-Add.span c.in-Add.value c.in-Add.now) in
-    let next = c.in_ok-made-in-Add.ensures.stands settings (state_of settings h) s in
-    subst (λ call. RepresentsState c.add_fitting.new.cache settings
-    (state_of settings (after_call thread h call))) (sym c.in-Add.is)
-    (subst (RepresentsState c.add_fitting.new.cache settings)
-    (sym (state_of-push settings h e)) next)
+    let next = c.in_ok-made-in-Add.ensures.stands config (state_of config h) s in
+    subst (λ call. RepresentsState c.add_fitting.new.cache config
+    (state_of config (after_call thread h call))) (sym c.in-Add.is)
+    (subst (RepresentsState c.add_fitting.new.cache config)
+    (sym (state_of-push config h e)) next)
 
 pub returns-in_ok-made_all-in-Batch-clause-other : goal.returns-in_ok-made_all-in-Batch-clause-other
-returns-in_ok-made_all-in-Batch-clause-other c = λ settings h s add kind.
+returns-in_ok-made_all-in-Batch-clause-other c = λ config h s add kind.
     let said = c.args.said in
     let did = c.in_ok-made_all-in-Batch.made_all in
     let call : Call = Batch c.in-Batch.marks c.in-Batch.now in
-    let is = c.in_ok-made_all-in-Batch.ensures.added settings (state_of settings h) s ∙
-    ap (λ ms. (made settings (state_of settings h) (several_marks ms c.in-Batch.now)).added)
+    let is = c.in_ok-made_all-in-Batch.ensures.added config (state_of config h) s ∙
+    ap (λ ms. (made config (state_of config h) (several_marks ms c.in-Batch.now)).added)
     c.slice.ensures in
-    let told : outcome_of (said_after settings h call) ≡
+    let reported : outcome_of (said_after config h call) ≡
     Some (record { place = length h; added = did }) =
     ap (λ (a : Added). Some (record { place = length h; added = a })) (sym is) in
     subst (λ (d : Call). is_of_kind d said ≡ true →
-    c.is_other_added-in-Batch.result ≡ not (is_same_answer said (said_after settings h d)))
+    c.is_other_added-in-Batch.result ≡ not (is_same_answer said (said_after config h d)))
     (sym c.in-Batch.is)
-    (λ same. c.is_other_added-in-Batch.ensures (said_after settings h call) (length h) same
-    told) kind
+    (λ same. c.is_other_added-in-Batch.ensures (said_after config h call) (length h) same
+    reported) kind
 
 pub returns-in_ok-made_all-in-Batch-clause-stands :
     goal.returns-in_ok-made_all-in-Batch-clause-stands
-returns-in_ok-made_all-in-Batch-clause-stands c = λ settings thread h s.
+returns-in_ok-made_all-in-Batch-clause-stands c = λ config thread h s.
     let a = several_marks c.in-Batch.marks c.in-Batch.now in
-    let next = subst (λ ms. RepresentsState c.add_all_fitting.new.cache settings
-    (made settings (state_of settings h) (several_marks ms c.in-Batch.now)).state)
+    let next = subst (λ ms. RepresentsState c.add_all_fitting.new.cache config
+    (made config (state_of config h) (several_marks ms c.in-Batch.now)).state)
     c.slice.ensures
-    (c.in_ok-made_all-in-Batch.ensures.stands settings (state_of settings h) s) in
-    subst (λ call. RepresentsState c.add_all_fitting.new.cache settings
-    (state_of settings (after_call thread h call))) (sym c.in-Batch.is)
-    (subst (RepresentsState c.add_all_fitting.new.cache settings)
-    (sym (state_of-push settings h (entry_after thread h a))) next)
+    (c.in_ok-made_all-in-Batch.ensures.stands config (state_of config h) s) in
+    subst (λ call. RepresentsState c.add_all_fitting.new.cache config
+    (state_of config (after_call thread h call))) (sym c.in-Batch.is)
+    (subst (RepresentsState c.add_all_fitting.new.cache config)
+    (sym (state_of-push config h (entry_after thread h a))) next)

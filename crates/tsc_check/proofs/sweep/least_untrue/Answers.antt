@@ -1,7 +1,7 @@
 -- Proves the contract of `least_untrue`. The least line whose answer is wrong. (What answers share
 -- is stated in each: the facts `c` of each goal have a type of their own.)
 use Rattle.std.proofs.Common.{sym, ap, subst, ◌≤◌, suc, length, add-one, arith}
-use Rattle.tsc_cache.specs.Settings.{Settings}
+use Rattle.tsc_cache.specs.ConfigView.{ConfigView}
 use Rattle.tsc_cache.specs.State.{opening}
 use Rattle.tsc_cache.specs.CacheView.{RepresentsState}
 use Rattle.tsc_trace_format.specs.Traces.{Trace}
@@ -62,7 +62,7 @@ loop-front-init g c =
     let config = ap (λ (t : Trace). t.config) c.trace.view_is in
     let lines = c.args.lines.now in
     record {
-      stands = subst (λ (s : Settings). RepresentsState c.in_ok-cache.cache s (opening s)) config
+      stands = subst (λ (s : ConfigView). RepresentsState c.in_ok-cache.cache s (opening s)) config
           c.in_ok-cache.ensures.stands;
       lowers = lowers_first (is_wrong_answer c.args.trace.now lines) lines (length lines);
     }

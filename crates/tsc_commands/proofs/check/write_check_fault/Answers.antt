@@ -12,7 +12,7 @@ pub returns-clause-err : goal.returns-clause-err
 returns-clause-err g c =
     let known = g.E.Sink.known in
     let old = known c.args.errors.now in
-    let mid = known c.tell.new.writer in
+    let mid = known c.report.new.writer in
     let new = known c.write_output.new.writer in
     let text = fault_text c.args.fault in
     let first : HasWritten old mid text = search rules in

@@ -10,18 +10,19 @@ use Rattle.tsc_commands.proofs.cli.check_of.Goals as goal
 pub returns-in_err-trace : goal.returns-in_err-trace
 returns-in_err-trace c =
     let log : Option Text = first_value (found_of c.args.found.now) (codes "log") in
-    let told = explains_first checked _ _ log c.in_err-trace.ensures in
+    let reported = explains_first checked _ _ log c.in_err-trace.ensures in
     subst (λ (o : Option Request). Answers asks o c.from_residual.result)
     (sym (asks_check c.args.found.now))
-    (refused_alike c.from_residual.result _ _ c.from_residual.ensures.1 told)
+    (refused_alike c.from_residual.result _ _ c.from_residual.ensures.1 reported)
 
 pub returns-in_err-log : goal.returns-in_err-log
 returns-in_err-log c =
     let trace : Option Text = first_value (found_of c.args.found.now) (codes "trace") in
-    let told = explains_second checked _ trace _ c.in_err-log.ensures in
+    let reported = explains_second checked _ trace _ c.in_err-log.ensures in
     subst (λ (o : Option Request). Answers asks o c.from_residual-in_err-log.result)
     (sym (asks_check c.args.found.now))
-    (refused_alike c.from_residual-in_err-log.result _ _ c.from_residual-in_err-log.ensures.1 told)
+    (refused_alike c.from_residual-in_err-log.result _ _ c.from_residual-in_err-log.ensures.1
+    reported)
 
 pub returns : goal.returns
 returns c =

@@ -11,7 +11,7 @@ pub returns-clause-err : goal.returns-clause-err
 returns-clause-err g c =
     let known = g.E.Sink.known in
     let old = known c.args.errors.now in
-    let mid = known c.tell.new.writer in
+    let mid = known c.report.new.writer in
     let new = known c.write_output.new.writer in
     let text = stop_text c.args.stop in
     let first : HasWritten old mid text = search rules in

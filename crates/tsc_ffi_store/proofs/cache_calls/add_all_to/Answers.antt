@@ -33,17 +33,17 @@ returns-clause-answers c =
       refused = inr (why_refused_in c.of_cache_fault.result _ c.in-Err.fault
           c.in-Err.ensures.too_large c.of_cache_fault.ensures.too_large
           c.of_cache_fault.ensures.memory
-          (λ large told. record {
+          (λ large reported. record {
             marks = c.deref.result.now;
             names = names;
             too_large = large;
-            told = told;
+            reported = reported;
           })
-          (λ fit told. record {
+          (λ fit reported. record {
             marks = c.deref.result.now;
             names = names;
             fit = fit;
-            told = told;
+            reported = reported;
           }));
       unchanged = c.in-Err.ensures.unchanged;
     }

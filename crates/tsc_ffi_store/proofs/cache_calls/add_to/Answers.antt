@@ -37,7 +37,7 @@ returns-in-Err-clause-answers c =
       refused = inr (why_refused_in c.of_cache_fault.result _ c.in-Err.fault
           c.in-Err.ensures.too_large c.of_cache_fault.ensures.too_large
           c.of_cache_fault.ensures.memory
-          (λ large told. record {
+          (λ large reported. record {
             span = point c.in_ok-key.key;
             names = record {
               value_time = c.in_ok-value.ensures.in_range;
@@ -45,9 +45,9 @@ returns-in-Err-clause-answers c =
               names = names;
             };
             too_large = large;
-            told = told;
+            reported = reported;
           })
-          (λ fit told. record {
+          (λ fit reported. record {
             span = point c.in_ok-key.key;
             names = record {
               value_time = c.in_ok-value.ensures.in_range;
@@ -55,7 +55,7 @@ returns-in-Err-clause-answers c =
               names = names;
             };
             fit = fit;
-            told = told;
+            reported = reported;
           }));
       unchanged = c.in-Err.ensures.unchanged;
     }

@@ -16,7 +16,7 @@ returns-in_err-copy_of-in-Point-clause-refused c =
       names = names_point (asked_span c.args.args.now) c.in_ok-key-in-Point.field-0
           (c.in_ok-form_meant_by.ensures.value ∙ ap Some c.in-Point.is)
           c.in_ok-key-in-Point.ensures.value c.in_ok-key-in-Point.ensures.short;
-      told = c.in_err-copy_of-in-Point.ensures.refused;
+      reported = c.in_err-copy_of-in-Point.ensures.refused;
     }))
 
 pub returns-in_err-copy_of-in-Onward-clause-refused :
@@ -29,5 +29,5 @@ returns-in_err-copy_of-in-Onward-clause-refused c =
       names = names_onward (asked_span c.args.args.now) c.in_ok-key-in-Onward.field-0
           c.in-Onward.excluded (c.in_ok-form_meant_by.ensures.value ∙ ap Some c.in-Onward.is)
           c.in_ok-key-in-Onward.ensures.value c.in_ok-key-in-Onward.ensures.short;
-      told = c.in_err-copy_of-in-Onward.ensures.refused;
+      reported = c.in_err-copy_of-in-Onward.ensures.refused;
     }))

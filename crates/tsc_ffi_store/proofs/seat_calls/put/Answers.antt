@@ -5,38 +5,44 @@ use Rattle.std.proofs.lemmas.List.{nil_from_length}
 use Rattle.tsc_ffi_store.specs.declared.counts.CountedSeat.{CountedSeat}
 use Rattle.tsc_ffi_store.specs.declared.store.Slot.{Slot}
 use Rattle.tsc_ffi_store.specs.declared.store.Slot.TheVariants.{Shared, Seat}
-use Rattle.tsc_ffi_store.specs.OpenHandles.{Lays, named_by}
+use Rattle.tsc_ffi_store.specs.OpenHandles.{PushesSlot, named_by}
 use Rattle.tsc_ffi_store.specs.SeatCalls.{unasked}
-use Rattle.tsc_ffi_store.proofs.Laying.{IsLaying, one_laid, laid_named}
+use Rattle.tsc_ffi_store.proofs.PushedSlots.{IsPushing, one_pushed, pushed_named}
 use Rattle.tsc_ffi_store.proofs.seat_calls.put.Goals as goal
 
 pub loop-seat-preserved : goal.loop-seat-preserved
 loop-seat-preserved c =
-    let all = named_by c.lay.new.handles.items c.lay.new.slots.items c.lay.new.next ++
+    let all = named_by c.push_slot.new.handles.items c.push_slot.new.slots.items
+    c.push_slot.new.next ++
     map (λ s. Seat (unasked c.args.next.now s)) (into_iter_items c.into_iter-seat-iterator.result) in
     let rest : List Slot = map (λ s. Seat (unasked c.args.next.now s)) (into_iter_items c.next.new.self) in
     let step : into_iter_items c.loop-seat.seat-iterator ≡
     c.in-Some.seat ∷ into_iter_items c.next.new.self = search rules in
-    let so_far : IsLaying c.loop-seat.handles.items c.loop-seat.slots.items c.loop-seat.next
+    let so_far : IsPushing c.loop-seat.handles.items c.loop-seat.slots.items c.loop-seat.next
     (Seat (unasked c.args.next.now c.in-Some.seat) ∷ rest) all =
-    subst (λ its. IsLaying c.loop-seat.handles.items c.loop-seat.slots.items c.loop-seat.next
+    subst (λ its. IsPushing c.loop-seat.handles.items c.loop-seat.slots.items c.loop-seat.next
     (map (λ s. Seat (unasked c.args.next.now s)) its) all) step c.loop-seat.invariant.2 in (
       tt,
       tt,
-      one_laid (Seat (unasked c.args.next.now c.in-Some.seat)) c.loop-seat.handles.items c.loop-seat.slots.items
-          c.loop-seat.next c.lay-in-loop-seat.new.handles.items
-          c.lay-in-loop-seat.new.slots.items c.lay-in-loop-seat.new.next rest all so_far
-          (subst (λ (held : CountedSeat). Lays (Seat held) c.loop-seat.handles.items
-          c.loop-seat.slots.items c.loop-seat.next c.lay-in-loop-seat.new.handles.items
-          c.lay-in-loop-seat.new.slots.items c.lay-in-loop-seat.new.next) c.new-held.ensures
-          c.lay-in-loop-seat.ensures.laid),
-      omega (arith, ap length step, c.loop-seat.invariant.3, c.lay-in-loop-seat.ensures.room),
-      omega (arith, ap length step, c.loop-seat.invariant.4, c.lay-in-loop-seat.ensures.slots),
+      one_pushed (Seat (unasked c.args.next.now c.in-Some.seat)) c.loop-seat.handles.items c.loop-seat.slots.items
+          c.loop-seat.next c.push_slot-in-loop-seat.new.handles.items
+          c.push_slot-in-loop-seat.new.slots.items c.push_slot-in-loop-seat.new.next rest all so_far
+          (subst (λ (held : CountedSeat). PushesSlot (Seat held) c.loop-seat.handles.items
+          c.loop-seat.slots.items c.loop-seat.next c.push_slot-in-loop-seat.new.handles.items
+          c.push_slot-in-loop-seat.new.slots.items c.push_slot-in-loop-seat.new.next)
+          c.new-held.ensures c.push_slot-in-loop-seat.ensures.pushed),
+      omega (arith, ap length step, c.loop-seat.invariant.3, c.push_slot-in-loop-seat.ensures.room),
+      omega (
+        arith,
+        ap length step,
+        c.loop-seat.invariant.4,
+        c.push_slot-in-loop-seat.ensures.slots,
+      ),
       omega (
         arith,
         ap length step,
         c.loop-seat.invariant.5,
-        c.lay-in-loop-seat.ensures.laid.next_is,
+        c.push_slot-in-loop-seat.ensures.pushed.next_is,
       ),
     )
 
@@ -52,8 +58,8 @@ returns-clause-named c =
     sym (append-nil now) ∙ ap (λ l. now ++ map (λ s. Seat (unasked c.args.next.now s)) l) (sym none) ∙
     c.loop-seat.invariant.2.named ∙
     ap (λ (l : List Slot). l ++ map (λ s. Seat (unasked c.args.next.now s)) its)
-    (laid_named (Shared c.args.owner) c.args.handles.now.items c.args.slots.now.items
-    c.args.next.now c.lay.new.handles.items c.lay.new.slots.items c.lay.new.next whole
-    c.requires.laid refl c.lay.ensures.laid) ∙
+    (pushed_named (Shared c.args.owner) c.args.handles.now.items c.args.slots.now.items
+    c.args.next.now c.push_slot.new.handles.items c.push_slot.new.slots.items c.push_slot.new.next
+    whole c.requires.are_open refl c.push_slot.ensures.pushed) ∙
     append_assoc whole (Shared c.args.owner ∷ []) (map (λ s. Seat (unasked c.args.next.now s)) its) ∙
     ap (λ l. whole ++ Shared c.args.owner ∷ map (λ s. Seat (unasked c.args.next.now s)) l) first

@@ -2,8 +2,8 @@
 use Rattle.std.proofs.Common.{◌≡◌, sym, subst, List, true, rules}
 use Rattle.std.specs.Prelude.{Result, Ok, Err}
 use Rattle.tsc_time.specs.Time.{Time}
-use Rattle.tsc_page_nodes.specs.Page.{Mark}
-use Rattle.tsc_cache.specs.Settings.{Settings}
+use Rattle.tsc_page_model.specs.Page.{Mark}
+use Rattle.tsc_cache.specs.ConfigView.{ConfigView}
 use Rattle.tsc_cache.specs.Batch.{all_fit}
 use Rattle.tsc_ffi_store.specs.declared.refusal.Refusal.{Refusal}
 use Rattle.tsc_ffi_store.specs.Decode.{asked_batch, added_of}
@@ -21,7 +21,7 @@ returns-in_default-clause-answers c =
     let names : NamesAddAll (asked_batch c.args.args.now) asks.marks =
     record { moment = c.in_ok-moment.ensures.in_range; are = asks.are } in
     let fit : all_fit (config_of c.args.seat.now.seat) asks.marks ≡ true =
-    subst (λ (s : Settings). all_fit s asks.marks ≡ true) c.config.ensures asks.fit_is in
+    subst (λ (s : ConfigView). all_fit s asks.marks ≡ true) c.config.ensures asks.fit_is in
     all_lacks (asked_batch c.args.args.now) asks.marks c.without_memory.result c.args.place.now
     (added_of c.args.out.now) c.args.seat.now.seat c.without_memory.new.self.seat names fit
     c.without_memory.ensures.lacks
@@ -35,7 +35,7 @@ returns-in_err-placed-clause-answers c =
     let names : NamesAddAll asked c.deref.result.now =
     record { moment = c.in_ok-moment.ensures.in_range; are = are } in
     let looked_at : all_fit (config_of c.args.seat.now.seat) asks.marks ≡ true =
-    subst (λ (s : Settings). all_fit s asks.marks ≡ true) c.config.ensures asks.fit_is in
+    subst (λ (s : ConfigView). all_fit s asks.marks ≡ true) c.config.ensures asks.fit_is in
     let fit = subst (λ (ms : List Mark). all_fit (config_of c.args.seat.now.seat) ms ≡ true)
     (same_marks c.args.args.now.keys.now c.args.args.now.marks.now asks.marks c.deref.result.now
     asks.are are) looked_at in
@@ -57,7 +57,7 @@ returns-clause-answers c =
     let names : NamesAddAll asked c.deref.result.now =
     record { moment = c.in_ok-moment.ensures.in_range; are = are } in
     let looked_at : all_fit (config_of c.args.seat.now.seat) asks.marks ≡ true =
-    subst (λ (s : Settings). all_fit s asks.marks ≡ true) c.config.ensures asks.fit_is in
+    subst (λ (s : ConfigView). all_fit s asks.marks ≡ true) c.config.ensures asks.fit_is in
     let fit = subst (λ (ms : List Mark). all_fit (config_of c.args.seat.now.seat) ms ≡ true)
     (same_marks c.args.args.now.keys.now c.args.args.now.marks.now asks.marks c.deref.result.now
     asks.are are) looked_at in

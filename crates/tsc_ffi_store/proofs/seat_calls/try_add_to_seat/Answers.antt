@@ -1,8 +1,8 @@
 -- What the cache said of the Add that was tried, or would have said where there was no memory.
 use Rattle.std.proofs.Common.{◌≡◌, sym, subst, true, rules}
 use Rattle.std.specs.Prelude.{Result, Err}
-use Rattle.tsc_span.specs.Span.{Interval}
-use Rattle.tsc_cache.specs.Settings.{fits}
+use Rattle.tsc_span.specs.Span.{SpanView}
+use Rattle.tsc_cache.specs.ConfigView.{fits}
 use Rattle.tsc_ffi_store.specs.declared.refusal.Refusal.{Refusal}
 use Rattle.tsc_ffi_store.specs.Decode.{asked_add, added_of, NamesAdd}
 use Rattle.tsc_ffi_store.specs.Kinds.{ByKind, config_of}
@@ -33,7 +33,7 @@ returns-in_err-placed-clause-answers c =
     let same : c.in_ok-added_span.field-0 ≡ c.in-Ok.span =
     the_same c.in_ok-added_span.ensures.names.named c.in-Ok.ensures.names.named in
     let fit : fits (config_of c.args.seat.now.seat) c.in-Ok.span ≡ true =
-    subst (λ (s : Interval). fits (config_of c.args.seat.now.seat) s ≡ true) same looked_at in
+    subst (λ (s : SpanView). fits (config_of c.args.seat.now.seat) s ≡ true) same looked_at in
     let names : NamesAdd asked c.in-Ok.span = record {
       value_time = c.in_ok-value.ensures.in_range;
       moment = c.in_ok-moment.ensures.in_range;

@@ -3,15 +3,15 @@ use Rattle.std.proofs.Common.{ℕ, List, refl, subst, rules}
 use Rattle.std.specs.Prelude.{Ok, Err}
 use Rattle.tsc_ffi_store.specs.Puts.{Puts}
 use Rattle.tsc_ffi_store.specs.Summaries.{asked_summary}
-use Rattle.tsc_ffi_store.proofs.SummariesTold.{summary_told, summary_refused}
+use Rattle.tsc_ffi_store.proofs.SummariesReported.{summary_reported, summary_refused}
 use Rattle.tsc_ffi_store.proofs.summaries.put_at.Goals as goal
 
 pub returns-in-Ok : goal.returns-in-Ok
 returns-in-Ok c = record {
-  did = Ok c.in-Ok.told.bytes.items;
+  did = Ok c.in-Ok.reported.bytes.items;
   answers = record {
-    works = summary_told (asked_summary c.args.args.now) c.in-Ok.told c.args.held.now.seat.seat
-        c.bytes_at.new.seat.seat c.in-Ok.ensures.answers;
+    works = summary_reported (asked_summary c.args.args.now) c.in-Ok.reported
+        c.args.held.now.seat.seat c.bytes_at.new.seat.seat c.in-Ok.ensures.answers;
     stays = record { returns = c.in-Ok.ensures.same; opened = refl };
     same = refl;
   };

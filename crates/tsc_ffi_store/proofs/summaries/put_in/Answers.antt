@@ -7,7 +7,7 @@ use Rattle.tsc_ffi_store.proofs.summaries.put_in.Goals as goal
 pub returns-in-Ok : goal.returns-in-Ok
 returns-in-Ok c = record {
   did = Ok c.in-Ok.bytes.items;
-  answers = record { told = c.in-Ok.ensures.told; refused = tt };
+  answers = record { reported = c.in-Ok.ensures.reported; refused = tt };
   put = subst (λ (text : List ℕ). Puts 0 text c.put.result c.args.out.now c.put.new.out
       c.put.new.len) c.as_slice.ensures.value c.put.ensures;
 }
@@ -15,6 +15,6 @@ returns-in-Ok c = record {
 pub returns-in-Err : goal.returns-in-Err
 returns-in-Err c = record {
   did = Err c.in-Err.why;
-  answers = record { told = tt; refused = c.in-Err.ensures.refused };
+  answers = record { reported = tt; refused = c.in-Err.ensures.refused };
   put = search rules;
 }

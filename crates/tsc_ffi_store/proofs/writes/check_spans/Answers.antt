@@ -7,7 +7,7 @@ loop-words-preserved c =
     one_asked_more c.args.keys.now c.args.spans.now c.loop-words.words-index _ c.in_ok-_span._span
     c.loop-words-test.true c.in_ok-_span.ensures.value c.loop-words.invariant
 
-pub returns-clause-told : goal.returns-clause-told
-returns-clause-told c =
+pub returns-clause-reported : goal.returns-clause-reported
+returns-clause-reported c =
     all_asked_for c.args.keys.now c.args.spans.now c.loop-words.words-index c.loop-words-test.false
     c.loop-words.invariant

@@ -2,14 +2,14 @@
 use Rattle.std.proofs.Common.{◌≡◌, ◌∙◌, sym, subst, rules, List, drop}
 use Rattle.std.specs.Prelude.{Result, Ok, Err, Option}
 use Rattle.tsc_time.specs.Time.{Time}
-use Rattle.tsc_time.specs.OwnedTime.{Owner}
+use Rattle.tsc_time.specs.ValueView.{Owner}
 use Rattle.tsc_ffi_store.specs.declared.refusal.Refusal.{Refusal}
 use Rattle.tsc_ffi_store.specs.Kinds.{ByKind}
 use Rattle.tsc_ffi_store.specs.Writes.{asked_write}
 use Rattle.tsc_ffi_store.specs.WriteSteps.{AsksLater, AsksLaterStriped}
 use Rattle.tsc_ffi_store.specs.WriteSteps.{AsksOfWrite, AsksOfWriteStriped}
 use Rattle.tsc_ffi_store.proofs.SpansAsked.{none_refused}
-use Rattle.tsc_ffi_store.proofs.WritesTold.{asked_more_any, asked_busy_any, asked_all_any}
+use Rattle.tsc_ffi_store.proofs.WritesReported.{asked_more_any, asked_busy_any, asked_all_any}
 use Rattle.tsc_ffi_store.proofs.writes.earliest_at.Goals as goal
 
 pub loop-words-preserved : goal.loop-words-preserved
@@ -21,7 +21,7 @@ loop-words-preserved c =
           (subst (λ (by : Owner). ByKind (AsksLater c.in-Ok.span by c.loop-words.time)
           (AsksLaterStriped c.in-Ok.span by c.loop-words.time) c.loop-words.seat.seat
           c.later_at.new.seat.seat (Ok c.in_ok-time.time))
-          c.from_bytes-by.ensures c.in_ok-time.ensures.told)
+          c.from_bytes-by.ensures c.in_ok-time.ensures.reported)
           c.loop-words.invariant.0,
       c.later_at.ensures.same ∙ c.loop-words.invariant.1,
     )
@@ -35,5 +35,5 @@ returns-clause-answers c =
 pub unreachable-requires : goal.unreachable-requires
 unreachable-requires c =
     none_refused c.in_default.field-0 c.args.args.now.keys.now c.args.args.now.spans.now
-    c.loop-words.words-index _ c.in_ok-check_spans.ensures.told c.loop-words-test.true
+    c.loop-words.words-index _ c.in_ok-check_spans.ensures.reported c.loop-words-test.true
     c.in_default.ensures.refused

@@ -1,7 +1,7 @@
 -- What the seat is told so far, with what the words that are left ask for, is told of all.
 use Rattle.std.proofs.Common.{◌≡◌, drop}
 use Rattle.tsc_ffi_store.specs.Writes.{asked_write}
-use Rattle.tsc_ffi_store.proofs.WritesTold.{HasAskedAny}
+use Rattle.tsc_ffi_store.proofs.WritesReported.{HasAskedAny}
 use Rattle.tsc_ffi_store.proofs.writes.earliest_at.Given as goal
 
 abbrev pub invariant-loop-words : goal.invariant-loop-words

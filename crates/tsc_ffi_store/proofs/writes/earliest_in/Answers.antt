@@ -1,22 +1,23 @@
 -- One span more.
 use Rattle.std.proofs.Common.{subst}
-use Rattle.tsc_time.specs.OwnedTime.{Owner}
+use Rattle.tsc_time.specs.ValueView.{Owner}
 use Rattle.tsc_ffi_store.specs.Writes.{asked_write}
-use Rattle.tsc_ffi_store.specs.WriteSteps.{TellsLater}
-use Rattle.tsc_ffi_store.proofs.WritesTold.{told_more, told_all}
+use Rattle.tsc_ffi_store.specs.WriteSteps.{ReportsLater}
+use Rattle.tsc_ffi_store.proofs.WritesReported.{reported_more, reported_all}
 use Rattle.tsc_ffi_store.proofs.writes.earliest_in.Goals as goal
 
 pub loop-words-preserved : goal.loop-words-preserved
 loop-words-preserved c =
     let asked = asked_write c.args.args.now in
-    told_more c.args.cache.now asked.keys asked.spans c.loop-words.words-index _ c.in_ok-span.span
+    reported_more c.args.cache.now asked.keys asked.spans c.loop-words.words-index _
+    c.in_ok-span.span
     asked.by asked.time c.loop-words.time c.later_in-time.result c.loop-words-test.true
     c.in_ok-span.ensures.value
-    (subst (λ (by : Owner). TellsLater c.args.cache.now c.in_ok-span.span by c.loop-words.time
+    (subst (λ (by : Owner). ReportsLater c.args.cache.now c.in_ok-span.span by c.loop-words.time
     c.later_in-time.result) c.from_bytes-by.ensures c.later_in-time.ensures)
     c.loop-words.invariant
 
-pub returns-clause-told : goal.returns-clause-told
-returns-clause-told c =
-    told_all c.args.cache.now (asked_write c.args.args.now) c.loop-words.words-index
+pub returns-clause-reported : goal.returns-clause-reported
+returns-clause-reported c =
+    reported_all c.args.cache.now (asked_write c.args.args.now) c.loop-words.words-index
     c.loop-words.time c.loop-words-test.false c.loop-words.invariant

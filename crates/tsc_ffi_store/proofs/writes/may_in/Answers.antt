@@ -7,8 +7,8 @@ use Rattle.tsc_ffi_store.proofs.writes.may_in.Goals as goal
 pub returns-clause-answers : goal.returns-clause-answers
 returns-clause-answers c = record {
   reads = record {
-    told = may_write c.args.held.now.cache (asked_write c.args.args.now)
-        c.in_ok-earliest.earliest c.is_at.result (search rules) c.in_ok-earliest.ensures.told
+    reported = may_write c.args.held.now.cache (asked_write c.args.args.now)
+        c.in_ok-earliest.earliest c.is_at.result (search rules) c.in_ok-earliest.ensures.reported
         (search rules);
     refused = tt;
   };

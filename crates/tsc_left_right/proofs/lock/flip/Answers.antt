@@ -7,7 +7,7 @@ use Rattle.tsc_left_right.specs.declared.table.WriterState.{WriterState}
 use Rattle.tsc_left_right.specs.Rule.{standby_side}
 use Rattle.tsc_left_right.specs.Participating.{published_in}
 use Rattle.tsc_left_right.proofs.Calls.{first_in}
-use Rattle.tsc_left_right.proofs.WriterCalls.{is_laid, publish_at, published_then, state_there}
+use Rattle.tsc_left_right.proofs.WriterCalls.{is_put_back, publish_at, published_then, state_there}
 use Rattle.tsc_left_right.proofs.WriterCalls.{flipped_then}
 use Rattle.tsc_left_right.proofs.lock.flip.Goals as goal
 
@@ -21,7 +21,8 @@ pub store-requires : goal.store-requires
 store-requires g c =
     let me = c.args.who.now.me in
     let n = c.standby_side-head.result in
-    let q = is_laid g.P.Replicated me c.exchange.new.seat.me c.turn.new.self.me c.args.state.value
+    let q = is_put_back g.P.Replicated me c.exchange.new.seat.me c.turn.new.self.me
+    c.args.state.value
     n _
     c.requires.installed c.requires.ready
     (c.standby_side-head.ensures ∙ ap (λ d. standby_side d.head) c.deref.ensures)
@@ -40,7 +41,7 @@ exchange-requires-2 g c =
     let me = c.args.who.now.me in
     let old = c.args.state.value in
     let n = c.standby_side-head.result in
-    let q = is_laid g.P.Replicated me c.exchange.new.seat.me c.turn.new.self.me old n _
+    let q = is_put_back g.P.Replicated me c.exchange.new.seat.me c.turn.new.self.me old n _
     c.requires.installed c.requires.ready
     (c.standby_side-head.ensures ∙ ap (λ d. standby_side d.head) c.deref.ensures)
     (ap (λ (d : WriterState g.row.P-Value.Denot g.row.P-Operation.Denot). record d { head = n })
@@ -58,7 +59,7 @@ unreachable-requires g c =
     let me = c.args.who.now.me in
     let old = c.args.state.value in
     let n = c.standby_side-head.result in
-    let q = is_laid g.P.Replicated me c.exchange.new.seat.me c.turn.new.self.me old n _
+    let q = is_put_back g.P.Replicated me c.exchange.new.seat.me c.turn.new.self.me old n _
     c.requires.installed c.requires.ready
     (c.standby_side-head.ensures ∙ ap (λ d. standby_side d.head) c.deref.ensures)
     (ap (λ (d : WriterState g.row.P-Value.Denot g.row.P-Operation.Denot). record d { head = n })
@@ -76,7 +77,7 @@ returns-clause-flipped g c =
     let me = c.args.who.now.me in
     let old = c.args.state.value in
     let n = c.standby_side-head.result in
-    let q = is_laid g.P.Replicated me c.exchange.new.seat.me c.turn.new.self.me old n _
+    let q = is_put_back g.P.Replicated me c.exchange.new.seat.me c.turn.new.self.me old n _
     c.requires.installed c.requires.ready
     (c.standby_side-head.ensures ∙ ap (λ d. standby_side d.head) c.deref.ensures)
     (ap (λ (d : WriterState g.row.P-Value.Denot g.row.P-Operation.Denot). record d { head = n })

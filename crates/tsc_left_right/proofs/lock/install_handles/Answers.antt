@@ -29,10 +29,10 @@ loop-seat-preserved g c = (
   c.turn-in-loop-seat.ensures.0 ∙ c.exchange.ensures.0 ∙ c.loop-seat.invariant.0,
   installs_more c.args.who.now.me.0 (arc_value c.args.active.now) c.loop-seat.who.me
       c.exchange.new.seat.me c.turn-in-loop-seat.new.self.me c.args.length c.loop-seat.seat
-      c.args.seats c.side_slot.result c.loop-seat.all c.handle_on-laid.result.0 _
-      c.handle_on-laid.result.1 c.loop-seat.invariant.1
+      c.args.seats c.side_slot.result c.loop-seat.all c.handle_on-made.result.0 _
+      c.handle_on-made.result.1 c.loop-seat.invariant.1
       c.loop-seat-test.true (c.side_slot.ensures.value ∙ ap (side_slot c.loop-seat.seat)
-      c.requires.side) c.handle_on-laid.ensures refl c.exchange.ensures.3
+      c.requires.side) c.handle_on-made.ensures refl c.exchange.ensures.3
       c.turn-in-loop-seat.ensures.2,
 )
 

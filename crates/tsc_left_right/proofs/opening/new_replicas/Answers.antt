@@ -1,7 +1,7 @@
 -- Proves the contract of `new_replicas`. A table with two empty copies, and its first participant,
 -- which keeps the states of all seats.
 use Rattle.std.proofs.Common.{◌∙◌}
-use Rattle.tsc_left_right.proofs.Laying.{opens}
+use Rattle.tsc_left_right.proofs.FirstSlots.{opens}
 use Rattle.tsc_left_right.proofs.opening.new_replicas.Goals as goal
 
 pub new-requires : goal.new-requires

@@ -22,13 +22,13 @@ returns-in-Some-clause-outcome g c =
           c.args.who.now.me c.acquire.new.who.me c.apply_locked.new.who.me
           c.in-Some.state.value c.apply_locked.result c.in-Some.ensures.acquired
           c.apply_locked.ensures.answers o.is;
-      told_is = o.told_is;
+      reported_is = o.reported_is;
       gate = o.gate;
     }
 
 pub returns-in-None-clause-outcome : goal.returns-in-None-clause-outcome
 returns-in-None-clause-outcome g c = record {
   is = (c.in-None.ensures.busy.0 ∙ c.requires.seat.1, c.in-None.ensures.busy.1);
-  told_is = c.requires.untold;
+  reported_is = c.requires.unreported;
   gate = λ added. absurd (true≢false (sym added));
 }

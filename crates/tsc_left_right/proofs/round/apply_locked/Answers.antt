@@ -19,7 +19,7 @@ returns-in-Ok-clause-outcome g c =
             c.requires.writer.0.number_is (ap (λ s. s.length) c.deref.ensures) k.2
             c.publish.ensures.published,
       );
-      told_is = c.give.ensures.told;
+      reported_is = c.give.ensures.reported;
       gate = λ _. c.give.ensures.gate;
     }
 
@@ -30,6 +30,6 @@ returns-in-Err-clause-outcome g c =
           c.prepare_copy.new.who.me c.release-seen.new.who.me c.args.state.value
           c.in-Err.aborted c.release-seen.result c.requires.writer.1 c.in-Err.ensures.left
           c.release-seen.ensures.released c.release-seen.ensures.length;
-      told_is = c.requires.untold;
+      reported_is = c.requires.unreported;
       gate = λ added. absurd (true≢false (sym added));
     }

@@ -191,9 +191,9 @@ raise_ends-requires-clause-reaches g c =
     (stops_over f bl md ab p d d e e (long g k) (one g k) a (some g k) (fits g k) (at g k)
     (here g k)).subtree
 
-pub returns-in_default-clause-told : goal.returns-in_default-clause-told
-returns-in_default-clause-told g c =
-    let k = (goal.at.returns-in_default-clause-told g c).After-split_at_mut-mid in
+pub returns-in_default-clause-reported : goal.returns-in_default-clause-reported
+returns-in_default-clause-reported g c =
+    let k = (goal.at.returns-in_default-clause-reported g c).After-split_at_mut-mid in
     let f = g.P.Subtree.nodes in
     let p : ℕ = c.args.first in
     let bl = c.split_at_mut-below.result.0.now in
@@ -203,8 +203,8 @@ returns-in_default-clause-told g c =
     let e = c.index-above-0.result in
     let x = c.raise_ends.new.low in
     let y = c.raise_ends.new.high in
-    let told = c.in_default.ensures.told in
-    stays_over f bl md ab p d x e y (long g k) (one g k) told.0 told.1 ∙
+    let reported = c.in_default.ensures.reported in
+    stays_over f bl md ab p d x e y (long g k) (one g k) reported.0 reported.1 ∙
     ap (λ (xs : List g.row.P.Denot). nodes_of (map f xs)) (sym (shape g k))
 
 pub returns-in_default-clause-kept : goal.returns-in_default-clause-kept
@@ -241,9 +241,9 @@ raise_all-requires g c =
           (subtrees g k));
     }
 
-pub returns-clause-told : goal.returns-clause-told
-returns-clause-told g c =
-    let k = (goal.at.returns-clause-told g c).After-split_at_mut-mid in
+pub returns-clause-reported : goal.returns-clause-reported
+returns-clause-reported g c =
+    let k = (goal.at.returns-clause-reported g c).After-split_at_mut-mid in
     let f = g.P.Subtree.nodes in
     let items = c.args.subtrees.now in
     let ls : List (List Node) = map f items in
@@ -276,7 +276,7 @@ returns-clause-told g c =
     (sym (shape g k))
     (raises_over f bl md ab p d x e y (long g k) (one g k) a (some g k) (fits g k) (at g k)
     (here g k) mn stop c.args.room c.in-Some.more (subtrees g k).sorted is
-    c.in-Some.ensures.told.0 c.in-Some.ensures.told.1 wholly)
+    c.in-Some.ensures.reported.0 c.in-Some.ensures.reported.1 wholly)
 
 pub returns-clause-kept : goal.returns-clause-kept
 returns-clause-kept g c =

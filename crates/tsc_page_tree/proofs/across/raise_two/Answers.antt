@@ -9,7 +9,7 @@ use Rattle.tsc_page_nodes.specs.Nodes.{Node, raise_nodes}
 use Rattle.tsc_page_nodes.specs.Insertions.{InsertionView}
 use Rattle.tsc_page_tree.specs.Leaves.{nodes_of, start_of, AreSome, AreSubtrees, IsLeafAt}
 use Rattle.tsc_page_tree.specs.Lazy.{everything}
-use Rattle.tsc_page_tree.specs.Across.{IsAcrossTold, IsLastReached}
+use Rattle.tsc_page_tree.specs.Across.{IsAcrossReported, IsLastReached}
 use Rattle.tsc_page_tree.proofs.LeafLists.{all_some, is_subtree}
 use Rattle.tsc_page_nodes.specs.Insertions.{IsInsertionView}
 use Rattle.tsc_page_tree.specs.Copies.{AllKeepSizes}
@@ -139,9 +139,9 @@ raise_ends-requires-clause-reaches g c =
     (stops_two f bl md ot ab p d d e e (long g k) (one g k) a (some_low g k) (some_high g k)
     (fits g k) (at g k) (reaches g k) (here g k)).subtree
 
-pub returns-in_default-clause-told : goal.returns-in_default-clause-told
-returns-in_default-clause-told g c =
-    let k = (goal.at.returns-in_default-clause-told g c).After-split_at_mut-others in
+pub returns-in_default-clause-reported : goal.returns-in_default-clause-reported
+returns-in_default-clause-reported g c =
+    let k = (goal.at.returns-in_default-clause-reported g c).After-split_at_mut-others in
     let f = g.P.Subtree.nodes in
     let p : ℕ = c.subtree_at-first.result in
     let bl = c.split_at_mut-below.result.0.now in
@@ -152,10 +152,10 @@ returns-in_default-clause-told g c =
     let e = c.index-above-0.result in
     let x = c.raise_ends.new.low in
     let y = c.raise_ends.new.high in
-    let told = c.in_default.ensures.told in (
-      stays_low f bl md ot ab p d x e y (long g k) (one g k) told.0 ∙
+    let reported = c.in_default.ensures.reported in (
+      stays_low f bl md ot ab p d x e y (long g k) (one g k) reported.0 ∙
           ap (λ (xs : List g.row.P.Denot). nodes_of (map f xs)) (sym (shape_low g k)),
-      stays_high f bl md ot ab p d x e y (long g k) (one g k) told.1 ∙
+      stays_high f bl md ot ab p d x e y (long g k) (one g k) reported.1 ∙
           ap (λ (xs : List g.row.P.Denot). nodes_of (map f xs)) (sym (shape_high g k)),
     )
 
@@ -208,9 +208,9 @@ raise_all-requires-2 g c =
     let ab = c.split_at_mut-others.result.1.now in
     record { subtrees = subtrees_first f Q ot ab (subtrees_high g k) }
 
-pub returns-clause-told : goal.returns-clause-told
-returns-clause-told g c =
-    let k = (goal.at.returns-clause-told g c).After-split_at_mut-others in
+pub returns-clause-reported : goal.returns-clause-reported
+returns-clause-reported g c =
+    let k = (goal.at.returns-clause-reported g c).After-split_at_mut-others in
     let f = g.P.Subtree.nodes in
     let highs = c.args.high.now in
     let p : ℕ = c.subtree_at-first.result in
@@ -244,16 +244,16 @@ returns-clause-told g c =
     c.raise_all-2.ensures.raised ∙
     ap (λ (v : InsertionView). raise_nodes everything v.value (nodes_of (map f ot)))
     c.add.view_is in
-    subst (λ (xs : List g.row.P.Denot). IsAcrossTold (nodes_of (map f xs))
+    subst (λ (xs : List g.row.P.Denot). IsAcrossReported (nodes_of (map f xs))
     (nodes_of (map f (set bl p x ++ mn))) (nodes_of (map f highs))
     (nodes_of (map f (on ++ set ab 0 y))) a c.args.room (Some c.in-Some.more)) (sym (shape_low g k))
-    (subst (λ (xs : List g.row.P.Denot). IsAcrossTold (nodes_of (map f (bl ++ md)))
+    (subst (λ (xs : List g.row.P.Denot). IsAcrossReported (nodes_of (map f (bl ++ md)))
     (nodes_of (map f (set bl p x ++ mn))) (nodes_of (map f xs))
     (nodes_of (map f (on ++ set ab 0 y))) a c.args.room (Some c.in-Some.more)) (sym (shape_high g k)) (
       raises_two f bl md ot ab p d x e y (long g k) (one g k) a (some_low g k) (some_high g k)
           (fits g k) (at g k) (reaches g k) (here g k) mn on stop c.in-Some.more (subtrees_low g k).sorted
-          (subtrees_high g k).sorted is c.in-Some.ensures.told.0 wholly others,
-      c.in-Some.ensures.told.1,
+          (subtrees_high g k).sorted is c.in-Some.ensures.reported.0 wholly others,
+      c.in-Some.ensures.reported.1,
     ))
 
 pub returns-clause-low : goal.returns-clause-low

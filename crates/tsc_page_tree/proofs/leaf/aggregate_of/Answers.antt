@@ -4,8 +4,8 @@ use Rattle.tsc_span.specs.Span.{Cut, before, between}
 use Rattle.tsc_page_nodes.specs.Nodes.{Node, answer_of}
 use Rattle.tsc_page_tree.proofs.leaf.aggregate_of.Goals as goal
 
-pub returns-clause-told : goal.returns-clause-told
-returns-clause-told c =
+pub returns-clause-reported : goal.returns-clause-reported
+returns-clause-reported c =
     let ns : List Node = c.args.nodes.now in
     record {
       some = c.requires.some;

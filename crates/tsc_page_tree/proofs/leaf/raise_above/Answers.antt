@@ -1,19 +1,19 @@
 -- Below the lazy value, or by it alone where no node lies below the cut.
 use Rattle.std.proofs.Common.{◌≡◌, ◌∙◌, sym, ap, subst, List, length, [], ◌∷◌}
 use Rattle.std.specs.Prelude.{Option}
-use Rattle.tsc_time.specs.OwnedTime.{OwnedTime}
+use Rattle.tsc_time.specs.ValueView.{ValueView}
 use Rattle.tsc_time.specs.Joint.{joint}
 use Rattle.tsc_span.specs.Span.{Cut, last, between}
 use Rattle.tsc_page_nodes.specs.Nodes.{Node, raise_nodes}
-use Rattle.tsc_page_nodes.proofs.CutOrder.{Le}
+use Rattle.tsc_span.proofs.CutOrder.{Le}
 use Rattle.tsc_page_nodes.proofs.Edits.{raise_nodes-length}
 use Rattle.tsc_page_tree.specs.Leaves.{start_of}
-use Rattle.tsc_page_tree.specs.Lazy.{with_lazy, IsToldOf}
+use Rattle.tsc_page_tree.specs.Lazy.{with_lazy, IsReportedOf}
 use Rattle.tsc_page_tree.proofs.Lazy.{raise_lazy, raise_merged, raise_all, raise_each, lazy-start}
 use Rattle.tsc_page_tree.proofs.AllJoint.{starts_below_last}
-use Rattle.tsc_page_tree.proofs.SubtreeAcross.{told_reached}
-use Rattle.tsc_page_tree.proofs.Told.{told_some, told_raised}
-use Rattle.tsc_page_tree.proofs.Wholes.{told_as}
+use Rattle.tsc_page_tree.proofs.SubtreeAcross.{reported_reached}
+use Rattle.tsc_page_tree.proofs.Reported.{reported_some, reported_raised}
+use Rattle.tsc_page_tree.proofs.Wholes.{reported_as}
 use Rattle.tsc_page_tree.proofs.leaf.raise_above.Goals as goal
 use Rattle.tsc_page_tree.proofs.leaf.raise_above.Goals.{After-raise_hinted}
 
@@ -29,22 +29,23 @@ pub returns-then-starts_below-clause-raised : goal.returns-then-starts_below-cla
 returns-then-starts_below-clause-raised c =
     let p = c.args.aggregate.now.lazy in
     let is = raised_is (goal.at.returns-then-starts_below-clause-raised c).After-raise_hinted in
-    ap (λ (o : Option OwnedTime). with_lazy o c.raise_hinted.new.self) c.reach.ensures.lazy ∙
+    ap (λ (o : Option ValueView). with_lazy o c.raise_hinted.new.self) c.reach.ensures.lazy ∙
     ap (with_lazy p) is ∙ raise_lazy p (between c.args.from.now last) c.args.value
     c.args.nodes.now
 
-pub returns-then-starts_below-clause-told : goal.returns-then-starts_below-clause-told
-returns-then-starts_below-clause-told c =
+pub returns-then-starts_below-clause-reported : goal.returns-then-starts_below-clause-reported
+returns-then-starts_below-clause-reported c =
     let s = c.args.aggregate.now in
     let ns : List Node = c.args.nodes.now in
-    let v : OwnedTime = c.args.value in
-    let is = raised_is (goal.at.returns-then-starts_below-clause-told c).After-raise_hinted in
-    let reached = told_reached s.start s.joint v s.lazy c.args.from.now last ns c.requires.sorted
+    let v : ValueView = c.args.value in
+    let is = raised_is (goal.at.returns-then-starts_below-clause-reported c).After-raise_hinted in
+    let reached = reported_reached s.start s.joint v s.lazy c.args.from.now last ns
+    c.requires.sorted
     c.requires.order (starts_below_last (with_lazy s.lazy ns)
-    (told_some s.start s.joint s.lazy ns c.requires.told)) c.requires.told in
-    told_as s.start c.reach.new.self.start _ c.reach.new.self.joint _ c.reach.new.self.lazy
+    (reported_some s.start s.joint s.lazy ns c.requires.reported)) c.requires.reported in
+    reported_as s.start c.reach.new.self.start _ c.reach.new.self.joint _ c.reach.new.self.lazy
     c.raise_hinted.new.self c.reach.ensures.start c.reach.ensures.joint c.reach.ensures.lazy
-    (subst (λ (ms : List Node). IsToldOf s.start (joint s.joint (v ∷ [])) s.lazy ms) (sym is)
+    (subst (λ (ms : List Node). IsReportedOf s.start (joint s.joint (v ∷ [])) s.lazy ms) (sym is)
     reached)
 
 pub returns-then-starts_below-clause-len : goal.returns-then-starts_below-clause-len
@@ -57,18 +58,18 @@ returns-else-starts_below-clause-raised c =
     let p = c.args.aggregate.now.lazy in
     let ns : List Node = c.args.nodes.now in
     let f : Cut = c.args.from.now in
-    let v : OwnedTime = c.args.value in
+    let v : ValueView = c.args.value in
     let low : Le f (start_of (with_lazy p ns)) =
     subst (Le f) (sym (lazy-start p ns))
     (sym c.starts_below.ensures ∙ c.if-starts_below.false) in
-    ap (λ (o : Option OwnedTime). with_lazy o ns) c.raise.ensures.lazy ∙ raise_merged p v ns ∙
+    ap (λ (o : Option ValueView). with_lazy o ns) c.raise.ensures.lazy ∙ raise_merged p v ns ∙
     raise_all v (with_lazy p ns) c.requires.sorted ∙
     sym (raise_each f v (with_lazy p ns) c.requires.sorted low)
 
-pub returns-else-starts_below-clause-told : goal.returns-else-starts_below-clause-told
-returns-else-starts_below-clause-told c =
+pub returns-else-starts_below-clause-reported : goal.returns-else-starts_below-clause-reported
+returns-else-starts_below-clause-reported c =
     let s = c.args.aggregate.now in
     let ns : List Node = c.args.nodes.now in
-    told_as s.start c.raise.new.self.start _ c.raise.new.self.joint _ c.raise.new.self.lazy ns
+    reported_as s.start c.raise.new.self.start _ c.raise.new.self.joint _ c.raise.new.self.lazy ns
     c.raise.ensures.start c.raise.ensures.joint c.raise.ensures.lazy
-    (told_raised s.start s.joint c.args.value s.lazy ns c.requires.sorted c.requires.told)
+    (reported_raised s.start s.joint c.args.value s.lazy ns c.requires.sorted c.requires.reported)

@@ -2,28 +2,29 @@
 use Rattle.std.proofs.Common.{◌≡◌, ◌∙◌, ◌∷◌, [], sym, ap, subst, List, length, arith}
 use Rattle.std.specs.Prelude.{Option, option_map}
 use Rattle.std.specs.Arc.{arc_value}
-use Rattle.tsc_time.specs.OwnedTime.{OwnedTime}
+use Rattle.tsc_time.specs.ValueView.{ValueView}
 use Rattle.tsc_time.specs.Joint.{joint}
 use Rattle.tsc_span.specs.Span.{KeyBytes, Cut, before, last, between}
 use Rattle.tsc_page_nodes.specs.Nodes.{Node, IsSorted, raise_nodes}
 use Rattle.tsc_page_nodes.specs.Insertions.{InsertionView}
-use Rattle.tsc_page_tree.specs.Lazy.{with_lazy, IsToldOf}
-use Rattle.tsc_page_tree.specs.Trees.{IsTold}
+use Rattle.tsc_page_tree.specs.Lazy.{with_lazy, IsReportedOf}
+use Rattle.tsc_page_tree.specs.Trees.{IsReported}
 use Rattle.tsc_page_tree.specs.Across.{HasKey, AreRaisedKnown}
-use Rattle.tsc_page_nodes.proofs.CutOrder.{Lt, Le_Lt-chain}
+use Rattle.tsc_span.proofs.CutOrder.{Lt, Le_Lt-chain}
 use Rattle.tsc_page_nodes.proofs.Cuts.{lowest}
 use Rattle.tsc_page_nodes.proofs.Edits.{raise_nodes-length}
 use Rattle.tsc_page_tree.proofs.Joins.{up_to_last}
 use Rattle.tsc_page_tree.proofs.Lazy.{raise_lazy}
-use Rattle.tsc_page_tree.proofs.SubtreeAcross.{told_reached}
+use Rattle.tsc_page_tree.proofs.SubtreeAcross.{reported_reached}
 use Rattle.tsc_page_tree.proofs.TreeAcross.{has_lazy}
-use Rattle.tsc_page_tree.proofs.Wholes.{leaf_whole, told_as}
+use Rattle.tsc_page_tree.proofs.Wholes.{leaf_whole, reported_as}
 use Rattle.tsc_page_tree.proofs.leaf.raise_known.Goals as goal
 use Rattle.tsc_page_tree.proofs.leaf.raise_known.Goals.{After-raise_hinted}
 
-pub raise_above-requires-clause-told : goal.raise_above-requires-clause-told
-raise_above-requires-clause-told c =
-    subst (IsTold c.args.low.now.aggregate) (sym c.in-Some.ensures.value) c.requires.low.whole.told
+pub raise_above-requires-clause-reported : goal.raise_above-requires-clause-reported
+raise_above-requires-clause-reported c =
+    subst (IsReported c.args.low.now.aggregate) (sym c.in-Some.ensures.value)
+    c.requires.low.whole.reported
 
 pub raise_above-requires-clause-sorted : goal.raise_above-requires-clause-sorted
 raise_above-requires-clause-sorted c =
@@ -49,7 +50,7 @@ raised_high : (c : After-raise_hinted) →
 raised_high c =
     let ms : List Node = arc_value c.args.high.now.nodes in
     let t : Cut = c.add.inside.to.now in
-    let v : OwnedTime = c.add.inside.value in
+    let v : ValueView = c.add.inside.value in
     subst (λ (b : InsertionView). c.raise_hinted.new.self ≡ raise_nodes (between (before [])
     b.to) b.value
     ms) c.add.view_is
@@ -72,15 +73,15 @@ across c =
     let r : Option KeyBytes = option_map (λ k. k.now) c.add.inside.second in
     let f : Cut = c.add.inside.from.now in
     let t : Cut = c.add.inside.to.now in
-    let v : OwnedTime = c.add.inside.value in
+    let v : ValueView = c.add.inside.value in
     let high = raised_high c in
     subst (λ (b : InsertionView). AreRaisedKnown (with_lazy p ns)
     (with_lazy c.raise_above.new.aggregate.lazy c.raise_above.new.nodes) (with_lazy q ms)
     (with_lazy q c.raise_hinted.new.self) b) c.add.view_is (record {
       first = has_lazy o p ns (subst (λ (xs : List Node). HasKey o xs) c.in-Some.ensures.value
-          c.in-Some-known_place.ensures);
+          c.in-Some-known_index.ensures);
       second = has_lazy r q ms (subst (λ (xs : List Node). HasKey r xs)
-          c.in-Some-get_mut.ensures.value c.in-Some-known_place-2.ensures);
+          c.in-Some-get_mut.ensures.value c.in-Some-known_index-2.ensures);
       raised_low = c.raise_above.ensures.raised ∙
           ap (λ (xs : List Node). raise_nodes (between f last) v (with_lazy p xs))
           c.in-Some.ensures.value;
@@ -90,16 +91,16 @@ across c =
           b.value ms) (sym c.add.view_is) high) ∙ raise_lazy q (between (before []) t) v ms;
     })
 
-pub returns-clause-told : goal.returns-clause-told
-returns-clause-told c =
-    let told = across (goal.at.returns-clause-told c).After-raise_hinted in
+pub returns-clause-reported : goal.returns-clause-reported
+returns-clause-reported c =
+    let reported = across (goal.at.returns-clause-reported c).After-raise_hinted in
     let ns : List Node = arc_value c.args.low.now.nodes in
     let ms : List Node = arc_value c.args.high.now.nodes in
     let p = c.args.low.now.aggregate.lazy in
     let q = c.args.high.now.aggregate.lazy in
-    subst (λ (o : Option OwnedTime). AreRaisedKnown (with_lazy p ns)
+    subst (λ (o : Option ValueView). AreRaisedKnown (with_lazy p ns)
     (with_lazy c.raise_above.new.aggregate.lazy c.raise_above.new.nodes) (with_lazy q ms)
-    (with_lazy o c.raise_hinted.new.self) c.args.add.now) (sym c.reach.ensures.lazy) told
+    (with_lazy o c.raise_hinted.new.self) c.args.add.now) (sym c.reach.ensures.lazy) reported
 
 pub returns-clause-low : goal.returns-clause-low
 returns-clause-low c =
@@ -109,7 +110,7 @@ returns-clause-low c =
       whole = leaf_whole c.raise_above.new.aggregate c.raise_above.new.nodes (
         omega (arith, long, c.requires.low.whole.leaf.0),
         omega (arith, long, c.requires.low.whole.leaf.1),
-      ) c.raise_above.ensures.told;
+      ) c.raise_above.ensures.reported;
     }
 
 pub returns-clause-high : goal.returns-clause-high
@@ -122,19 +123,19 @@ returns-clause-high c =
     let up : Lt a.from a.to = subst (λ (v : InsertionView). Lt v.from v.to) c.add.view_is
     c.add.invariant.0 in
     let long = ap length is ∙ raise_nodes-length (between (before []) a.to) a.value ms in
-    let reached = told_reached s.start s.joint a.value s.lazy (before []) a.to ms
+    let reached = reported_reached s.start s.joint a.value s.lazy (before []) a.to ms
     c.requires.high.sorted (Le_Lt-chain (before []) a.from a.to (lowest a.from) up)
-    c.requires.reaches c.requires.high.whole.told in
+    c.requires.reaches c.requires.high.whole.reported in
     record {
       sizes = λ h. ap (λ n. n ∷ []) long;
       whole = leaf_whole c.reach.new.self nh (
         omega (arith, long, c.requires.high.whole.leaf.0),
         omega (arith, long, c.requires.high.whole.leaf.1),
       )
-          (told_as s.start c.reach.new.self.start _ c.reach.new.self.joint _
+          (reported_as s.start c.reach.new.self.start _ c.reach.new.self.joint _
           c.reach.new.self.lazy nh c.reach.ensures.start (c.reach.ensures.joint ∙
           ap (λ (v : InsertionView). joint s.joint (v.value ∷ [])) c.add.view_is)
           c.reach.ensures.lazy
-          (subst (λ (ns : List Node). IsToldOf s.start (joint s.joint (a.value ∷ [])) s.lazy ns)
+          (subst (λ (ns : List Node). IsReportedOf s.start (joint s.joint (a.value ∷ [])) s.lazy ns)
           (sym is) reached));
     }

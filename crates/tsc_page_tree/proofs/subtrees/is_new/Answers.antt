@@ -3,7 +3,7 @@ use Rattle.std.proofs.Common.{◌∙◌, ◌<◌, ap, sym, subst, refl, ℕ, Lis
 use Rattle.std.specs.Prelude.{not}
 use Rattle.std.proofs.lemmas.List.{length-map}
 use Rattle.tsc_span.specs.Span.{KeyBytes, Cut, before}
-use Rattle.tsc_page_nodes.specs.PageView.{is_in}
+use Rattle.tsc_page_model.specs.PageView.{is_in}
 use Rattle.tsc_page_nodes.specs.Nodes.{Node, node_keys}
 use Rattle.tsc_page_tree.specs.Leaves.{nodes_of, IsLeafAt}
 use Rattle.tsc_page_tree.proofs.LeafLists.{read_leaf, StandsAround, stands_around, all_some, read_subtree}
@@ -35,9 +35,9 @@ returns-in-Some g c =
     stands_around ls p (before k)
     (all_some read g.P.Subtree.IsWhole items g.met.P.Subtree.some c.requires.subtrees.whole)
     c.requires.subtrees.sorted inside refl at_key in
-    let told = known_in_subtree k (nodes_of (take p ls)) (get_or ls p [])
+    let reported = known_in_subtree k (nodes_of (take p ls)) (get_or ls p [])
     (nodes_of (drop (suc p) ls))
     around.sorted around.some around.low
     (wholly_below k (nodes_of (drop (suc p) ls)) around.high) in
     c.is_new.ensures ∙ ap (λ (ns : List Node). not (is_in k (node_keys ns))) is ∙
-    ap not (sym told) ∙ ap (λ (ns : List Node). not (is_in k (node_keys ns))) (sym around.whole)
+    ap not (sym reported) ∙ ap (λ (ns : List Node). not (is_in k (node_keys ns))) (sym around.whole)

@@ -15,8 +15,8 @@ make_node-requires g c =
     let f = g.P.Subtree.nodes in
     let Q = g.P.Subtree.IsWhole in
     let items = c.args.subtrees.now.items in
-    let p : ℕ = c.subtree_at-place.result in
-    let bound = c.subtree_at-place.ensures.bound in
+    let p : ℕ = c.subtree_at-index.result in
+    let bound = c.subtree_at-index.ensures.bound in
     let here : p < length items = omega (
       arith,
       bound,
@@ -33,11 +33,11 @@ pub returns-in_ok-insert-clause-made : goal.returns-in_ok-insert-clause-made
 returns-in_ok-insert-clause-made g c =
     let read = g.P.Subtree.nodes in
     let items = c.args.subtrees.now.items in
-    let p : ℕ = c.subtree_at-place.result in
+    let p : ℕ = c.subtree_at-index.result in
     let k : KeyBytes = c.args.key.now in
     let d = c.index_mut.result.now in
     let y = c.make_node.new.self in
-    let bound = c.subtree_at-place.ensures.bound in
+    let bound = c.subtree_at-index.ensures.bound in
     let here : p < length items = omega (
       arith,
       bound,
@@ -46,7 +46,7 @@ returns-in_ok-insert-clause-made g c =
       c.requires.some,
     ) in
     let at = subst (λ (xs : List g.row.P.Denot). IsLeafAt (map read xs) c.new-cut.result p)
-    c.deref.ensures.value c.subtree_at-place.ensures in
+    c.deref.ensures.value c.subtree_at-index.ensures in
     let at_key : IsLeafAt (map read items) (before k) p =
     subst (λ (b : KeyBytes). IsLeafAt (map read items) (before b) p) c.bytes.ensures
     (subst (λ (x : Cut). IsLeafAt (map read items) x p) c.new-cut.ensures at) in
@@ -55,21 +55,22 @@ returns-in_ok-insert-clause-made g c =
     let made = subst (λ (x : g.row.P.Denot). HasNode (read x)
     (read y ++ nodes_of (map read (option_to_list c.in_ok-upper.field-0))) k)
     c.index_mut.ensures.value c.in_ok-upper.ensures.made in
-    let told = subst (λ o. HasNode (read (get_or items p d))
+    let reported = subst (λ o. HasNode (read (get_or items p d))
     (read y ++ nodes_of (map read (option_to_list o))) k) c.in-Some.is made in
     let next : suc p ≡ p + 1 = omega arith in
     subst (λ (xs : List g.row.P.Denot). HasNode (nodes_of (map read items)) (nodes_of (map read xs))
     k) (sym c.in_ok-insert.ensures.items)
     (subst (λ (j : ℕ). HasNode (nodes_of (map read items))
     (nodes_of (map read (insert (set items p y) j c.in-Some.upper))) k) next
-    (made_cut read items p d y k some c.requires.subtrees.sorted here at_key c.in-Some.upper told))
+    (made_cut read items p d y k some c.requires.subtrees.sorted here at_key c.in-Some.upper
+    reported))
 
 pub returns-in_ok-insert-clause-whole : goal.returns-in_ok-insert-clause-whole
 returns-in_ok-insert-clause-whole g c =
     let items = c.args.subtrees.now.items in
-    let p : ℕ = c.subtree_at-place.result in
+    let p : ℕ = c.subtree_at-index.result in
     let y = c.make_node.new.self in
-    let bound = c.subtree_at-place.ensures.bound in
+    let bound = c.subtree_at-index.ensures.bound in
     let here : p < length items = omega (
       arith,
       bound,
@@ -89,11 +90,11 @@ pub returns-in_default-clause-made : goal.returns-in_default-clause-made
 returns-in_default-clause-made g c =
     let read = g.P.Subtree.nodes in
     let items = c.args.subtrees.now.items in
-    let p : ℕ = c.subtree_at-place.result in
+    let p : ℕ = c.subtree_at-index.result in
     let k : KeyBytes = c.args.key.now in
     let d = c.index_mut.result.now in
     let y = c.make_node.new.self in
-    let bound = c.subtree_at-place.ensures.bound in
+    let bound = c.subtree_at-index.ensures.bound in
     let here : p < length items = omega (
       arith,
       bound,
@@ -102,7 +103,7 @@ returns-in_default-clause-made g c =
       c.requires.some,
     ) in
     let at = subst (λ (xs : List g.row.P.Denot). IsLeafAt (map read xs) c.new-cut.result p)
-    c.deref.ensures.value c.subtree_at-place.ensures in
+    c.deref.ensures.value c.subtree_at-index.ensures in
     let at_key : IsLeafAt (map read items) (before k) p =
     subst (λ (b : KeyBytes). IsLeafAt (map read items) (before b) p) c.bytes.ensures
     (subst (λ (x : Cut). IsLeafAt (map read items) x p) c.new-cut.ensures at) in
@@ -111,6 +112,6 @@ returns-in_default-clause-made g c =
     let made = subst (λ (x : g.row.P.Denot). HasNode (read x)
     (read y ++ nodes_of (map read (option_to_list c.in_ok-upper.field-0))) k)
     c.index_mut.ensures.value c.in_ok-upper.ensures.made in
-    let told = subst (λ o. HasNode (read (get_or items p d))
+    let reported = subst (λ o. HasNode (read (get_or items p d))
     (read y ++ nodes_of (map read (option_to_list o))) k) c.in_default.is made in
-    made_whole read items p d y k some c.requires.subtrees.sorted here at_key told
+    made_whole read items p d y k some c.requires.subtrees.sorted here at_key reported

@@ -6,7 +6,7 @@ use Rattle.tsc_span.specs.Span.{Cut, between}
 use Rattle.tsc_span.specs.Cuts.{cut_of}
 use Rattle.tsc_page_nodes.specs.Nodes.{Node}
 use Rattle.tsc_page_tree.specs.Leaves.{nodes_of, start_of, IsLeafAt}
-use Rattle.tsc_page_nodes.proofs.CutOrder.{Le}
+use Rattle.tsc_span.proofs.CutOrder.{Le}
 use Rattle.tsc_page_tree.proofs.LeafLists.{all_some, is_subtree}
 use Rattle.tsc_page_tree.proofs.LeafRaises.{raises_start, raises_last, raised_subtree}
 use Rattle.tsc_page_tree.proofs.subtrees.raise_between.Goals as goal

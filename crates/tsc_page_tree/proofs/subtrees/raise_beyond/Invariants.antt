@@ -8,9 +8,9 @@ use Rattle.tsc_page_tree.proofs.LeafRaises.{RaisesSoFar}
 use Rattle.tsc_page_tree.proofs.subtrees.raise_beyond.Given as goal
 
 -- the subtrees so far are raised
-abbrev pub invariant-loop-place : goal.invariant-loop-place
-invariant-loop-place g l =
+abbrev pub invariant-loop-index : goal.invariant-loop-index
+invariant-loop-index g l =
     RaisesSoFar (map g.P.Subtree.nodes l.fn.subtrees) (map g.P.Subtree.nodes l.subtrees)
     (cut_of l.from) l.to
-    (before []) l.value l.place
+    (before []) l.value l.index
     × All g.P.Subtree.IsWhole l.subtrees

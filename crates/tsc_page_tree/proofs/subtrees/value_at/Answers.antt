@@ -2,10 +2,10 @@
 use Rattle.std.proofs.Common.{◌∙◌, ◌<◌, ◌≤◌, ap, sym, subst, refl, ℕ, suc, List, [], map, get_or, take, drop, length, arith}
 use Rattle.std.proofs.lemmas.List.{length-map, drop_all}
 use Rattle.tsc_time.specs.Time.{zero_time}
-use Rattle.tsc_time.specs.OwnedTime.{OwnedTime, unowned}
+use Rattle.tsc_time.specs.ValueView.{ValueView, unowned}
 use Rattle.tsc_span.specs.Span.{KeyBytes, Cut, before, after, last, point}
 use Rattle.tsc_page_nodes.specs.Nodes.{Node, IsSorted, answer_of}
-use Rattle.tsc_page_nodes.proofs.CutOrder.{Lt, Le, Le-from_Lt, before-after}
+use Rattle.tsc_span.proofs.CutOrder.{Lt, Le, Le-from_Lt, before-after}
 use Rattle.tsc_page_tree.specs.Leaves.{nodes_of, start_of, IsLeafAt}
 use Rattle.tsc_page_tree.proofs.LeafLists.{read_leaf, leaf_first, parted_at, sorted_from, starts_low, ends_high, all_some, read_subtree}
 use Rattle.tsc_page_tree.proofs.LeafKeys.{wholly_below}
@@ -69,6 +69,6 @@ returns-in-Some g c =
     let last_one = answers_of_last (nodes_of ls) (get_or ls p []) behind (before k) (after k)
     (before k) (unowned zero_time) (subst IsSorted first (sorted_from ls p sorted))
     (before-after k) high of_subtree in
-    let answer : OwnedTime = answer_of (get_or ls p []) (point k) in
+    let answer : ValueView = answer_of (get_or ls p []) (point k) in
     c.value_at.ensures ∙ ap (λ (ns : List Node). answer_of ns (point k)) is ∙
     sym (zero_first answer (zero_below_answer (point k) (get_or ls p []))) ∙ last_one

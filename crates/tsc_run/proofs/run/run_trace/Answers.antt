@@ -1,7 +1,7 @@
 -- Proves the contract of `run_trace`. The log of a trace on threads.
 use Rattle.std.proofs.Common.{◌≡◌, ◌∙◌, sym, ap, subst, length, List, map, rules}
 use Rattle.std.proofs.lemmas.List.{length-map}
-use Rattle.tsc_cache.specs.Settings.{Settings}
+use Rattle.tsc_cache.specs.ConfigView.{ConfigView}
 use Rattle.tsc_trace_format.specs.declared.trace.Call.{Call}
 use Rattle.tsc_trace_format.specs.Traces.{Trace, AllFit}
 use Rattle.tsc_check.specs.Verdict.{verdict_of}
@@ -26,8 +26,8 @@ run_lists-requires g c =
         record {
           seats = search rules;
           calls = search rules;
-          fits = subst (λ (s : Settings). AllFit s lists)
-              (sym c.in_ok-cache.ensures.opened.settings_kept) fit;
+          fits = subst (λ (s : ConfigView). AllFit s lists)
+              (sym c.in_ok-cache.ensures.opened.config_kept) fit;
         },
       ),
     )
@@ -49,11 +49,11 @@ returns g c =
     c.in_ok-lines.lines.items in
     let opened = c.in_ok-cache.ensures.opened in
     let lists = c.slice-lists.ensures.value ∙ ap (λ (t : Trace). t.threads) c.trace.view_is in
-    let config = opened.settings_kept ∙ ap (λ (t : Trace). t.config) c.trace.view_is in
-    let told : c.in_ok-runs.runs.told ≡ Ok c.in_ok-lines.lines = search rules in
-    let ran_all = subst (λ (told : RunResult). IfOk told
+    let config = opened.config_kept ∙ ap (λ (t : Trace). t.config) c.trace.view_is in
+    let reported : c.in_ok-runs.runs.reported ≡ Ok c.in_ok-lines.lines = search rules in
+    let ran_all = subst (λ (reported : RunResult). IfOk reported
     (λ all. RunsAll cache 0 (map (λ calls. calls.items) slices) all.items
-    c.in_ok-runs.runs.seats.items)) told c.in_ok-runs.ensures.runs.ran in
+    c.in_ok-runs.runs.seats.items)) reported c.in_ok-runs.ensures.runs.ran in
     let runs = subst (λ (ls : List (List Call)). RunsAll cache 0 ls lines
     c.in_ok-runs.runs.seats.items) lists ran_all in
     let many : cache.seats ≡ length c.args.trace.now.threads = opened.count_kept ∙
@@ -75,9 +75,9 @@ returns-in_err-lines-clause-why g c =
     c.in_ok-runs.runs.seats.items in let why = c.in_err-lines.field-0.0 in
     let limit : cache.limit ≡ adds_of_lists lists = c.in_ok-cache.ensures.opened.limit_kept ∙
     c.count_all_adds-adds.ensures.value in
-    let told : c.in_ok-runs.runs.told ≡ Err why = search rules in
-    let stopped = subst (λ (told : RunResult). IfErr told (λ why. StopsLists why cache
-    lists seats)) told
+    let reported : c.in_ok-runs.runs.reported ≡ Err why = search rules in
+    let stopped = subst (λ (reported : RunResult). IfErr reported (λ why. StopsLists why cache
+    lists seats)) reported
     c.in_ok-runs.ensures.runs.stopped in
     let same : c.from_residual-in_err-lines.result ≡ Err why = search rules in
     rw same (can_end why cache lists seats c.in-Ok._closed limit stopped c.in-Ok.ensures.closed)
@@ -87,9 +87,9 @@ returns-in_err-lines-clause-no_thread g c =
     let cache = c.in_ok-cache.cache in let lists =
     map (λ calls. calls.items) c.slice-lists.result.now in let seats =
     c.in_ok-runs.runs.seats.items in let why = c.in_err-lines.field-0.0 in
-    let told : c.in_ok-runs.runs.told ≡ Err why = search rules in
-    let stopped = subst (λ (told : RunResult). IfErr told (λ why. StopsLists why cache
-    lists seats)) told
+    let reported : c.in_ok-runs.runs.reported ≡ Err why = search rules in
+    let stopped = subst (λ (reported : RunResult). IfErr reported (λ why. StopsLists why cache
+    lists seats)) reported
     c.in_ok-runs.ensures.runs.stopped in
     let same : c.from_residual-in_err-lines.result ≡ Err why = search rules in
     let started = is_started why cache lists seats stopped in

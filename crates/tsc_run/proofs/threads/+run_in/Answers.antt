@@ -34,10 +34,10 @@ run_in-runs-requires g t c κs within =
     c.in-Some-split_last.calls.now in let parted = c.in-Some-split_last.ensures.some in
     let taken = seat_taken c.args.run.now.cache.now c.args.seats.items c.pop.new.self.items c.in-Some.seat
     lists others calls c.requires.seats c.in-Some.ensures.items parted in
-    let settings = c.args.run.now.cache.now.config in
+    let config = c.args.run.now.cache.now.config in
     let few = first_fits (calls_in lists) (calls_in others) calls parted c.requires.calls in
-    let fit = first_all (EachFits settings) (calls_in others) calls
-    (subst (AllFit settings) parted c.requires.fits) in
+    let fit = first_all (EachFits config) (calls_in others) calls
+    (subst (AllFit config) parted c.requires.fits) in
     let less = subst (λ n. length others < n) c.decreases (fewer lists others calls parted) in (
       less,
       (
@@ -74,10 +74,10 @@ returns-clause-runs g t c =
     let taken = seat_taken c.args.run.now.cache.now c.args.seats.items c.pop.new.self.items c.in-Some.seat
     c.args.lists.now others calls c.requires.seats c.in-Some.ensures.items parted in
     let from = c.in_ok-child.child.promise.seat.value in let run = c.join-last.result in
-    let end = subst (λ calls. EndsList from calls run.told run.seat) c.in_ok-child.ensures.calls
+    let end = subst (λ calls. EndsList from calls run.reported run.seat) c.in_ok-child.ensures.calls
     c.join-last.ensures in
-    one_list_joined c.args.run.now.cache.now c.args.lists.now others calls c.in_ok-seats.field-0.told
-    run.told c.joined.result c.in_ok-seats.field-0.seats.items c.push.new.self.items from
+    one_list_joined c.args.run.now.cache.now c.args.lists.now others calls c.in_ok-seats.field-0.reported
+    run.reported c.joined.result c.in_ok-seats.field-0.seats.items c.push.new.self.items from
     run.seat
     parted (c.in_ok-child.ensures.seat ∙ taken.1) c.in_ok-seats.ensures.runs end c.joined.ensures
     c.in-Ok.ensures.items

@@ -1,8 +1,8 @@
 -- What was brought up to date stands for all, and then for one Add more.
 use Rattle.std.proofs.Common.{◌∙◌, sym, ap}
-use Rattle.tsc_cache.specs.Settings.{Settings}
+use Rattle.tsc_cache.specs.ConfigView.{ConfigView}
 use Rattle.tsc_cache.specs.Batch.{all_fit}
-use Rattle.tsc_shared.proofs.InPlace.{caught_up_settings, not_refused, no_part_then}
+use Rattle.tsc_shared.proofs.InPlace.{caught_up_config, not_refused, no_part_then}
 use Rattle.tsc_shared.proofs.InPlace.{untouched_lags}
 use Rattle.tsc_shared.proofs.AddingUp.{taken_then}
 use Rattle.tsc_shared.proofs.applying.add_to.Goals as goal
@@ -10,8 +10,8 @@ use Rattle.tsc_shared.specs.Caches.{marks_in}
 
 pub add_up_to_date-requires : goal.add_up_to_date-requires
 add_up_to_date-requires c = record {
-  fits = ap (λ (settings : Settings). all_fit settings (marks_in c.args.add.now.marks))
-      (caught_up_settings c.args.lagging.now c.args.cache.now c.bring_up.new.cache
+  fits = ap (λ (config : ConfigView). all_fit config (marks_in c.args.add.now.marks))
+      (caught_up_config c.args.lagging.now c.args.cache.now c.bring_up.new.cache
       c.bring_up.ensures.some) ∙ c.requires.fits.0;
 }
 

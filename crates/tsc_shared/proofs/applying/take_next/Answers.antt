@@ -7,7 +7,7 @@ use Rattle.std.specs.declared.sync.Arc.{Arc}
 use Rattle.std.specs.declared.alloc.Global.{Global}
 use Rattle.tsc_cache.specs.CacheView.{CacheView}
 use Rattle.tsc_shared.specs.Applying.{keeps_pages, RetiresWithout}
-use Rattle.tsc_shared.proofs.AddingUp.{next_new, laid_aside, retires}
+use Rattle.tsc_shared.proofs.AddingUp.{next_new, was_set_aside, retires}
 use Rattle.tsc_shared.proofs.applying.take_next.Goals as goal
 
 both_are : (o : Option (Arc CacheView Global)) (a : Arc CacheView Global) → o ≡ Some a
@@ -16,21 +16,21 @@ both_are o a is b also = let both : Some a ≡ Some b = sym is ∙ also in cc
 
 pub returns-in-Err : goal.returns-in-Err
 returns-in-Err c =
-    let laid = laid_aside c.args.copies.now c.take_new-2.new.copies c.lay_aside.new.copies
+    let aside = was_set_aside c.args.copies.now c.take_new-2.new.copies c.set_aside.new.copies
     c.in-Some.standby c.add_in_place-tried.new.standby c.add_in_place-tried.new.lagging
-    c.args.add.now.marks c.add_in_place-tried.result c.lay_aside.result
+    c.args.add.now.marks c.add_in_place-tried.result c.set_aside.result
     (sym c.take.ensures.value ∙ c.in-Some.is)
     (c.in-Err.ensures.same ∙ ap (λ o. record c.args.copies.now {
       standby = o;
       lagging = c.add_in_place-tried.new.lagging;
     }) c.take.ensures.after)
-    c.add_in_place-tried.ensures.lag c.add_in_place-tried.ensures.left c.lay_aside.ensures.kept
-    c.lay_aside.ensures.spoiled in record {
+    c.add_in_place-tried.ensures.lag c.add_in_place-tried.ensures.left c.set_aside.ensures.kept
+    c.set_aside.ensures.spoiled in record {
       made = tt;
       retired = tt;
       taken = tt;
-      same = laid.0;
-      kept = laid.1;
+      same = aside.0;
+      kept = aside.1;
     }
 
 pub returns-in-Ok-take_new : goal.returns-in-Ok-take_new

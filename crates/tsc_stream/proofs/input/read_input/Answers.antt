@@ -23,6 +23,6 @@ returns-then-filled-gt-LONGEST_INPUT-clause-err g c =
 
 pub returns-in-Err-Failed-clause-err : goal.returns-in-Err-Failed-clause-err
 returns-in-Err-Failed-clause-err g c =
-    let told = c.in-Err-Failed.ensures in
+    let reported = c.in-Err-Failed.ensures in
     CouldNotRead-filled _ _ (g.R.Source.known c.read.new.self) _ _ _ (search rules)
-    c.loop-input.invariant told.bytes told.after told.why
+    c.loop-input.invariant reported.bytes reported.after reported.why

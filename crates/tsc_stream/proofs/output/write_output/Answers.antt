@@ -11,6 +11,6 @@ loop-rest-preserved-in-Ok g c =
 
 pub returns-in-Err-Failed-clause-err : goal.returns-in-Err-Failed-clause-err
 returns-in-Err-Failed-clause-err g c =
-    let told = c.in-Err-Failed.ensures in
+    let reported = c.in-Err-Failed.ensures in
     CouldNotWrite-kept _ _ (g.W.Sink.known c.write.new.self) _ _ _ (search rules)
-    c.loop-rest.invariant (search rules) told.bytes (search rules) told.after told.why
+    c.loop-rest.invariant (search rules) reported.bytes (search rules) reported.after reported.why

@@ -41,10 +41,10 @@ loop-stripe-preserved c =
       omega (arith, went.2, c.push_reserved.ensures.capacity, c.loop-stripe.invariant.5),
       gathers_more c.args.table.shared.key c.args.all.me.0.states (slots_items old)
           (slots_items new) c.loop-stripe.caches.items c.push_reserved.new.self.items
-          c.loop-stripe.stripe c.take.result c.into_inner-laid.result.cache
+          c.loop-stripe.stripe c.take.result c.into_inner-stored.result.cache
           c.loop-stripe.invariant.6
           (omega (arith, c.loop-stripe-test.true, c.loop-stripe.invariant.3)) went.0
-          c.take.ensures.value (ap (λ x. x.cache) c.into_inner-laid.ensures)
+          c.take.ensures.value (ap (λ x. x.cache) c.into_inner-stored.ensures)
           c.push_reserved.ensures.items,
     )
 

@@ -1,5 +1,5 @@
 -- Proves the contract of `next_version`. What the Add makes of the cache is a step of its states.
-use Rattle.tsc_page_nodes.specs.Page.{Mark}
+use Rattle.tsc_page_model.specs.Page.{Mark}
 use Rattle.tsc_cache.proofs.AddsSeen.{adds_are_steps}
 use Rattle.tsc_stripe_table.proofs.stripe.next_version.Goals as goal
 

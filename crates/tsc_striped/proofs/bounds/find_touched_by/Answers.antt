@@ -2,7 +2,7 @@
 use Rattle.std.proofs.Common.{◌∙◌, ◌+◌, inl, inr, sym, ap, subst, arith, min, max, ℕ}
 use Rattle.std.proofs.Common.{List, take}
 use Rattle.std.proofs.lemmas.List.{take_all}
-use Rattle.tsc_page_nodes.specs.Page.{Mark}
+use Rattle.tsc_page_model.specs.Page.{Mark}
 use Rattle.tsc_striped.specs.Touching.{first_touched, last_touched}
 use Rattle.tsc_striped.specs.Cutting.{LieWithin}
 use Rattle.tsc_striped.proofs.Adds.{last_there}

@@ -2,7 +2,7 @@
 use Rattle.std.proofs.Common.{◌∙◌, ◌∷◌, ◌<◌, ◌+◌, ◌-◌, sym, ap, subst, refl, arith}
 use Rattle.atomic_table.specs.Table.{rest}
 use Rattle.tsc_stripe_table.specs.declared.stripe.Stripe.{Stripe}
-use Rattle.tsc_stripe_table.specs.Rule.{LaidStripe}
+use Rattle.tsc_stripe_table.specs.Rule.{StoredStripe}
 use Rattle.tsc_stripe_table.specs.Stripes.{stripe_count, state_on, IsStateOn}
 use Rattle.tsc_striped.specs.Looks.{look_from}
 use Rattle.tsc_stripe_table.specs.Participating.{IsSized}
@@ -23,7 +23,7 @@ returns-then-stripe-last-clause-looked t c =
     let a = taken.1 in
     let me = c.args.who.now.me in
     let same = same_in_hand c.try_acquire.new.who.me.1 c.args.stripe c.args.stripe taken.0
-    c.slot_mut-laid.result.now _ _ taken.2 c.slot_mut-laid.ensures.value in
+    c.slot_mut-stored.result.now _ _ taken.2 c.slot_mut-stored.ensures.value in
     reaches_released me c.try_acquire.new.who.me c.release.new.who.me c.args.stripe a.history a.history
     taken.0 _ c.requires.can.1
     (acquired_is me c.try_acquire.new.who.me c.args.stripe taken.0 a taken.2) a.unchanged
@@ -33,11 +33,11 @@ returns-then-stripe-last-clause-looked t c =
     (c.get_max_ref-own.ensures.stands me.0.setup.config (state_on me.0.setup c.args.stripe a.history)
     (subst (λ (y : Stripe). IsStateOn me.0.setup c.args.stripe a.history y.cache)
     (sym c.deref.ensures)
-    (subst (λ (x : LaidStripe). IsStateOn me.0.setup c.args.stripe a.history x.value.cache) same
+    (subst (λ (x : StoredStripe). IsStateOn me.0.setup c.args.stripe a.history x.value.cache) same
     a.stands))))
 
-pub slot_mut-laid-requires : goal.slot_mut-laid-requires
-slot_mut-laid-requires t c =
+pub slot_mut-stored-requires : goal.slot_mut-stored-requires
+slot_mut-stored-requires t c =
     let taken = c.try_acquire.ensures.acquired c.if-not-try_acquire.false in (
       c.try_acquire.ensures.table ∙ c.requires.of.table,
       (taken.0, in_hand c.try_acquire.new.who.me.1 _ c.args.stripe taken.0 taken.2),
@@ -48,15 +48,15 @@ release-requires-clause-can t c =
     let taken = c.try_acquire.ensures.acquired c.if-not-try_acquire.false in
     let a = taken.1 in
     let me = c.args.who.now.me in
-    let y : LaidStripe = c.slot_mut-laid.result.now in
+    let y : StoredStripe = c.slot_mut-stored.result.now in
     let same = same_in_hand c.try_acquire.new.who.me.1 c.args.stripe c.args.stripe taken.0 y _ _
-    taken.2 c.slot_mut-laid.ensures.value in (
+    taken.2 c.slot_mut-stored.ensures.value in (
       y,
       can_release me
           (c.try_acquire.new.who.me.0, (c.args.stripe, y) ∷ rest c.try_acquire.new.who.me.1)
           c.args.stripe a.history y c.requires.can.0.is_stripe
           (λ i. (a.after i, (c.args.stripe, y) ∷ rest (taken.2 i)))
-          (subst (λ (x : LaidStripe). IsStateOn me.0.setup c.args.stripe a.history x.value.cache)
+          (subst (λ (x : StoredStripe). IsStateOn me.0.setup c.args.stripe a.history x.value.cache)
           same a.stands),
     )
 
@@ -95,14 +95,14 @@ release-requires-in-Ok-clause-can t c =
     let taken = c.try_acquire.ensures.acquired c.if-not-try_acquire.false in
     let a = taken.1 in
     let me = c.args.who.now.me in
-    let y : LaidStripe = c.slot_mut-laid.result.now in
+    let y : StoredStripe = c.slot_mut-stored.result.now in
     let same = same_in_hand c.try_acquire.new.who.me.1 c.args.stripe c.args.stripe taken.0 y _ _
-    taken.2 c.slot_mut-laid.ensures.value in (
+    taken.2 c.slot_mut-stored.ensures.value in (
       y,
       can_release_on me _ c.look_above.new.who.me c.args.stripe taken.0 y a
           (λ i. (a.after i, (c.args.stripe, y) ∷ rest (taken.2 i))) _ c.in-Ok.ensures.looked
           c.requires.can.0.is_stripe
-          (subst (λ (x : LaidStripe). IsStateOn me.0.setup c.args.stripe a.history x.value.cache)
+          (subst (λ (x : StoredStripe). IsStateOn me.0.setup c.args.stripe a.history x.value.cache)
           same a.stands),
     )
 
@@ -111,14 +111,14 @@ release-requires-in-Err-clause-can t c =
     let taken = c.try_acquire.ensures.acquired c.if-not-try_acquire.false in
     let a = taken.1 in
     let me = c.args.who.now.me in
-    let y : LaidStripe = c.slot_mut-laid.result.now in
+    let y : StoredStripe = c.slot_mut-stored.result.now in
     let same = same_in_hand c.try_acquire.new.who.me.1 c.args.stripe c.args.stripe taken.0 y _ _
-    taken.2 c.slot_mut-laid.ensures.value in (
+    taken.2 c.slot_mut-stored.ensures.value in (
       y,
       can_release_on me _ c.look_above.new.who.me c.args.stripe taken.0 y a
           (λ i. (a.after i, (c.args.stripe, y) ∷ rest (taken.2 i))) _ c.in-Err.ensures.looked
           c.requires.can.0.is_stripe
-          (subst (λ (x : LaidStripe). IsStateOn me.0.setup c.args.stripe a.history x.value.cache)
+          (subst (λ (x : StoredStripe). IsStateOn me.0.setup c.args.stripe a.history x.value.cache)
           same a.stands),
     )
 
@@ -127,9 +127,9 @@ returns-in-Ok-clause-looked t c =
     let taken = c.try_acquire.ensures.acquired c.if-not-try_acquire.false in
     let a = taken.1 in
     let me = c.args.who.now.me in
-    let y : LaidStripe = c.slot_mut-laid.result.now in
+    let y : StoredStripe = c.slot_mut-stored.result.now in
     let in_hand = same_in_hand c.try_acquire.new.who.me.1 c.args.stripe c.args.stripe taken.0 y _ _
-    taken.2 c.slot_mut-laid.ensures.value in
+    taken.2 c.slot_mut-stored.ensures.value in
     let r = c.in-Ok.ensures.looked in
     let low : c.args.stripe < c.args.last =
     omega (arith, c.requires.last.0, c.if-stripe-last.false) in
@@ -143,8 +143,8 @@ returns-in-Ok-clause-looked t c =
     (c.get_max_ref-own.ensures.stands me.0.setup.config (state_on me.0.setup c.args.stripe a.history)
     (subst (λ (z : Stripe). IsStateOn me.0.setup c.args.stripe a.history z.cache)
     (sym c.deref.ensures)
-    (subst (λ (x : LaidStripe). IsStateOn me.0.setup c.args.stripe a.history x.value.cache) in_hand
-    a.stands)))
+    (subst (λ (x : StoredStripe). IsStateOn me.0.setup c.args.stripe a.history x.value.cache)
+    in_hand a.stands)))
     (r.found ∙ ap (λ v. look_from v.setup r.history c.args.span.now (c.args.stripe + 1)
     (c.args.last - (c.args.stripe + 1))) a.after)
     c.ratchet.ensures.value)
@@ -154,7 +154,7 @@ returns-in-Err-clause-looked t c =
     let taken = c.try_acquire.ensures.acquired c.if-not-try_acquire.false in
     let a = taken.1 in
     let me = c.args.who.now.me in
-    let y : LaidStripe = c.slot_mut-laid.result.now in
+    let y : StoredStripe = c.slot_mut-stored.result.now in
     reaches_on me _ c.look_above.new.who.me c.args.stripe taken.0 y a
     (λ i. (a.after i, (c.args.stripe, y) ∷ rest (taken.2 i))) _ c.in-Err.ensures.looked
     c.release-in-Err.new.who.me _ c.requires.can.1 c.release-in-Err.ensures.released tt

@@ -3,7 +3,7 @@
 use Rattle.std.proofs.Common.{◌∙◌, ◌∷◌, ◌<◌, ◌+◌, ◌-◌, sym, ap, subst, arith}
 use Rattle.atomic_table.specs.Table.{rest}
 use Rattle.tsc_stripe_table.specs.declared.stripe.Stripe.{Stripe}
-use Rattle.tsc_stripe_table.specs.Rule.{LaidStripe}
+use Rattle.tsc_stripe_table.specs.Rule.{StoredStripe}
 use Rattle.tsc_stripe_table.specs.Stripes.{stripe_count, state_on, IsStateOn}
 use Rattle.tsc_stripe_table.specs.Participating.{IsSized}
 use Rattle.tsc_striped.specs.Looks.{look_from}
@@ -12,8 +12,8 @@ use Rattle.tsc_striped.proofs.Several.{looks_more, can_acquire_next, holds_some,
 use Rattle.tsc_striped.proofs.Several.{can_release_on, looked_on, back_at_rest, same_there}
 use Rattle.tsc_striped.proofs.wide.look_under_all.Goals as goal
 
-pub slot_mut-laid-requires : goal.slot_mut-laid-requires
-slot_mut-laid-requires c =
+pub slot_mut-stored-requires : goal.slot_mut-stored-requires
+slot_mut-stored-requires c =
     let taken = c.try_acquire.ensures.acquired c.if-not-try_acquire.false in (
       c.try_acquire.ensures.table ∙ c.requires.rest.0.table,
       (taken.0, in_hand c.try_acquire.new.who.me.1 _ c.args.first taken.0 taken.2),
@@ -50,14 +50,14 @@ release_seen-requires-clause-can c =
     let taken = c.try_acquire.ensures.acquired c.if-not-try_acquire.false in
     let a = taken.1 in
     let me = c.args.who.now.me in
-    let y : LaidStripe = c.slot_mut-laid.result.now in
+    let y : StoredStripe = c.slot_mut-stored.result.now in
     let same = same_in_hand c.try_acquire.new.who.me.1 c.args.first c.args.first taken.0 y _ _
-    taken.2 c.slot_mut-laid.ensures.value in (
+    taken.2 c.slot_mut-stored.ensures.value in (
       y,
       can_release_on me _ c.look_above.new.who.me c.args.first taken.0 y a
           (λ i. (a.after i, (c.args.first, y) ∷ rest (taken.2 i))) _ c.in-Ok.ensures.looked
           (omega (arith, c.requires.several.0, c.requires.several.1))
-          (subst (λ (x : LaidStripe). IsStateOn me.0.setup c.args.first a.history x.value.cache)
+          (subst (λ (x : StoredStripe). IsStateOn me.0.setup c.args.first a.history x.value.cache)
           same a.stands),
     )
 
@@ -66,14 +66,14 @@ release-requires-clause-can c =
     let taken = c.try_acquire.ensures.acquired c.if-not-try_acquire.false in
     let a = taken.1 in
     let me = c.args.who.now.me in
-    let y : LaidStripe = c.slot_mut-laid.result.now in
+    let y : StoredStripe = c.slot_mut-stored.result.now in
     let same = same_in_hand c.try_acquire.new.who.me.1 c.args.first c.args.first taken.0 y _ _
-    taken.2 c.slot_mut-laid.ensures.value in (
+    taken.2 c.slot_mut-stored.ensures.value in (
       y,
       can_release_on me _ c.look_above.new.who.me c.args.first taken.0 y a
           (λ i. (a.after i, (c.args.first, y) ∷ rest (taken.2 i))) _ c.in-Err.ensures.looked
           (omega (arith, c.requires.several.0, c.requires.several.1))
-          (subst (λ (x : LaidStripe). IsStateOn me.0.setup c.args.first a.history x.value.cache)
+          (subst (λ (x : StoredStripe). IsStateOn me.0.setup c.args.first a.history x.value.cache)
           same a.stands),
     )
 
@@ -82,9 +82,9 @@ returns-in-Ok-clause-looked c =
     let taken = c.try_acquire.ensures.acquired c.if-not-try_acquire.false in
     let a = taken.1 in
     let me = c.args.who.now.me in
-    let y : LaidStripe = c.slot_mut-laid.result.now in
+    let y : StoredStripe = c.slot_mut-stored.result.now in
     let in_hand = same_in_hand c.try_acquire.new.who.me.1 c.args.first c.args.first taken.0 y _ _
-    taken.2 c.slot_mut-laid.ensures.value in
+    taken.2 c.slot_mut-stored.ensures.value in
     let r = c.in-Ok.ensures.looked in
     looked_on me _ c.look_above.new.who.me c.args.first taken.0 y a
     (λ i. (a.after i, (c.args.first, y) ∷ rest (taken.2 i))) _ r
@@ -96,7 +96,7 @@ returns-in-Ok-clause-looked c =
     (c.get_max_ref-own.ensures.stands me.0.setup.config (state_on me.0.setup c.args.first a.history)
     (subst (λ (z : Stripe). IsStateOn me.0.setup c.args.first a.history z.cache)
     (sym c.deref.ensures)
-    (subst (λ (x : LaidStripe). IsStateOn me.0.setup c.args.first a.history x.value.cache) in_hand
+    (subst (λ (x : StoredStripe). IsStateOn me.0.setup c.args.first a.history x.value.cache) in_hand
     a.stands)))
     (r.found ∙ ap (λ v. look_from v.setup r.history c.args.span.now (c.args.first + 1)
     (c.args.last - (c.args.first + 1))) a.after)
@@ -107,7 +107,7 @@ returns-in-Err-clause-unchanged c =
     let taken = c.try_acquire.ensures.acquired c.if-not-try_acquire.false in
     let a = taken.1 in
     let me = c.args.who.now.me in
-    let y : LaidStripe = c.slot_mut-laid.result.now in
+    let y : StoredStripe = c.slot_mut-stored.result.now in
     back_at_rest me _ c.look_above.new.who.me c.args.first taken.0 y a
     (λ i. (a.after i, (c.args.first, y) ∷ rest (taken.2 i))) _ c.in-Err.ensures.looked
     c.release.new.who.me c.requires.rest.1 c.release.ensures.released

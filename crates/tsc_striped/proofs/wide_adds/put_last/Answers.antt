@@ -2,12 +2,12 @@
 use Rattle.std.proofs.Common.{◌≡◌, ◌∷◌, [], ◌++◌, refl, sym, subst, List}
 use Rattle.std.specs.Box.{with_value}
 use Rattle.tsc_time.specs.Time.{Time}
-use Rattle.tsc_page_nodes.specs.Page.{Mark}
+use Rattle.tsc_page_model.specs.Page.{Mark}
 use Rattle.tsc_cache.specs.CacheView.{CacheView}
 use Rattle.tsc_cache.specs.declared.history.Entry.{Entry}
 use Rattle.tsc_cache.specs.History.{CanAllBeAdded}
 use Rattle.tsc_stripe_table.specs.Stripes.{IsStateOn}
-use Rattle.tsc_stripe_table.specs.Rule.{LaidStripe}
+use Rattle.tsc_stripe_table.specs.Rule.{StoredStripe}
 use Rattle.tsc_stripe_table.specs.Steps.{state_in, reached_of, holds_of, entry_of_batch, IsCovered}
 use Rattle.tsc_stripe_table.specs.Steps.{Commits}
 use Rattle.tsc_striped.specs.Batches.{entry_for, entry_of_marks}
@@ -17,7 +17,8 @@ pub commit_batch-requires-clause-can : goal.commit_batch-requires-clause-can
 commit_batch-requires-clause-can c =
     let me = c.args.who.now.me in
     let has = c.requires.has.1 in
-    let x : LaidStripe = with_value c.slot_mut-laid.result.now c.replace_by_batch-before.new.self in
+    let x : StoredStripe = with_value c.slot_mut-stored.result.now
+    c.replace_by_batch-before.new.self in
     let said = c.replace_by_batch-before.ensures in
     let same : entry_of_batch (state_in me.0) x.value.batch ≡ entry_for me c.args.batch.now =
     λ i. entry_of_marks me (said.marks i) (said.moment i) in (
@@ -46,7 +47,8 @@ commit_batch-requires-clause-can c =
 pub returns-clause-committed : goal.returns-clause-committed
 returns-clause-committed c =
     let me = c.args.who.now.me in
-    let x : LaidStripe = with_value c.slot_mut-laid.result.now c.replace_by_batch-before.new.self in
+    let x : StoredStripe = with_value c.slot_mut-stored.result.now
+    c.replace_by_batch-before.new.self in
     let said = c.replace_by_batch-before.ensures in
     let same : entry_of_batch (state_in me.0) x.value.batch ≡ entry_for me c.args.batch.now =
     λ i. entry_of_marks me (said.marks i) (said.moment i) in (

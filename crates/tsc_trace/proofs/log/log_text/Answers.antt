@@ -28,9 +28,9 @@ loop-line-preserved c = record {
 -- where no line is left, the text so far is the text of all
 nothing_left : (text : List ℕ) (items lines : List Line) (i : ℕ) → items ≡ lines →
     length items ≤ i → text ++ log_text (drop i items) ≡ log_text items → text ≡ log_text lines
-nothing_left text items lines i same over told =
-    sym (append-nil text) ∙ ap (λ ls. text ++ log_text ls) (sym (drop_all i items over)) ∙ told ∙
-    ap log_text same
+nothing_left text items lines i same over reported =
+    sym (append-nil text) ∙ ap (λ ls. text ++ log_text ls) (sym (drop_all i items over)) ∙ reported
+    ∙ ap log_text same
 
 pub returns-clause-value : goal.returns-clause-value
 returns-clause-value c =

@@ -6,7 +6,7 @@ use Rattle.tsc_trace.proofs.log_laws.reads_again.Goals as goal
 
 pub returns-in-Ok : goal.returns-in-Ok
 returns-in-Ok c =
-    let told = c.in-Ok.ensures in
+    let reported = c.in-Ok.ensures in
     let read = subst (λ bytes. ReadsAs bytes c.read_log.result)
-    (c.as_slice.ensures.value ∙ told.value) c.read_log.ensures in
-    reads_again c.args.log.now.lines c.read_log.result told.writable read
+    (c.as_slice.ensures.value ∙ reported.value) c.read_log.ensures in
+    reads_again c.args.log.now.lines c.read_log.result reported.writable read

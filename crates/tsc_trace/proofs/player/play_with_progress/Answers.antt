@@ -1,7 +1,7 @@
 -- The log is told list by list.
 use Rattle.std.proofs.Common.{◌≡◌, ◌∙◌, refl, sym, ap, subst, [], ◌++◌, ◌<◌, ◌≤◌, length, Some, true, arith}
 use Rattle.std.specs.Prelude.{slice_get}
-use Rattle.tsc_cache.specs.Settings.{Settings}
+use Rattle.tsc_cache.specs.ConfigView.{ConfigView}
 use Rattle.tsc_cache.specs.State.{opening}
 use Rattle.tsc_cache.specs.CacheView.{RepresentsState}
 use Rattle.tsc_trace_format.specs.Limits.{most_calls}
@@ -10,7 +10,7 @@ use Rattle.tsc_trace_format.specs.Traces.{Trace, EachFits, AllFit}
 use Rattle.tsc_trace.specs.Play.{next_all, played}
 use Rattle.tsc_trace.specs.Log.{log_of}
 use Rattle.tsc_trace.proofs.Playing.{standing_after, lists_anew}
-use Rattle.tsc_trace.proofs.ListSteps.{told_with_list}
+use Rattle.tsc_trace.proofs.ListSteps.{reported_with_list}
 use Rattle.tsc_trace_format.proofs.Totals.{calls_within, list_at}
 use Rattle.tsc_trace_format.proofs.Fitting.{list_fits}
 use Rattle.tsc_trace.proofs.player.play_with_progress.Goals as goal
@@ -24,13 +24,13 @@ loop-thread-init g c =
     record {
       at = standing_after trace.config [];
       stands = record {
-        state = subst (λ (s : Settings). RepresentsState c.in_ok-new.field-0 s
+        state = subst (λ (s : ConfigView). RepresentsState c.in_ok-new.field-0 s
             (opening s)) config stands;
         adds = refl;
       };
-      told = rw c.new-2.ensures.items (sym (lists_anew trace.config 0 [] trace.threads));
+      reported = rw c.new-2.ensures.items (sym (lists_anew trace.config 0 [] trace.threads));
       counted = omega arith;
-      settings = stands.set_up ∙ config;
+      config = stands.set_up ∙ config;
     }
 
 pub play_list-requires-clause-fits : goal.play_list-requires-clause-fits
@@ -47,7 +47,7 @@ play_list-requires-clause-fits g c =
     ap Some (sym c.deref.ensures.value) in
     let fit : AllFit trace.config trace.threads =
     subst (λ (t : Trace). AllFit t.config t.threads) c.trace.view_is c.trace.invariant in
-    subst (λ (s : Settings). EachFits s calls) (sym c.loop-thread.invariant.settings)
+    subst (λ (s : ConfigView). EachFits s calls) (sym c.loop-thread.invariant.config)
     (list_fits trace.config trace.threads thread calls here fit)
 
 pub play_list-requires-clause-index : goal.play_list-requires-clause-index
@@ -61,7 +61,7 @@ play_list-requires-clause-index g c =
 
 pub loop-thread-preserved : goal.loop-thread-preserved
 loop-thread-preserved g c =
-    let settings = c.args.trace.now.config in
+    let config = c.args.trace.now.config in
     let lists = c.args.trace.now.threads in
     let slices = c.slice-calls-items.result.now in
     let thread = c.loop-thread.thread in
@@ -77,18 +77,18 @@ loop-thread-preserved g c =
     list_at slices thread c.calls-item.result within c.calls-item.is ∙
     ap Some (sym c.deref.ensures.value) in
     let added : c.play_list.new.self.lines.items ≡ c.loop-thread.player.lines.items ++
-    played settings thread 0 at calls = c.in_ok-play_list.ensures.lines settings at stands in
+    played config thread 0 at calls = c.in_ok-play_list.ensures.lines config at stands in
     record {
-      at = next_all settings at calls;
-      stands = c.in_ok-play_list.ensures.made.stands settings at stands;
-      told = told_with_list settings thread at c.loop-thread.player.lines.items
+      at = next_all config at calls;
+      stands = c.in_ok-play_list.ensures.made.stands config at stands;
+      reported = reported_with_list config thread at c.loop-thread.player.lines.items
           c.play_list.new.self.lines.items (log_of c.args.trace.now) calls lists here added
-          c.loop-thread.invariant.told;
+          c.loop-thread.invariant.reported;
       counted =
           let more = c.in_ok-play_list.ensures.made.count in
           let most : length calls ≤ most_calls =
           rw c.deref.ensures.value
           (calls_within slices thread c.calls-item.result fits within c.calls-item.is) in
           omega arith;
-      settings = c.in_ok-play_list.ensures.made.settings ∙ c.loop-thread.invariant.settings;
+      config = c.in_ok-play_list.ensures.made.config ∙ c.loop-thread.invariant.config;
     }

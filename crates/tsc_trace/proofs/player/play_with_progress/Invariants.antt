@@ -12,8 +12,8 @@ invariant-loop-thread g l =
     record {
       at : Standing;
       stands : StandsAt l.player l.trace.config at;
-      told : l.player.lines.items ++
+      reported : l.player.lines.items ++
           played_lists l.trace.config l.thread at (drop l.thread l.trace.threads) ≡ log_of l.trace;
       counted : l.player.adds ≤ l.thread * 65536;
-      settings : l.player.cache.settings ≡ l.trace.config;
+      config : l.player.cache.config ≡ l.trace.config;
     }

@@ -2,7 +2,7 @@
 -- beginning of time on.
 use Rattle.std.proofs.Common.{List, All, sym, subst}
 use Rattle.std.proofs.lemmas.List.Elements.{All-nil}
-use Rattle.timestamp_cache.specs.Words.{OwnedTime}
+use Rattle.timestamp_cache.specs.Words.{ValueView}
 use Rattle.example_lease_holder.specs.Reads.{HasRead}
 use Rattle.example_lease_holder.specs.ReadSeats.{seen_by}
 use Rattle.example_lease_holder.proofs.Carried.{point_overlaps_itself}
@@ -13,5 +13,5 @@ invariant_of-result-clause-whole g c = point_overlaps_itself _ _ c.point.ensures
 
 pub invariant_of-result-clause-added : goal.invariant_of-result-clause-added
 invariant_of-result-clause-added g c =
-    let P : OwnedTime → Type 0 = HasRead c.point.result (seen_by c.args.handed.seat) in
-    subst (λ (reads : List OwnedTime). All P reads) (sym c.new-2.ensures.items) (All-nil P)
+    let P : ValueView → Type 0 = HasRead c.point.result (seen_by c.args.handed.seat) in
+    subst (λ (reads : List ValueView). All P reads) (sym c.new-2.ensures.items) (All-nil P)

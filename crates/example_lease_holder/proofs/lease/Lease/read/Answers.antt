@@ -1,7 +1,7 @@
 -- Proves the contract of `Lease::read`. Reads a key at a time, while its latch is held.
 use Rattle.std.proofs.Common.{subst}
 use Rattle.std.specs.Prelude.{is_ok}
-use Rattle.timestamp_cache.specs.Words.{OwnedTime}
+use Rattle.timestamp_cache.specs.Words.{ValueView}
 use Rattle.example_lease_holder.specs.ReadSeats.{seen_by}
 use Rattle.example_lease_holder.specs.Reads.{HasRead, read_of, since}
 use Rattle.example_lease_holder.proofs.Carried.{added_since, handed_on, kept_or_not, one_more}
@@ -26,7 +26,7 @@ pub returns-in-Ok-clause-added : goal.returns-in-Ok-clause-added
 returns-in-Ok-clause-added g c =
     let held = c.args.held.now in
     let old = c.args.me.now.seat in
-    subst (λ (read : OwnedTime). HasRead held.span
+    subst (λ (read : ValueView). HasRead held.span
     (since (seen_by old) (seen_by c.add.new.seat)) read) {y = read_of c.args.at c.args.by}
     c.of-read.ensures
     (added_since old c.add.new.seat held.span c.of-read.result c.in_ok-front.front

@@ -14,17 +14,17 @@ use Rattle.example_lease_holder.proofs.lease.Lease.write.Goals.{in-Some+in_ok-pu
 pub returns-clause-clear : goal.returns-clause-clear
 returns-clause-clear g c =
     let held = c.args.held.now in
-    let P = λ (told : Option Time). IfSome told
-    (λ (at : Time). IsClearFor held.answered.items (seen_by c.earliest-told.new.me.seat) held.span
-    c.args.wanted.by at) in
-    let clear : P c.earliest-told.result =
+    let P = λ (reported : Option Time). IfSome reported
+    (λ (at : Time). IsClearFor held.answered.items (seen_by c.earliest-reported.new.me.seat)
+    held.span c.args.wanted.by at) in
+    let clear : P c.earliest-reported.result =
     clear_of_handed held.span c.take_over.new.held.span (seen_by held.handed.seat)
-    c.take_over.new.me.seat c.earliest-told.new.me.seat c.args.wanted.by c.args.wanted.at
-    c.earliest-told.result held.answered.items
-    c.take_over.ensures.same.0 c.take_over.ensures.seen c.earliest-told.ensures held.added in
-    elim c.match-told.branch [
-      | in-Some+in_ok-push w ↦ subst P (sym w.told-is) (subst P w.in-Some.is clear)
-      | in_default w ↦ subst P (sym w.told-is) clear
+    c.take_over.new.me.seat c.earliest-reported.new.me.seat c.args.wanted.by c.args.wanted.at
+    c.earliest-reported.result held.answered.items
+    c.take_over.ensures.same.0 c.take_over.ensures.seen c.earliest-reported.ensures held.added in
+    elim c.match-reported.branch [
+      | in-Some+in_ok-push w ↦ subst P (sym w.reported-is) (subst P w.in-Some.is clear)
+      | in_default w ↦ subst P (sym w.reported-is) clear
     ]
 
 pub returns-clause-written : goal.returns-clause-written
@@ -34,9 +34,9 @@ pub returns-clause-pushed : goal.returns-clause-pushed
 returns-clause-pushed g c = search rules
 
 pub returns-clause-seat : goal.returns-clause-seat
-returns-clause-seat g c = begins_on _ _ _ (read_seat_laws.begins _ _ c.earliest-told.ensures.goes_on)
+returns-clause-seat g c = begins_on _ _ _ (read_seat_laws.begins _ _ c.earliest-reported.ensures.goes_on)
     c.take_over.ensures.kept
 
 pub returns-in_err-push-clause-seat : goal.returns-in_err-push-clause-seat
 returns-in_err-push-clause-seat g c =
-    begins_on _ _ _ (read_seat_laws.begins _ _ c.earliest-told.ensures.goes_on) c.take_over.ensures.kept
+    begins_on _ _ _ (read_seat_laws.begins _ _ c.earliest-reported.ensures.goes_on) c.take_over.ensures.kept

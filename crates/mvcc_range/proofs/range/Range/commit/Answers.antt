@@ -4,7 +4,7 @@ use Rattle.std.proofs.Common.{◌≡◌, ◌∙◌, ap, subst, List, Option}
 use Rattle.std.specs.List.{All}
 use Rattle.tsc_time.proofs.TimeOrder.{no_earlier-transitive}
 use Rattle.timestamp_cache.specs.Words.{Time}
-use Rattle.timestamp_cache.specs.Earliest.{IsEarliest, TellsEarliest}
+use Rattle.timestamp_cache.specs.Earliest.{IsEarliest, ReportsEarliest}
 use Rattle.mvcc_versions.specs.Versions.{Read, as_of, Matches}
 use Rattle.mvcc_range.specs.Serial.{Transaction}
 use Rattle.mvcc_range.specs.Steps.{IsFree}
@@ -17,8 +17,8 @@ returns-clause-ok c =
     let t = c.args.transaction.now in
     let at = c.in-Some.at in
     let earliest : IsEarliest (IsFree range.cache range.chains t.by t.writes) t.at at
-    = subst (λ (o : Option Time). TellsEarliest (IsFree range.cache range.chains t.by t.writes) t.at
-    o) c.in-Some.is c.free_time.ensures in
+    = subst (λ (o : Option Time). ReportsEarliest (IsFree range.cache range.chains t.by t.writes)
+    t.at o) c.in-Some.is c.free_time.ensures in
     let reads : c.deref.result.now ≡ t.reads = c.deref.ensures.value
     ∙ ap (λ (x : Transaction). x.reads) c.transaction.view_is in (
       earliest,
@@ -32,6 +32,6 @@ returns-clause-ok c =
               reads (c.in_ok-so.ensures.0 c.if-not-so.false);
           free = earliest.holds;
         };
-        does = c.in_ok-lay_down.ensures.ok;
+        does = c.in_ok-store_versions.ensures.ok;
       },
     )

@@ -1,7 +1,7 @@
 -- Proves the contract of `Range::read`. Answers a read of a transaction as of its time, and
 -- remembers that.
 use Rattle.std.proofs.Common.{◌≡◌, ◌∙◌, ap, subst, List}
-use Rattle.timestamp_cache.specs.Words.{Time, Interval}
+use Rattle.timestamp_cache.specs.Words.{Time, SpanView}
 use Rattle.mvcc_versions.specs.Versions.{Contents, Write, Matches, as_of, after_writes}
 use Rattle.mvcc_range.specs.Serial.{Transaction, executed}
 use Rattle.mvcc_range.proofs.range.Range.read.Goals as goal
@@ -20,7 +20,7 @@ returns-clause-own c =
     let ws : c.deref.result.now ≡ t.writes
     = c.deref.ensures.value ∙ ap (λ (x : Transaction). x.writes) c.transaction.view_is in
     let seen = c.in_ok-rows.ensures there was in
-    subst (λ (s : Interval). Matches (record { span = s; rows = rows }) (executed there t))
+    subst (λ (s : SpanView). Matches (record { span = s; rows = rows }) (executed there t))
     c.in_ok-read.ensures.0
     (subst (λ (xs : List Write). Matches (record { span = read.span; rows = rows })
     (λ k. after_writes k (there k) xs)) ws seen)

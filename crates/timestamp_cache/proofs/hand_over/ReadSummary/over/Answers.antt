@@ -14,11 +14,11 @@ loop-at-init c = under_way_first c.args.cache.now (cut_of c.args.cuts.0) (cut_of
 pub loop-at-preserved : goal.loop-at-preserved
 loop-at-preserved c =
     under_way_more c.args.cache.now c.args.self.span (cut_of c.args.cuts.0) (cut_of c.args.cuts.1)
-    (cut_of c.loop-at.at) (cut_of c.stretch_end-end.result) c.args.most c.loop-at.told
-    c.in_ok-told.told c.get_max_ref-value.result
+    (cut_of c.loop-at.at) (cut_of c.stretch_end-end.result) c.args.most c.loop-at.reported
+    c.in_ok-reported.reported c.get_max_ref-value.result
     c.loop-at.invariant c.stretch_end-end.ensures
-    (λ settings s stands. c.get_max_ref-value.ensures.stands settings s stands ∙
-    ap (look s) c.stretch.ensures) c.in_ok-told.ensures
+    (λ config s stands. c.get_max_ref-value.ensures.stands config s stands ∙
+    ap (look s) c.stretch.ensures) c.in_ok-reported.ensures
 
 pub loop-at-smaller : goal.loop-at-smaller
 loop-at-smaller c = fewer_steps (keys_seen c.args.cache.now.pages) (cut_of c.loop-at.at)
@@ -27,5 +27,5 @@ loop-at-smaller c = fewer_steps (keys_seen c.args.cache.now.pages) (cut_of c.loo
 
 pub returns : goal.returns
 returns c = under_way_last c.args.cache.now c.args.self.span (cut_of c.args.cuts.0)
-    (cut_of c.args.cuts.1) (cut_of c.loop-at.at) c.args.most c.loop-at.told c.loop-at.invariant
+    (cut_of c.args.cuts.1) (cut_of c.loop-at.at) c.args.most c.loop-at.reported c.loop-at.invariant
     (sym c.is_below.ensures ∙ c.loop-at-test.false)

@@ -147,13 +147,13 @@ module _ {M : Type 1} (𝓤 : Ura M) (𝓛 : Logic 𝓤) (𝓜 : Model 𝓤 𝓛
       (λ _. split3 ! $ drop ! $ heard ! (r.value ≡ x) (λ same. drop ! $ split ! $ drop ! $
       box_shows ! r u (λ good. lands_last ! refl good $ exec ! 𝓣.C 𝓣.Λ Ev (after 5 fn.body)
       (at_ret Ev Post) $ sets ! (of_opd ! (get ! refl)) refl good $
-      let v₁ : Val = live 1 (vcons u vnil) in let told : z.0.3.0.owned ≡ Some r.value =
+      let v₁ : Val = live 1 (vcons u vnil) in let reported : z.0.3.0.owned ≡ Some r.value =
       kept ∙ ap Some (sym same) in
       sets ! (agg ! (and_then ! (lit ! tt) (and_then ! (get ! refl) (no_more !)))) refl
       (and_tt _ good.0, (record { fits = lit< tt }, (good.1, tt))) $
       use1 𝓛 (‵ (Out.own_val (Some r) (v₁ ∷ []))) (Some-of 𝓛 Taken r u) $ use0 𝓛
       (raw (fact 𝓤 (z.0.3.0.owned ≡ Some r.value)))
-      (fact_i 𝓤 (z.0.3.0.owned ≡ Some r.value) (emp 𝓤) told) $
+      (fact_i 𝓤 (z.0.3.0.owned ≡ Some r.value) (emp 𝓤) reported) $
       nothing ! $ nothing ! $ fjoin ! $ nothing ! $ fjoin ! $ returns ! (look_at ! 0 refl) $
       free_all ! refl $ keep ! (3 ∷ 0 ∷ 2 ∷ 1 ∷ []) $
       by ! (leaves 𝓛 ended gone (clauses 𝓛 𝓜.mem 𝓡.returns) z v₁ (Some r) (tt, (tt, tt))

@@ -123,7 +123,7 @@ module _ {M : Type 1} (𝓤 : Ura M) (𝓛 : Logic 𝓤) (𝓜 : Model 𝓤 𝓛
       in_a_block ! p (λ (at : Ptr). boxed at store)
       (fst∗ 𝓤 (never 𝓤) (sem 𝓛 (freeable (bare (lone Kept.mir)) null_ptr))) (λ at off is.
       move ! (1 ∷ []) $ split ! $ drop ! $ feq_l !
-      (λ told. lands_as ! (ap only told ∙ ap ptr_val is) refl (tt, tt) $
+      (λ reported. lands_as ! (ap only reported ∙ ap ptr_val is) refl (tt, tt) $
       sets ! (of_opd ! (get ! refl)) refl (tt, tt) $ sets !
       (agg ! (and_then ! (get ! refl) (no_more !))) refl (tt, (tt, tt)) $
       returns ! (look_at ! 0 refl) $ free_all ! refl $ by ! (placed at off)))))))

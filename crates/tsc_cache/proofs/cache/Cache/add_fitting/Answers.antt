@@ -1,8 +1,8 @@
 -- One mark after another is added.
 use Rattle.std.proofs.Common.{◌≡◌, ◌∙◌, ◌+◌, refl, sym, ap, subst, length, false, true, arith}
-use Rattle.tsc_page_nodes.specs.Page.{Mark}
+use Rattle.tsc_page_model.specs.Page.{Mark}
 use Rattle.tsc_cache.specs.declared.added.Added.{Added}
-use Rattle.tsc_cache.specs.Settings.{fits}
+use Rattle.tsc_cache.specs.ConfigView.{fits}
 use Rattle.tsc_cache.specs.State.{is_kept}
 use Rattle.tsc_cache.specs.CacheView.{CacheView, Adds}
 use Rattle.tsc_cache.specs.CacheParts.{pages_of}
@@ -21,7 +21,7 @@ add_one_fitting-requires c =
     let next = next_fits c.args.self.now c.loop-mark.self c.args.marks.now c.args.now
     c.loop-mark.added c.loop-mark.mark-index c.mark-item.result c.loop-mark.invariant.0
     c.loop-mark-test.true (sym c.mark-item.is) in
-    record { fits = ap (λ (m : Mark). fits c.loop-mark.self.settings m.span) c.mark.view_is ∙ next }
+    record { fits = ap (λ (m : Mark). fits c.loop-mark.self.config m.span) c.mark.view_is ∙ next }
 
 pub with-added-requires : goal.with-added-requires
 with-added-requires c =

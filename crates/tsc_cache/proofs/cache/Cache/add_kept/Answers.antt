@@ -1,7 +1,7 @@
 -- What the mark, or the rotation before it, makes of all that can be seen.
 use Rattle.std.proofs.Common.{rules, ◌≡◌, ◌∙◌, sym, ap, subst, true, false}
 use Rattle.std.specs.Prelude.{IfOk}
-use Rattle.tsc_page_nodes.specs.Page.{Mark}
+use Rattle.tsc_page_model.specs.Page.{Mark}
 use Rattle.tsc_cache.specs.Rotation.{RotatesWith}
 use Rattle.tsc_cache.specs.contracts.cache.Cache.{the_view}
 use Rattle.tsc_cache.specs.declared.added.Added.{Added}
@@ -32,7 +32,7 @@ returns-then-branch-clause-seen c =
     ap (λ (v : CacheView). front_has_room_for v.pages c.args.span.now) (sym c.self.view_is) ∙
     sym c.in_ok-mark_span.ensures.room ∙ c.if-branch.true in
     marks_adds c.args.self.now new m c.args.now c.without_rotation.result c.requires.kept room
-    (ap (λ (v : CacheView). v.settings) c.self.view_is)
+    (ap (λ (v : CacheView). v.config) c.self.view_is)
     (subst (λ (v : CacheView). MarksFront v.pages new.pages m) c.self.view_is
     (c.in_ok-mark_span.ensures.marked c.if-branch.true))
     (ap (λ (v : CacheView). v.floor) c.self.view_is)
@@ -45,21 +45,21 @@ returns-clause-seen c =
     ap (λ (v : CacheView). front_has_room_for v.pages c.args.span.now) (sym c.self.view_is) ∙
     sym c.in_ok-mark_span.ensures.room ∙ c.if-branch.false in
     let same : record {
-      settings = c.self.inside.config;
+      config = c.self.inside.config;
       floor = c.self.inside.floor;
       pages = pages_of c.mark_span.new.self;
       rotations = c.self.inside.rotations;
     } ≡
     c.args.self.now =
     ap (λ ps. record {
-      settings = c.self.inside.config;
+      config = c.self.inside.config;
       floor = c.self.inside.floor;
       pages = ps;
       rotations = c.self.inside.rotations;
     }) (c.in_ok-mark_span.ensures.full c.if-branch.false) ∙
     c.self.view_is in
     rotated_seen c.rotate.result c.args.self.now c.rotate.new.self m c.args.now c.requires.kept room
-    (c.rotate.ensures.settings ∙ ap (λ (v : CacheView). v.settings) same)
+    (c.rotate.ensures.config ∙ ap (λ (v : CacheView). v.config) same)
     (subst (λ (v : CacheView). IfOk c.rotate.result
     (λ (a : Added). RotatesWith v c.rotate.new.self m c.args.now a.evicted ×
     (a ≡ kept_after_rotation a.evicted))) same c.rotate.ensures.rotated)

@@ -1,7 +1,7 @@
 -- The pages tell, and those that they stand for have the same figures.
 use Rattle.std.proofs.Common.{◌∙◌, ap}
 use Rattle.tsc_cache.specs.Counts.{figures_seen}
-use Rattle.tsc_cache.proofs.CountsTold.{same_figures}
+use Rattle.tsc_cache.proofs.CountsReported.{same_figures}
 use Rattle.tsc_cache.proofs.cache.Cache.figures.Goals as goal
 
 value : goal.returns-clause-value
@@ -11,4 +11,4 @@ pub returns-clause-value : goal.returns-clause-value
 returns-clause-value = value
 
 pub returns-clause-stands : goal.returns-clause-stands
-returns-clause-stands c settings s stands = value c ∙ same_figures c.args.self.now settings s stands
+returns-clause-stands c config s stands = value c ∙ same_figures c.args.self.now config s stands

@@ -4,5 +4,5 @@ use Rattle.tsc_cache.specs.State.{look}
 use Rattle.tsc_cache.proofs.cache.Cache.get_max_between.Goals as goal
 
 pub returns-clause-stands : goal.returns-clause-stands
-returns-clause-stands c settings s stands = c.get_max_ref.ensures.stands settings s stands ∙
+returns-clause-stands c config s stands = c.get_max_ref.ensures.stands config s stands ∙
     ap (look s) c.between.ensures

@@ -4,5 +4,5 @@ use Rattle.tsc_cache.specs.State.{look}
 use Rattle.tsc_cache.proofs.cache.Cache.get_max_counted.Goals as goal
 
 pub returns-clause-stands : goal.returns-clause-stands
-returns-clause-stands c settings s stands = c.lookup.ensures.stands settings s stands ∙
+returns-clause-stands c config s stands = c.lookup.ensures.stands config s stands ∙
     ap (look s) c.borrowed.ensures

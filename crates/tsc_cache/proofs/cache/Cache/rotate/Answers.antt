@@ -3,8 +3,8 @@ use Rattle.std.proofs.Common.{◌≡◌, ◌∙◌, refl, sym, ap, subst, nat_le
 use Rattle.std.specs.Prelude.{Result, Ok, Err, OnErr}
 use Rattle.tsc_time.specs.declared.memory.NoMemory.{NoMemory}
 use Rattle.tsc_span.specs.Span.{span_cost}
-use Rattle.tsc_page_nodes.specs.Page.{Mark, empty_page}
-use Rattle.tsc_page_nodes.specs.PageView.{PageView, Represents}
+use Rattle.tsc_page_model.specs.Page.{Mark, empty_page}
+use Rattle.tsc_page_model.specs.PageView.{PageView, Represents}
 use Rattle.tsc_cache.specs.Rotation.{RotatesWith, front_marked, saturating_inc}
 use Rattle.tsc_cache.specs.declared.added.Added.{Added}
 use Rattle.tsc_cache.specs.contracts.cache.Cache.{the_view}
@@ -26,9 +26,9 @@ invariant_of-self-2 c =
     let put = put_on NoMemory _ c.in_ok-front.front c.add_span.new.self c.args.span.now c.args.value
     (fits_new c.in_ok-front.front c.args.span.now c.next_size-size.result c.cost_of.result
     c.self.inside.config.page_max c.cost_of.ensures c.next_size-size.ensures.enough
-    (subst (λ (v : CacheView). nat_le (span_cost c.args.span.now) v.settings.page_max ≡ true)
+    (subst (λ (v : CacheView). nat_le (span_cost c.args.span.now) v.config.page_max ≡ true)
     (sym c.self.view_is) c.requires.fits) (c.in_ok-front.ensures.room c.args.span.now))
-    c.in_ok-add_span.ensures.told in
+    c.in_ok-add_span.ensures.reported in
     let marked = front_stands c.self.inside.config (pages_of c.self.inside.pages) m
     c.add_span.new.self c.size.result c.cost_of.result c.next_size-size.result c.top.result
     c.next_size-size.ensures.value
@@ -52,9 +52,9 @@ returns-clause-rotated c =
     let put = put_on NoMemory _ c.in_ok-front.front c.add_span.new.self c.args.span.now c.args.value
     (fits_new c.in_ok-front.front c.args.span.now c.next_size-size.result c.cost_of.result
     c.self.inside.config.page_max c.cost_of.ensures c.next_size-size.ensures.enough
-    (subst (λ (v : CacheView). nat_le (span_cost c.args.span.now) v.settings.page_max ≡ true)
+    (subst (λ (v : CacheView). nat_le (span_cost c.args.span.now) v.config.page_max ≡ true)
     (sym c.self.view_is) c.requires.fits) (c.in_ok-front.ensures.room c.args.span.now))
-    c.in_ok-add_span.ensures.told in
+    c.in_ok-add_span.ensures.reported in
     let marked = front_stands c.self.inside.config (pages_of c.self.inside.pages) m
     c.add_span.new.self c.size.result c.cost_of.result c.next_size-size.result c.top.result
     c.next_size-size.ensures.value
@@ -92,7 +92,7 @@ kept (Err e) P p = p
 pub returns-in_err-push_front-clause-unchanged : goal.returns-in_err-push_front-clause-unchanged
 returns-in_err-push_front-clause-unchanged c =
     kept _ _ (ap (λ ps. record {
-      settings = c.self.inside.config;
+      config = c.self.inside.config;
       floor = c.self.inside.floor;
       pages = ps;
       rotations = c.self.inside.rotations;

@@ -2,8 +2,8 @@
 -- elsewhere, which is the same span.
 use Rattle.std.proofs.Common.{rules, ◌≡◌, ◌∙◌, sym, ap, subst, true, false}
 use Rattle.std.specs.Prelude.{IfOk}
-use Rattle.tsc_span.specs.Span.{Interval}
-use Rattle.tsc_page_nodes.specs.Page.{Mark}
+use Rattle.tsc_span.specs.Span.{SpanView}
+use Rattle.tsc_page_model.specs.Page.{Mark}
 use Rattle.tsc_cache.specs.Rotation.{RotatesWith}
 use Rattle.tsc_cache.specs.contracts.cache.Cache.{the_view}
 use Rattle.tsc_cache.specs.declared.added.Added.{Added}
@@ -49,11 +49,11 @@ in_place c =
     ap (λ (v : CacheView). front_has_room_for v.pages c.for_add-span.result) (sym c.self.view_is) ∙
     sym c.in_ok-mark_span.ensures.room ∙ c.if-branch.true in
     let marks : MarksFront (pages_of c.self.inside.pages) new.pages m =
-    subst (λ (s : Interval). MarksFront (pages_of c.self.inside.pages) new.pages
+    subst (λ (s : SpanView). MarksFront (pages_of c.self.inside.pages) new.pages
     (record { span = s; value = c.args.value })) c.for_add-span.ensures
     (c.in_ok-mark_span.ensures.marked c.if-branch.true) in
     marks_adds c.args.self.now new m c.args.now c.without_rotation.result kept room
-    (ap (λ (v : CacheView). v.settings) c.self.view_is)
+    (ap (λ (v : CacheView). v.config) c.self.view_is)
     (subst (λ (v : CacheView). MarksFront v.pages new.pages m) c.self.view_is marks)
     (ap (λ (v : CacheView). v.floor) c.self.view_is)
     (ap (λ (v : CacheView). v.rotations) c.self.view_is) c.without_rotation.ensures
@@ -69,30 +69,30 @@ turned : (c : After-rotate) → IfOk c.rotate.result
 turned c =
     let m : Mark = record { span = c.for_add-span.result; value = c.args.value } in
     let kept : is_kept c.args.self.now.floor m ≡ true =
-    ap (λ (s : Interval). is_kept c.args.self.now.floor (record { span = s; value = c.args.value }))
+    ap (λ (s : SpanView). is_kept c.args.self.now.floor (record { span = s; value = c.args.value }))
     c.for_add-span.ensures ∙ sym c.keeps.ensures ∙ c.if-not-keeps.false in
     let room : front_has_room_for c.args.self.now.pages c.for_add-span.result ≡ false =
     ap (λ (v : CacheView). front_has_room_for v.pages c.for_add-span.result) (sym c.self.view_is) ∙
     sym c.in_ok-mark_span.ensures.room ∙ c.if-branch.false in
     let same : record {
-      settings = c.self.inside.config;
+      config = c.self.inside.config;
       floor = c.self.inside.floor;
       pages = pages_of c.mark_span.new.self;
       rotations = c.self.inside.rotations;
     } ≡
     c.args.self.now =
     ap (λ ps. record {
-      settings = c.self.inside.config;
+      config = c.self.inside.config;
       floor = c.self.inside.floor;
       pages = ps;
       rotations = c.self.inside.rotations;
     }) (c.in_ok-mark_span.ensures.full c.if-branch.false) ∙
     c.self.view_is in
-    subst (λ (s : Interval). IfOk c.rotate.result
+    subst (λ (s : SpanView). IfOk c.rotate.result
     (λ a. Adds c.args.self.now c.rotate.new.self (record { span = s; value = c.args.value })
     c.args.now a)) c.for_add-span.ensures
     (rotated_seen c.rotate.result c.args.self.now c.rotate.new.self m c.args.now kept room
-    (c.rotate.ensures.settings ∙ ap (λ (v : CacheView). v.settings) same)
+    (c.rotate.ensures.config ∙ ap (λ (v : CacheView). v.config) same)
     (subst (λ (v : CacheView). IfOk c.rotate.result
     (λ (a : Added). RotatesWith v c.rotate.new.self m c.args.now a.evicted ×
     (a ≡ kept_after_rotation a.evicted))) same c.rotate.ensures.rotated))

@@ -1,17 +1,17 @@
 -- A mark that is too large tells that not all fit.
 use Rattle.std.proofs.Common.{◌≡◌, ◌∙◌, sym, ap, ℕ, zero, suc, ◌<◌, List, [], ◌∷◌, length, drop, get_or, false, refl, arith}
-use Rattle.tsc_page_nodes.specs.Page.{Mark}
-use Rattle.tsc_cache.specs.Settings.{Settings, fits}
+use Rattle.tsc_page_model.specs.Page.{Mark}
+use Rattle.tsc_cache.specs.ConfigView.{ConfigView, fits}
 use Rattle.tsc_cache.specs.Batch.{all_fit}
 use Rattle.tsc_cache.proofs.config.Config.fits_all.Goals as goal
 
-too_large : (settings : Settings) (ms : List Mark) (i : ℕ) (m : Mark) → i < length ms →
-    m ≡ get_or ms i m → fits settings m.span ≡ false → false ≡ all_fit settings (drop i ms)
-too_large settings [] i m few is large = absurd (omega arith)
-too_large settings (n ∷ ms) zero m few is large =
-    rw (ap (λ (x : Mark). fits settings x.span) (sym is) ∙ large) refl
-too_large settings (n ∷ ms) (suc i) m few is large =
-    too_large settings ms i m (omega arith) is large
+too_large : (config : ConfigView) (ms : List Mark) (i : ℕ) (m : Mark) → i < length ms →
+    m ≡ get_or ms i m → fits config m.span ≡ false → false ≡ all_fit config (drop i ms)
+too_large config [] i m few is large = absurd (omega arith)
+too_large config (n ∷ ms) zero m few is large =
+    rw (ap (λ (x : Mark). fits config x.span) (sym is) ∙ large) refl
+too_large config (n ∷ ms) (suc i) m few is large =
+    too_large config ms i m (omega arith) is large
 
 pub returns-then-not-fits-clause-value : goal.returns-then-not-fits-clause-value
 returns-then-not-fits-clause-value c =

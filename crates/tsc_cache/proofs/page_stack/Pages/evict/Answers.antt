@@ -2,7 +2,7 @@
 use Rattle.std.proofs.Common.{◌≡◌, ◌∙◌, sym, ap, subst, ◌+◌, ◌-◌, ◌∷◌, ◌++◌, [], List, take, length, arith}
 use Rattle.std.proofs.lemmas.List.{length_push}
 use Rattle.std.proofs.Math.Seq.{take-append_seam}
-use Rattle.tsc_page_nodes.specs.PageView.{PageView}
+use Rattle.tsc_page_model.specs.PageView.{PageView}
 use Rattle.tsc_cache.specs.CacheParts.{older_of}
 use Rattle.tsc_cache.specs.Stacks.{IsDroppedTop}
 use Rattle.tsc_cache.proofs.Droppings.{Dropping, dropping-more, dropped_count}

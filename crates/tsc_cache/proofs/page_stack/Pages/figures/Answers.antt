@@ -1,10 +1,10 @@
 -- One page after another.
 use Rattle.std.proofs.Common.{◌≡◌, ◌∙◌, refl, ap, subst, List, [], ◌+◌, drop, length, arith}
 use Rattle.std.proofs.Math.ListN.{drop_of_length-le}
-use Rattle.tsc_page_nodes.specs.PageView.{PageView}
+use Rattle.tsc_page_model.specs.PageView.{PageView}
 use Rattle.tsc_cache.specs.CacheParts.{pages_of, front_of, older_of}
-use Rattle.tsc_cache_pages.proofs.FullChunks.{drop_next}
-use Rattle.tsc_cache.proofs.CountsTold.{Counting, figures_so_far, with_page, counting-start, counting-more, counting-end}
+use Rattle.tsc_chunks.proofs.FullChunks.{drop_next}
+use Rattle.tsc_cache.proofs.CountsReported.{Counting, figures_so_far, with_page, counting-start, counting-more, counting-end}
 use Rattle.tsc_cache.proofs.page_stack.Pages.figures.Goals as goal
 
 pub loop-at-init : goal.loop-at-init

@@ -1,7 +1,7 @@
 -- What is counted so far.
 use Rattle.std.proofs.Common.{drop}
 use Rattle.tsc_cache.specs.CacheParts.{pages_of, older_of}
-use Rattle.tsc_cache.proofs.CountsTold.{Counting}
+use Rattle.tsc_cache.proofs.CountsReported.{Counting}
 use Rattle.tsc_cache.proofs.page_stack.Pages.figures.Given as goal
 
 abbrev pub invariant-loop-at : goal.invariant-loop-at

@@ -4,20 +4,20 @@ use Rattle.std.proofs.Math.ListN.{drop_of_length-le}
 use Rattle.std.specs.Prelude.{Option, option_map}
 use Rattle.tsc_span.specs.Span.{KeyBytes, Cut}
 use Rattle.tsc_span.specs.Cuts.{cut_of}
-use Rattle.tsc_page_nodes.specs.PageView.{PageView}
-use Rattle.tsc_page_nodes.specs.KeysAbove.{IsLeastAbove}
+use Rattle.tsc_page_model.specs.PageView.{PageView}
+use Rattle.tsc_page_model.specs.KeysAbove.{IsLeastAbove}
 use Rattle.tsc_cache.specs.CacheParts.{pages_of, front_of, older_of}
-use Rattle.tsc_cache_pages.proofs.FullChunks.{drop_next}
-use Rattle.tsc_cache.proofs.KeysTold.{Asking, asking-start, asking-more, asking-end}
+use Rattle.tsc_chunks.proofs.FullChunks.{drop_next}
+use Rattle.tsc_cache.proofs.KeysReported.{Asking, asking-start, asking-more, asking-end}
 use Rattle.tsc_cache.proofs.page_stack.Pages.key_above.Goals as goal
 
 pub loop-at-init : goal.loop-at-init
 loop-at-init c =
     let cut : Cut = cut_of c.args.cut in
-    let told : Option KeyBytes = option_map (λ k. k.now) c.key_above-least.result in
-    let first = subst (λ (p : PageView). IsLeastAbove cut p.keys told) c.deref.ensures
+    let reported : Option KeyBytes = option_map (λ k. k.now) c.key_above-least.result in
+    let first = subst (λ (p : PageView). IsLeastAbove cut p.keys reported) c.deref.ensures
     c.key_above-least.ensures.value in
-    asking-start (front_of c.args.self.now) (older_of c.args.self.now) cut told first
+    asking-start (front_of c.args.self.now) (older_of c.args.self.now) cut reported first
 
 pub loop-at-preserved : goal.loop-at-preserved
 loop-at-preserved c =
@@ -40,10 +40,10 @@ pub returns : goal.returns
 returns c =
     let cut : Cut = cut_of c.args.cut in
     let older = older_of c.args.self.now in
-    let told : Option KeyBytes = option_map (λ k. k.now) c.loop-at.least in
+    let reported : Option KeyBytes = option_map (λ k. k.now) c.loop-at.least in
     let past = c.loop-at-test.false in
     let all = c.len-at-end.ensures.value in
     let none : drop c.loop-at.at older ≡ [] = drop_of_length-le older (omega arith) in
-    asking-end (λ p. p) (pages_of c.args.self.now) [] cut told refl
-    (subst (λ (ps : List PageView). Asking (pages_of c.args.self.now) ps cut told) none
+    asking-end (λ p. p) (pages_of c.args.self.now) [] cut reported refl
+    (subst (λ (ps : List PageView). Asking (pages_of c.args.self.now) ps cut reported) none
     c.loop-at.invariant)

@@ -3,7 +3,7 @@ use Rattle.std.proofs.Common.{drop}
 use Rattle.std.specs.Prelude.{option_map}
 use Rattle.tsc_span.specs.Cuts.{cut_of}
 use Rattle.tsc_cache.specs.CacheParts.{pages_of, older_of}
-use Rattle.tsc_cache.proofs.KeysTold.{Asking}
+use Rattle.tsc_cache.proofs.KeysReported.{Asking}
 use Rattle.tsc_cache.proofs.page_stack.Pages.key_above.Given as goal
 
 abbrev pub invariant-loop-at : goal.invariant-loop-at

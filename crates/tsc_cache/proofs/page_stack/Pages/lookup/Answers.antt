@@ -3,10 +3,10 @@ use Rattle.std.proofs.Common.{◌≡◌, ◌∙◌, sym, ap, subst, [], ◌∷�
 use Rattle.std.proofs.lemmas.List.{length-append}
 use Rattle.tsc_time.specs.Time.{is_before}
 use Rattle.tsc_time.specs.Joint.{joint}
-use Rattle.tsc_time.specs.OwnedTime.{OwnedTime}
-use Rattle.tsc_page_nodes.specs.PageView.{PageView, answer}
+use Rattle.tsc_time.specs.ValueView.{ValueView}
+use Rattle.tsc_page_model.specs.PageView.{PageView, answer}
 use Rattle.tsc_cache.specs.CacheParts.{pages_of, front_of, older_of}
-use Rattle.tsc_cache_pages.proofs.FullChunks.{drop_next}
+use Rattle.tsc_chunks.proofs.FullChunks.{drop_next}
 use Rattle.tsc_cache.proofs.Lookings.{Looking, looking-start, looking-more, looking-stop}
 use Rattle.tsc_cache.proofs.page_stack.Pages.lookup.Goals as goal
 
@@ -17,7 +17,7 @@ loop-at-init c =
     let best : c.lookup_ref-best.result ≡ answer (front_of c.args.self.now) c.args.span.now =
     c.lookup_ref-best.ensures.value ∙
     ap (λ (p : PageView). answer p c.args.span.now) c.deref.ensures in
-    subst (λ (v : OwnedTime). Looking (pages_of c.args.self.now) (older_of c.args.self.now)
+    subst (λ (v : ValueView). Looking (pages_of c.args.self.now) (older_of c.args.self.now)
     c.args.span.now v 1) (sym best) first
 
 pub returns-then-is_passed-clause-value : goal.returns-then-is_passed-clause-value
@@ -64,6 +64,6 @@ loop-at-preserved c =
     c.loop-at.best c.loop-at.looked so_far high in
     let joined : c.ratchet-best.result.0 ≡ joint c.loop-at.best (answer page span ∷ []) =
     c.ratchet-best.ensures.joint ∙
-    ap (λ (v : OwnedTime). joint c.loop-at.best (v ∷ [])) c.lookup_ref.ensures.value in
-    subst (λ (v : OwnedTime). Looking (pages_of c.args.self.now) (drop (c.loop-at.at + 1) older)
+    ap (λ (v : ValueView). joint c.loop-at.best (v ∷ [])) c.lookup_ref.ensures.value in
+    subst (λ (v : ValueView). Looking (pages_of c.args.self.now) (drop (c.loop-at.at + 1) older)
     span v (c.loop-at.looked + 1)) (sym joined) more

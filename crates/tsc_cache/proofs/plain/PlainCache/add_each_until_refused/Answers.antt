@@ -1,8 +1,8 @@
 -- One mark after another is added.
 use Rattle.std.proofs.Common.{◌∙◌, ◌+◌, sym, ap, subst, arith}
-use Rattle.tsc_page_nodes.specs.Page.{Mark}
+use Rattle.tsc_page_model.specs.Page.{Mark}
 use Rattle.tsc_cache.specs.declared.added.Added.{Added}
-use Rattle.tsc_cache.specs.Settings.{fits}
+use Rattle.tsc_cache.specs.ConfigView.{fits}
 use Rattle.tsc_cache.specs.CacheView.{Adds}
 use Rattle.tsc_cache.proofs.Batches.{IsUnderWay, begun, next_fits, few_dropped, one_more, all_added}
 use Rattle.tsc_cache.proofs.plain.PlainCache.add_each_until_refused.Goals as goal
@@ -16,7 +16,7 @@ add_one_fitting-requires c =
     let next = next_fits c.args.self.now c.loop-mark.self c.args.marks.now c.args.now
     c.loop-mark.added c.loop-mark.mark-index c.mark-item.result c.loop-mark.invariant
     c.loop-mark-test.true (sym c.mark-item.is) in
-    record { fits = ap (λ (m : Mark). fits c.loop-mark.self.settings m.span) c.mark.view_is ∙ next }
+    record { fits = ap (λ (m : Mark). fits c.loop-mark.self.config m.span) c.mark.view_is ∙ next }
 
 pub with-added-requires : goal.with-added-requires
 with-added-requires c =

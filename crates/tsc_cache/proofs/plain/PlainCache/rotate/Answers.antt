@@ -1,7 +1,7 @@
 -- A new page in front, and the pages behind it that stay.
 use Rattle.std.proofs.Common.{◌≡◌, ◌∙◌, refl, sym, ap, subst}
-use Rattle.tsc_page_nodes.specs.Page.{Mark, empty_page}
-use Rattle.tsc_page_nodes.specs.PageView.{PageView, Represents}
+use Rattle.tsc_page_model.specs.Page.{Mark, empty_page}
+use Rattle.tsc_page_model.specs.PageView.{PageView, Represents}
 use Rattle.tsc_cache.specs.Rotation.{RotatesWith, front_marked, saturating_inc}
 use Rattle.tsc_cache.specs.declared.added.Added.{Added}
 use Rattle.tsc_cache.specs.contracts.plain.PlainCache.{the_view}
@@ -24,7 +24,7 @@ returns-clause-rotated c =
     (c.size.ensures.value ∙ ap (λ (p : PageView). p.size) c.front-former.ensures)
     c.cost.ensures.value (c.top.ensures.value ∙
     ap (λ (p : PageView). p.top) c.front-former.ensures)
-    (c.in_ok-add.ensures.told.stands (empty_page c.next_size-size.result c.top.result)
+    (c.in_ok-add.ensures.reported.stands (empty_page c.next_size-size.result c.top.result)
     c.in_ok-front.ensures.stands) in
     let stands = subst (λ (p : PageView). Represents p
     (front_marked c.self.inside.config (plain_pages_of c.self.inside.pages) m)) (sym front_is)

@@ -16,7 +16,7 @@ returns-then-not-is_any_kept c =
     sym c.if-not-is_any_kept.ensures in
     let made : Result Added CacheFault = Ok c.nothing.result in
     let large : IsErrOf made TooLarge ↔
-    (all_fit c.args.self.now.settings c.args.marks.now ≡ false) = search rules in
+    (all_fit c.args.self.now.config c.args.marks.now ≡ false) = search rules in
     record {
       seen = subst (λ (a : Added). AddsAll c.args.self.now c.args.self.now c.args.marks.now
           c.args.now a) (sym c.nothing.ensures)

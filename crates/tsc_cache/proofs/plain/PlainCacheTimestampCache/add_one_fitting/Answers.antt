@@ -1,6 +1,6 @@
 -- What the mark, or the rotation before it, makes of all that can be seen.
 use Rattle.std.proofs.Common.{rules, ◌≡◌, ◌∙◌, sym, ap, subst, true, false}
-use Rattle.tsc_page_nodes.specs.Page.{Mark}
+use Rattle.tsc_page_model.specs.Page.{Mark}
 use Rattle.tsc_cache.specs.contracts.plain.PlainCache.{the_view}
 use Rattle.tsc_cache.specs.State.{is_kept}
 use Rattle.tsc_cache.specs.CacheView.{CacheView, MarksFront, front_has_room_for}
@@ -21,7 +21,7 @@ returns-then-room-clause-seen c =
     c.if-not-keeps.false in
     let room : front_has_room_for c.args.self.now.pages c.args.span.now ≡ true = search rules in
     marks_adds c.args.self.now new m c.args.now c.without_rotation.result kept room
-    (ap (λ (v : CacheView). v.settings) c.self.view_is)
+    (ap (λ (v : CacheView). v.config) c.self.view_is)
     (subst (λ (v : CacheView). MarksFront v.pages new.pages m) c.self.view_is
     c.in_ok-mark_front.ensures.marked)
     (ap (λ (v : CacheView). v.floor) c.self.view_is)
@@ -34,4 +34,4 @@ returns-clause-seen c =
     c.if-not-keeps.false in
     let room : front_has_room_for c.args.self.now.pages c.args.span.now ≡ false = search rules in
     rotated_seen c.rotate.result c.args.self.now c.rotate.new.self m c.args.now kept room
-    c.rotate.ensures.settings c.rotate.ensures.rotated
+    c.rotate.ensures.config c.rotate.ensures.rotated

@@ -5,6 +5,6 @@ use Rattle.tsc_cache.proofs.StatesSeen.{as_many}
 use Rattle.tsc_cache.proofs.plain.PlainCacheTimestampCache.pages.Goals as goal
 
 pub returns-clause-stands : goal.returns-clause-stands
-returns-clause-stands c settings s stands =
+returns-clause-stands c config s stands =
     c.len.ensures ∙ ap (λ (v : CacheView). length v.pages) c.self.view_is ∙
     as_many c.args.self.now.pages s.pages stands.pages

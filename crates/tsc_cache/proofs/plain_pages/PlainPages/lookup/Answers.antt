@@ -1,9 +1,9 @@
 -- One page more.
 use Rattle.std.proofs.Common.{◌≡◌, ◌∙◌, sym, ap, subst, [], ◌∷◌, ◌++◌, take, length, ◌<◌, get_or, List}
 use Rattle.std.proofs.lemmas.List.{take_more}
-use Rattle.tsc_time.specs.OwnedTime.{OwnedTime}
+use Rattle.tsc_time.specs.ValueView.{ValueView}
 use Rattle.tsc_time.specs.Joint.{joint}
-use Rattle.tsc_page_nodes.specs.PageView.{PageView}
+use Rattle.tsc_page_model.specs.PageView.{PageView}
 use Rattle.tsc_cache.specs.Stacks.{pages_answer}
 use Rattle.tsc_cache.proofs.Lookings.{answers-push}
 use Rattle.tsc_cache.proofs.plain_pages.PlainPages.lookup.Goals as goal
@@ -21,8 +21,8 @@ loop-page-preserved c =
     let more = take_more older c.loop-page.page-index c.page-item.result within ∙
     ap (λ (p : PageView). take c.loop-page.page-index older ++ p ∷ []) at in
     c.ratchet-best.ensures.joint
-    ∙ ap (λ (v : OwnedTime). joint v (c.lookup.result ∷ [])) c.loop-page.invariant
-    ∙ ap (λ (v : OwnedTime). joint
+    ∙ ap (λ (v : ValueView). joint v (c.lookup.result ∷ [])) c.loop-page.invariant
+    ∙ ap (λ (v : ValueView). joint
     (pages_answer (c.args.self.now.front ∷ take c.loop-page.page-index older) span) (v ∷ []))
     c.lookup.ensures.value
     ∙ sym (answers-push (c.args.self.now.front ∷ take c.loop-page.page-index older)

@@ -7,7 +7,7 @@ use Rattle.std.proofs.lemmas.Option.{slice_get_read}
 use Rattle.tsc_cache.specs.History.{state_of}
 use Rattle.tsc_cache.specs.CacheView.{RepresentsState}
 use Rattle.tsc_check.specs.Verdict.{is_wrong_answer}
-use Rattle.tsc_check.proofs.Sweeping.{lookup_told, lowers_at, call_there}
+use Rattle.tsc_check.proofs.Sweeping.{lookup_reported, lowers_at, call_there}
 use Rattle.tsc_check.proofs.sweep.OrderedLog.look_up.Goals as goal
 
 pub returns-in-Some : goal.returns-in-Some
@@ -18,12 +18,13 @@ returns-in-Some c = λ front looks stands.
     let at : slice_get lines c.args.i ≡ Some line =
     slice_get_read lines (length lines) c.args.i line refl c.requires.index
     (ap (get_or lines c.args.i) c.index-self-i.is) in
-    let told = lookup_told trace lines c.args.self.now.in_order c.args.i line at c.in-Some.call.now
+    let reported = lookup_reported trace lines c.args.self.now.in_order c.args.i line at
+    c.in-Some.call.now
     (sym c.in-Some.ensures.value) c.is_other_value.result
     (λ h. RepresentsState c.args.cache.now trace.config (state_of trace.config h))
     (λ h s a. c.is_other_value.ensures trace.config h s a) front looks stands in
     lowers_at (is_wrong_answer trace lines) c.args.i c.args.least c.lower.result
-    c.is_other_value.result told c.lower.ensures.at_most c.lower.ensures.one
+    c.is_other_value.result reported c.lower.ensures.at_most c.lower.ensures.one
     c.lower.ensures.lowest
 
 pub returns-in-None : goal.returns-in-None

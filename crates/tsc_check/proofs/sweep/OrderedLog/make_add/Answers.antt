@@ -7,7 +7,7 @@ use Rattle.std.proofs.lemmas.Option.{slice_get_read}
 use Rattle.tsc_cache.specs.History.{state_of}
 use Rattle.tsc_cache.specs.CacheView.{RepresentsState}
 use Rattle.tsc_check.specs.Verdict.{calls_of, first_adds, is_wrong_answer}
-use Rattle.tsc_check.proofs.Sweeping.{add_told, lowers_at, call_there, next_adds}
+use Rattle.tsc_check.proofs.Sweeping.{add_reported, lowers_at, call_there, next_adds}
 use Rattle.tsc_check.proofs.sweep.OrderedLog.make_add.Goals as goal
 
 pub returns-in_ok-is_other_add-in-Some-clause-lowers :
@@ -20,12 +20,13 @@ returns-in_ok-is_other_add-in-Some-clause-lowers c = λ place adds stands.
     slice_get_read lines (length lines) c.args.i line refl c.requires.index
     (ap (get_or lines c.args.i) c.index-self-i.is) in
     let other = c.in_ok-is_other_add-in-Some.field-0 in
-    let told = add_told trace lines c.args.self.now.in_order c.args.i line at c.in-Some.call.now
+    let reported = add_reported trace lines c.args.self.now.in_order c.args.i line at
+    c.in-Some.call.now
     (sym c.in-Some.ensures.value) other
     (λ h. RepresentsState c.args.cache.now trace.config (state_of trace.config h))
     (λ h s a k. c.in_ok-is_other_add-in-Some.ensures.other trace.config h s a k) place adds
     stands in
-    lowers_at (is_wrong_answer trace lines) c.args.i c.args.least c.lower.result other told
+    lowers_at (is_wrong_answer trace lines) c.args.i c.args.least c.lower.result other reported
     c.lower.ensures.at_most c.lower.ensures.one c.lower.ensures.lowest
 
 pub returns-in_ok-is_other_add-in-Some-clause-stands :

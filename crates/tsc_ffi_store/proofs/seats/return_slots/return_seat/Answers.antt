@@ -3,7 +3,7 @@ use Rattle.std.proofs.Common.{◌∙◌, arith, Some}
 use mathlib.Core.Option as maybe
 use Rattle.atomic_table.specs.Table.{step}
 use Rattle.tsc_ffi_store.specs.Kinds.{number_of}
-use Rattle.tsc_ffi_store.proofs.Returning.{take_slot_at, return_seat_at, picked, in_hand, laid, came_home}
+use Rattle.tsc_ffi_store.proofs.Returning.{take_slot_at, return_seat_at, picked, in_hand, put_back, came_home}
 use Rattle.tsc_ffi_store.proofs.seats.return_slots.return_seat.Goals as goal
 
 pub load-requires : goal.load-requires
@@ -41,7 +41,7 @@ store-requires c =
           (step c.args.slots.now.table_id.slots c.number-number.result 1 0 maybe.none)
           c.exchange.new.seat.id c.number-number.result c.args.seat
           c.exchange.new.seat.me
-          (laid (number_of c.args.seat) c.number-number.result now.0 (Some c.args.seat)
+          (put_back (number_of c.args.seat) c.number-number.result now.0 (Some c.args.seat)
           c.load.new.seat.me c.exchange.new.seat.me now.1 c.number-number.ensures.value
           c.exchange.ensures.3) c.number-number.ensures.value c.requires.low c.requires.cache,
     )
@@ -52,6 +52,6 @@ returns-clause-came c =
     (number_of c.args.seat) c.load.result c.args.at.me c.load.new.seat.me c.requires.token.1
     c.load.ensures.2 in
     came_home (number_of c.args.seat) c.number-number.result c.args.seat c.exchange.new.seat.me
-    c.store.new.seat.me (laid (number_of c.args.seat) c.number-number.result now.0 (Some c.args.seat)
+    c.store.new.seat.me (put_back (number_of c.args.seat) c.number-number.result now.0 (Some c.args.seat)
     c.load.new.seat.me c.exchange.new.seat.me now.1 c.number-number.ensures.value
     c.exchange.ensures.3) c.store.ensures.2

@@ -35,7 +35,7 @@ swap_if_same_spec 𝓤 𝓛 𝓜 𝓡 wired T U _ _ =
     fsep (flft κs.1.1.0 qs.1.1.0) (fsep (flft κs.1.1.1.0 qs.1.1.1.0) ftrue) in
     elim (one_table h.table_id k.table_id) [
       | inl same ↦ (
-          let Told : Type 0 = SwapsIfSame h k k h in
+          let Reported : Type 0 = SwapsIfSame h k k h in
           qed 𝓛 (((‵ (flft κs.0 qs.0) ⊛ ‵ (flft κs.1.0 qs.1.0) ⊛ ‵ others) ⊛
           ‵ (owns (types_at En.signature.params κs) a y.0.4)) ∷ raw ((c κs a).requires gh) ∷ []) ∵
           split ! $ split3 ! $ move ! (3 ∷ []) $ fsplit3 ! $ fsplit3 ! $ move ! (3 ∷ []) $
@@ -53,13 +53,13 @@ swap_if_same_spec 𝓤 𝓛 𝓜 𝓡 wired T U _ _ =
           nothing ! $ move ! (1 ∷ 0 ∷ []) $ fjoin ! $ move ! (2 ∷ 0 ∷ []) $ fjoin ! $
           move ! (1 ∷ 3 ∷ []) $ join ! $ move ! (2 ∷ 0 ∷ []) $ join ! $
           sets ! (of_opd ! (unit_lit !)) refl (tt, tt) $
-          use0 𝓛 (raw (fact 𝓤 Told)) (fact_i 𝓤 Told (emp 𝓤) (inl (same, refl, refl))) $
+          use0 𝓛 (raw (fact 𝓤 Reported)) (fact_i 𝓤 Reported (emp 𝓤) (inl (same, refl, refl))) $
           feq_i ! (List Val) (vunit ∷ []) (vunit ∷ []) refl $
           returns ! (look_at ! 0 refl) $ free_all ! refl $ keep ! (2 ∷ 3 ∷ 0 ∷ 1 ∷ []) $
           by ! (leaves 𝓛 En hs c y vunit tt (k, (h, tt)) (tt, (tt, tt))))))
           )
       | inr apart ↦ (
-          let Told : Type 0 = SwapsIfSame h k h k in
+          let Reported : Type 0 = SwapsIfSame h k h k in
           qed 𝓛 (((‵ (flft κs.0 qs.0) ⊛ ‵ (flft κs.1.0 qs.1.0) ⊛ ‵ others) ⊛
           ‵ (owns (types_at En.signature.params κs) a y.0.4)) ∷ raw ((c κs a).requires gh) ∷ []) ∵
           split ! $ split3 ! $ move ! (3 ∷ []) $ fsplit3 ! $ fsplit3 ! $ move ! (3 ∷ []) $
@@ -77,7 +77,7 @@ swap_if_same_spec 𝓤 𝓛 𝓜 𝓡 wired T U _ _ =
           nothing ! $ move ! (1 ∷ 0 ∷ []) $ fjoin ! $ move ! (2 ∷ 0 ∷ []) $ fjoin ! $
           move ! (1 ∷ 3 ∷ []) $ join ! $ move ! (2 ∷ 0 ∷ []) $ join ! $
           sets ! (of_opd ! (unit_lit !)) refl (tt, tt) $
-          use0 𝓛 (raw (fact 𝓤 Told)) (fact_i 𝓤 Told (emp 𝓤) (inr (apart, refl, refl))) $
+          use0 𝓛 (raw (fact 𝓤 Reported)) (fact_i 𝓤 Reported (emp 𝓤) (inr (apart, refl, refl))) $
           feq_i ! (List Val) (vunit ∷ []) (vunit ∷ []) refl $
           returns ! (look_at ! 0 refl) $ free_all ! refl $ keep ! (2 ∷ 3 ∷ 0 ∷ 1 ∷ []) $
           by ! (leaves 𝓛 En hs c y vunit tt (h, (k, tt)) (tt, (tt, tt))))))

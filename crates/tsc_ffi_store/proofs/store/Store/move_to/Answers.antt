@@ -1,6 +1,6 @@
 -- What is moved stands behind all that there is in the other store.
 use Rattle.std.proofs.Common.{◌≡◌, ◌∙◌, refl, sym, inl, inr, length, true, arith, rules}
-use Rattle.tsc_ffi_store.proofs.Laying.{long_as_next, laid_open, laid_named, lays_on}
+use Rattle.tsc_ffi_store.proofs.PushedSlots.{long_as_next, pushed_open, pushed_named, pushes_on}
 use Rattle.tsc_ffi_store.proofs.store.Store.move_to.Goals as goal
 
 pub returns-then-other-clause-answers : goal.returns-then-other-clause-answers
@@ -26,12 +26,13 @@ returns-then-is_err-clause-answers c =
 
 pub invariant_of-other-2 : goal.invariant_of-other-2
 invariant_of-other-2 c =
-    laid_open c.in-Some.slot c.other.inside.handles.items c.other.inside.slots.items
-    c.other.inside.next c.lay.new.handles.items c.lay.new.slots.items c.lay.new.next
-    c.other.invariant (lays_on c.in-Some.slot c.other.inside.handles.items
+    pushed_open c.in-Some.slot c.other.inside.handles.items c.other.inside.slots.items
+    c.other.inside.next c.push_slot.new.handles.items c.push_slot.new.slots.items
+    c.push_slot.new.next c.other.invariant (pushes_on c.in-Some.slot c.other.inside.handles.items
     c.reserve.new.self.items c.other.inside.slots.items c.reserve-else-is_err.new.self.items
-    c.other.inside.next c.lay.new.handles.items c.lay.new.slots.items c.lay.new.next
-    c.reserve.ensures.items c.reserve-else-is_err.ensures.items c.lay.ensures.laid)
+    c.other.inside.next c.push_slot.new.handles.items c.push_slot.new.slots.items
+    c.push_slot.new.next
+    c.reserve.ensures.items c.reserve-else-is_err.ensures.items c.push_slot.ensures.pushed)
 
 pub returns-clause-answers : goal.returns-clause-answers
 returns-clause-answers c = record {
@@ -40,13 +41,14 @@ returns-clause-answers c = record {
     held = c.in-Some.ensures.taken.0;
     open_ = c.in-Some.ensures.taken.1;
     left = c.forget.ensures ∙ c.in-Some.ensures.taken.2;
-    came = laid_named c.in-Some.slot c.other.inside.handles.items c.other.inside.slots.items
-        c.other.inside.next c.lay.new.handles.items c.lay.new.slots.items c.lay.new.next
-        c.args.other.now c.other.invariant c.other.view_is (lays_on c.in-Some.slot
+    came = pushed_named c.in-Some.slot c.other.inside.handles.items c.other.inside.slots.items
+        c.other.inside.next c.push_slot.new.handles.items c.push_slot.new.slots.items
+        c.push_slot.new.next
+        c.args.other.now c.other.invariant c.other.view_is (pushes_on c.in-Some.slot
         c.other.inside.handles.items c.reserve.new.self.items c.other.inside.slots.items
-        c.reserve-else-is_err.new.self.items c.other.inside.next c.lay.new.handles.items
-        c.lay.new.slots.items c.lay.new.next c.reserve.ensures.items
-        c.reserve-else-is_err.ensures.items c.lay.ensures.laid);
+        c.reserve-else-is_err.new.self.items c.other.inside.next c.push_slot.new.handles.items
+        c.push_slot.new.slots.items c.push_slot.new.next c.reserve.ensures.items
+        c.reserve-else-is_err.ensures.items c.push_slot.ensures.pushed);
     next = sym (long_as_next c.other.inside.handles.items c.other.inside.slots.items
         c.other.inside.next c.args.other.now c.other.view_is);
   };

@@ -3,14 +3,14 @@ use Rattle.std.proofs.Common.{◌≡◌, ◌∙◌, ◌++◌, ◌∷◌, ap, sym
 use Rattle.tsc_ffi_store.specs.declared.store.Slot.{Slot}
 use Rattle.tsc_ffi_store.specs.declared.store.Slot.TheVariants.{Shared, Seat}
 use Rattle.tsc_ffi_store.specs.SeatCalls.{unasked}
-use Rattle.tsc_ffi_store.proofs.Laying.{long_as_next}
+use Rattle.tsc_ffi_store.proofs.PushedSlots.{long_as_next}
 use Rattle.tsc_ffi_store.specs.Kinds.{new_any_seats}
 use Rattle.tsc_shared.specs.Seats.{is_seat_count}
 use Rattle.tsc_ffi_store.proofs.NewSeats.{new_handles_long, slots_of_seats}
 use Rattle.tsc_ffi_store.proofs.store.Store.open_shared.Goals as goal
 
-pub put-requires-clause-laid : goal.put-requires-clause-laid
-put-requires-clause-laid c =
+pub put-requires-clause-are_open : goal.put-requires-clause-are_open
+put-requires-clause-are_open c =
     rw (c.reserve.ensures.items, c.reserve-else-is_err.ensures.items) c.self.invariant
 
 pub put-requires-clause-room : goal.put-requires-clause-room

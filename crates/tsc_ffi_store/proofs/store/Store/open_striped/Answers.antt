@@ -14,7 +14,7 @@ use Rattle.tsc_ffi_store.specs.SeatCalls.{unasked}
 use Rattle.tsc_ffi_store.specs.StripedCalls.{IsOpenCode, RefusesOpenStriped}
 use Rattle.tsc_ffi_store.specs.Kinds.{new_any_seats}
 use Rattle.tsc_ffi_store.proofs.BoundsCut.{no_memory}
-use Rattle.tsc_ffi_store.proofs.Laying.{long_as_next}
+use Rattle.tsc_ffi_store.proofs.PushedSlots.{long_as_next}
 use Rattle.tsc_ffi_store.proofs.NewSeats.{new_handles_long, slots_of_seats}
 use Rattle.tsc_ffi_store.proofs.store.Store.open_striped.Goals as goal
 
@@ -52,7 +52,7 @@ returns-in-Err-clause-refused c =
       refused = inr (record {
         bounds = c.in_ok-bounds.bounds.items;
         named = c.in_ok-bounds.ensures.value;
-        told = subst (λ (f : OpenFault). IsOpenCode f c.of_open_fault.result)
+        reported = subst (λ (f : OpenFault). IsOpenCode f c.of_open_fault.result)
             c.in-Err.ensures.refused c.of_open_fault.ensures;
       });
     }))
@@ -70,7 +70,7 @@ returns-then-is_err-clause-refused c =
       refused = inr (record {
         bounds = c.in_ok-bounds.bounds.items;
         named = c.in_ok-bounds.ensures.value;
-        told = subst (λ (f : OpenFault). IsOpenCode f refusal.NoMemory)
+        reported = subst (λ (f : OpenFault). IsOpenCode f refusal.NoMemory)
             (no_memory c.args.config c.args.seats c.in_ok-bounds.bounds.items
             (subst (λ (t : Terms). IsSettled t) opened.terms opened.settled)) refl;
       });

@@ -2,25 +2,25 @@
 use Rattle.std.proofs.Common.{◌∙◌, sym, ap, subst}
 use Rattle.std.specs.Ordering.{ord_max}
 use Rattle.tsc_time.specs.Time.{time_cmp, later}
-use Rattle.tsc_time.specs.OwnedTime.{OwnedTime}
+use Rattle.tsc_time.specs.ValueView.{ValueView}
 use Rattle.tsc_time.specs.declared.memory.NoMemory.{NoMemory}
 use Rattle.tsc_span.specs.Span.{between}
-use Rattle.tsc_page_nodes.specs.PageView.{PageView}
-use Rattle.tsc_page_nodes.specs.PageAdds.{AddsMark}
+use Rattle.tsc_page_model.specs.PageView.{PageView}
+use Rattle.tsc_page_model.specs.PageAdds.{AddsMark}
 use Rattle.tsc_page_nodes.specs.Nodes.{page_of}
-use Rattle.tsc_page_nodes.proofs.Standing.{later-max}
-use Rattle.tsc_page_nodes.proofs.PageAdds.{adds_as}
+use Rattle.tsc_page_model.proofs.Standing.{later-max}
+use Rattle.tsc_page_model.proofs.PageAdds.{adds_as}
 use Rattle.tsc_page.proofs.PageAdds.{page_adds, page_covers}
-use Rattle.tsc_page.proofs.TreeLists.{was_tried}
+use Rattle.tsc_page_tree.proofs.TreeLists.{was_tried}
 use Rattle.tsc_page.proofs.page.Page.add_in_place.Goals as goal
 
 pub invariant_of-self-2 : goal.invariant_of-self-2
 invariant_of-self-2 c =
     let inserts = was_tried NoMemory _ c.self.inside.tree c.insert_in_place.new.self c.in-Some-new.add
-    c.self.inside.size c.if-not-branch.false c.in_ok-insert_in_place.ensures.told in
+    c.self.inside.size c.if-not-branch.false c.in_ok-insert_in_place.ensures.reported in
     let is = c.max-self-inside.ensures ∙ ap (ord_max time_cmp c.self.inside.top) c.time.ensures ∙
     later-max c.self.inside.top c.args.value.time ∙
-    ap (λ (v : OwnedTime). later c.self.inside.top v.time) (sym c.in-Some-new.ensures.1) in (
+    ap (λ (v : ValueView). later c.self.inside.top v.time) (sym c.in-Some-new.ensures.1) in (
       inserts.known,
       inserts.within,
       c.self.invariant.2,
@@ -32,10 +32,10 @@ invariant_of-self-2 c =
 pub returns : goal.returns
 returns c =
     let inserts = was_tried NoMemory _ c.self.inside.tree c.insert_in_place.new.self c.in-Some-new.add
-    c.self.inside.size c.if-not-branch.false c.in_ok-insert_in_place.ensures.told in
+    c.self.inside.size c.if-not-branch.false c.in_ok-insert_in_place.ensures.reported in
     let is = c.max-self-inside.ensures ∙ ap (ord_max time_cmp c.self.inside.top) c.time.ensures ∙
     later-max c.self.inside.top c.args.value.time ∙
-    ap (λ (v : OwnedTime). later c.self.inside.top v.time) (sym c.in-Some-new.ensures.1) in
+    ap (λ (v : ValueView). later c.self.inside.top v.time) (sym c.in-Some-new.ensures.1) in
     let adds = page_adds c.self.inside.size c.self.inside.top c.max-self-inside.result
     c.self.inside.tree c.insert_in_place.new.self c.in-Some-new.add inserts is in
     record {

@@ -4,28 +4,28 @@ use Rattle.std.specs.Ordering.{ord_max}
 use Rattle.tsc_time.specs.Time.{time_cmp, later}
 use Rattle.tsc_time.specs.declared.memory.NoMemory.{NoMemory}
 use Rattle.tsc_span.specs.Span.{point}
-use Rattle.tsc_page_nodes.specs.Limits.{least_size, most_size}
-use Rattle.tsc_page_nodes.specs.PageView.{PageView, NoAnswerAboveTop}
-use Rattle.tsc_page_nodes.specs.PageAdds.{AddsMark}
+use Rattle.tsc_page_model.specs.Limits.{least_size, most_size}
+use Rattle.tsc_page_model.specs.PageView.{PageView, NoAnswerAboveTop}
+use Rattle.tsc_page_model.specs.PageAdds.{AddsMark}
 use Rattle.tsc_page_nodes.specs.KeyAdds.{KeyInsertionView}
 use Rattle.tsc_page_nodes.specs.Nodes.{page_of}
 use Rattle.tsc_page_tree.specs.KeyAdds.{at_key}
-use Rattle.tsc_page.specs.Roots.{TreeView, IsKnown}
-use Rattle.tsc_page_nodes.proofs.Standing.{later-max}
+use Rattle.tsc_page_tree.specs.Roots.{TreeView, IsKnown}
+use Rattle.tsc_page_model.proofs.Standing.{later-max}
 use Rattle.tsc_page.proofs.PageAdds.{page_adds, page_covers}
-use Rattle.tsc_page.proofs.TreeLists.{was_tried, was_not}
+use Rattle.tsc_page_tree.proofs.TreeLists.{was_tried, was_not}
 use Rattle.tsc_page.proofs.page.Page.add_key.Goals as goal
 
 pub invariant_of-self : goal.invariant_of-self
 invariant_of-self c = subst (λ (t : TreeView). IsKnown t × (t.bytes ≤ c.self.inside.size) ×
     (least_size ≤ c.self.inside.size) × (c.self.inside.size ≤ most_size) ×
     NoAnswerAboveTop (page_of c.self.inside.size c.self.inside.top t.nodes t.sizes))
-    (sym c.in_err-add_key.ensures.told) c.self.invariant
+    (sym c.in_err-add_key.ensures.reported) c.self.invariant
 
 pub invariant_of-self-then-not-branch : goal.invariant_of-self-then-not-branch
 invariant_of-self-then-not-branch c = let same =
     was_not NoMemory _ c.self.inside.tree c.add_key.new.self (at_key c.new.result)
-    c.self.inside.size c.if-not-branch.true c.in_ok-add_key.ensures.told
+    c.self.inside.size c.if-not-branch.true c.in_ok-add_key.ensures.reported
     in subst (λ (t : TreeView). IsKnown t × (t.bytes ≤ c.self.inside.size) ×
     (least_size ≤ c.self.inside.size) × (c.self.inside.size ≤ most_size) ×
     NoAnswerAboveTop (page_of c.self.inside.size c.self.inside.top t.nodes t.sizes)) (sym same)
@@ -34,7 +34,7 @@ invariant_of-self-then-not-branch c = let same =
 pub invariant_of-self-2 : goal.invariant_of-self-2
 invariant_of-self-2 c =
     let inserts = was_tried NoMemory _ c.self.inside.tree c.add_key.new.self (at_key c.new.result)
-    c.self.inside.size c.if-not-branch.false c.in_ok-add_key.ensures.told in
+    c.self.inside.size c.if-not-branch.false c.in_ok-add_key.ensures.reported in
     let is = c.max-self-inside.ensures ∙ ap (ord_max time_cmp c.self.inside.top) c.time.ensures ∙
     later-max c.self.inside.top c.args.value.time ∙
     ap (λ (d : KeyInsertionView). later c.self.inside.top d.value.time) (sym c.new.ensures) in (
@@ -49,7 +49,7 @@ invariant_of-self-2 c =
 pub returns : goal.returns
 returns c =
     let inserts = was_tried NoMemory _ c.self.inside.tree c.add_key.new.self (at_key c.new.result)
-    c.self.inside.size c.if-not-branch.false c.in_ok-add_key.ensures.told in
+    c.self.inside.size c.if-not-branch.false c.in_ok-add_key.ensures.reported in
     let is = c.max-self-inside.ensures ∙ ap (ord_max time_cmp c.self.inside.top) c.time.ensures ∙
     later-max c.self.inside.top c.args.value.time ∙
     ap (λ (d : KeyInsertionView). later c.self.inside.top d.value.time) (sym c.new.ensures) in

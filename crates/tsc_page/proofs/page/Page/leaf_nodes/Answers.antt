@@ -1,8 +1,8 @@
 -- The sizes of a page's leaves.
 use Rattle.std.proofs.Common.{◌∙◌, sym, ap, subst}
 use Rattle.std.specs.Prelude.{sum, slice_get}
-use Rattle.tsc_page_nodes.specs.Page.{count_distinct}
-use Rattle.tsc_page_nodes.specs.PageView.{PageView, AreLeafSizes}
+use Rattle.tsc_page_model.specs.Page.{count_distinct}
+use Rattle.tsc_page_model.specs.PageView.{PageView, AreLeafSizes}
 use Rattle.tsc_page_nodes.proofs.Standing.{count_of_nodes}
 use Rattle.tsc_page.proofs.page.Page.leaf_nodes.Goals as goal
 

@@ -1,7 +1,7 @@
 -- Nothing overlaps the empty span.
 use Rattle.std.proofs.Common.{◌∙◌, sym, ap}
-use Rattle.tsc_page_nodes.specs.PageView.{answer}
-use Rattle.tsc_page_nodes.proofs.Standing.{nothing_answered}
+use Rattle.tsc_page_model.specs.PageView.{answer}
+use Rattle.tsc_page_model.proofs.Standing.{nothing_answered}
 use Rattle.tsc_page.proofs.page.Page.lookup_ref.Goals as goal
 
 pub returns-in-None-clause-value : goal.returns-in-None-clause-value

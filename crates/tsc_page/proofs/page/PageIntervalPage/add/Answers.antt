@@ -5,14 +5,14 @@ use Rattle.tsc_page.proofs.page.PageIntervalPage.add.Goals as goal
 pub returns : goal.returns
 returns c =
     let has = c.in_ok-try_add.ensures.room ∙ c.requires.room in
-    let told = c.in_ok-try_add.ensures.told in
+    let reported = c.in_ok-try_add.ensures.reported in
     record {
-      told = record {
-        stands = told.stands has;
-        size = told.size;
-        top = told.top has;
-        keys = told.keys has;
-        answers = told.answers has;
+      reported = record {
+        stands = reported.stands has;
+        size = reported.size;
+        top = reported.top has;
+        keys = reported.keys has;
+        answers = reported.answers has;
         unchanged = tt;
       };
     }

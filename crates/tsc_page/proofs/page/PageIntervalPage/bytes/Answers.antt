@@ -1,8 +1,9 @@
 -- Sorted nodes have each key once.
 use Rattle.std.proofs.Common.{◌∙◌, sym, ap}
 use Rattle.tsc_span.specs.Span.{key_cost}
-use Rattle.tsc_page_nodes.specs.PageView.{bytes_of}
-use Rattle.tsc_page_nodes.proofs.Standing.{weigh_of_nodes, same_bytes}
+use Rattle.tsc_page_model.specs.PageView.{bytes_of}
+use Rattle.tsc_page_nodes.proofs.Standing.{weigh_of_nodes}
+use Rattle.tsc_page_model.proofs.Standing.{same_bytes}
 use Rattle.tsc_page.proofs.page.PageIntervalPage.bytes.Goals as goal
 
 value : goal.returns-clause-value

@@ -1,10 +1,10 @@
 -- Nothing is later than time zero on a page without nodes, and it costs nothing.
 use Rattle.std.proofs.Common.{sym, subst, ◌≤◌, arith, refl}
-use Rattle.tsc_page_nodes.specs.Limits.{least_size, most_size}
-use Rattle.tsc_page_nodes.specs.PageView.{NoAnswerAboveTop}
+use Rattle.tsc_page_model.specs.Limits.{least_size, most_size}
+use Rattle.tsc_page_model.specs.PageView.{NoAnswerAboveTop}
 use Rattle.tsc_page_nodes.specs.Nodes.{page_of}
 use Rattle.tsc_page_nodes.proofs.Tops.{none_covers}
-use Rattle.tsc_page.specs.Roots.{TreeView, IsKnown}
+use Rattle.tsc_page_tree.specs.Roots.{TreeView, IsKnown}
 use Rattle.tsc_page.proofs.page.PageIntervalPage.new.Goals as goal
 
 pub invariant_of-result : goal.invariant_of-result

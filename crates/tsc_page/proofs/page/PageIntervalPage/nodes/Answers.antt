@@ -1,8 +1,9 @@
 -- Sorted nodes have as many different keys as there are nodes.
 use Rattle.std.proofs.Common.{◌∙◌, sym, ap, arith}
-use Rattle.tsc_page_nodes.specs.Page.{count_distinct}
-use Rattle.tsc_page_nodes.specs.PageView.{PageView}
-use Rattle.tsc_page_nodes.proofs.Standing.{count_of_nodes, same_count}
+use Rattle.tsc_page_model.specs.Page.{count_distinct}
+use Rattle.tsc_page_model.specs.PageView.{PageView}
+use Rattle.tsc_page_nodes.proofs.Standing.{count_of_nodes}
+use Rattle.tsc_page_model.proofs.Standing.{same_count}
 use Rattle.tsc_page_nodes.proofs.Costs.{node_costs}
 use Rattle.tsc_page.proofs.page.PageIntervalPage.nodes.Goals as goal
 

@@ -1,8 +1,8 @@
 -- What is told of a span over keys that lie elsewhere.
 use Rattle.std.proofs.Common.{◌∙◌, ap, subst}
-use Rattle.tsc_span.specs.Span.{Interval, is_empty_span}
-use Rattle.tsc_page_nodes.specs.PageAdds.{IsMarkTold}
-use Rattle.tsc_page_nodes.proofs.PageAdds.{told_room, told_try}
+use Rattle.tsc_span.specs.Span.{SpanView, is_empty_span}
+use Rattle.tsc_page_model.specs.PageAdds.{IsMarkReported}
+use Rattle.tsc_page_model.proofs.PageAdds.{reported_room, reported_try}
 use Rattle.tsc_page.proofs.page.PageIntervalPage.try_add.Goals as goal
 
 pub add_span-requires : goal.add_span-requires
@@ -12,11 +12,13 @@ add_span-requires c = record {
 }
 
 pub returns-clause-room : goal.returns-clause-room
-returns-clause-room c = told_room c.args.self.now c.add_span.new.self c.args.span.now c.args.value
-    c.add_span.result (subst (λ (s : Interval). IsMarkTold c.args.self.now c.add_span.new.self s
-    c.args.value c.add_span.result) c.for_add.ensures c.add_span.ensures.told)
+returns-clause-room c = reported_room c.args.self.now c.add_span.new.self c.args.span.now
+    c.args.value
+    c.add_span.result (subst (λ (s : SpanView). IsMarkReported c.args.self.now c.add_span.new.self s
+    c.args.value c.add_span.result) c.for_add.ensures c.add_span.ensures.reported)
 
-pub returns-clause-told : goal.returns-clause-told
-returns-clause-told c = told_try c.args.self.now c.add_span.new.self c.args.span.now c.args.value
-    c.add_span.result (subst (λ (s : Interval). IsMarkTold c.args.self.now c.add_span.new.self s
-    c.args.value c.add_span.result) c.for_add.ensures c.add_span.ensures.told)
+pub returns-clause-reported : goal.returns-clause-reported
+returns-clause-reported c = reported_try c.args.self.now c.add_span.new.self c.args.span.now
+    c.args.value
+    c.add_span.result (subst (λ (s : SpanView). IsMarkReported c.args.self.now c.add_span.new.self s
+    c.args.value c.add_span.result) c.for_add.ensures c.add_span.ensures.reported)

@@ -1,7 +1,7 @@
 -- A key that has a node is raised where it stands.
 use Rattle.std.proofs.Common.{◌≡◌, ◌∙◌, ◌<◌, sym, ap, subst, ℕ, List, [], ◌∷◌, length, get_or, arith}
 use Rattle.std.specs.Arc.{arc_value}
-use Rattle.tsc_time.specs.OwnedTime.{OwnedTime}
+use Rattle.tsc_time.specs.ValueView.{ValueView}
 use Rattle.tsc_time.specs.Joint.{joint}
 use Rattle.tsc_span.specs.Span.{KeyBytes, point}
 use Rattle.tsc_page_nodes.specs.declared.nodes.Values.{Values}
@@ -29,8 +29,8 @@ index_mut-requires c =
 pub returns-in-Ok : goal.returns-in-Ok
 returns-in-Ok c =
     let k : KeyBytes = c.args.add.now.key in
-    let v : OwnedTime = c.args.add.now.value in
-    let i : ℕ = c.in-Ok.place in
+    let v : ValueView = c.args.add.now.value in
+    let i : ℕ = c.in-Ok.index in
     let ns : List Node = c.args.self.now in
     let ks : List KeyBytes = (arc_value c.self.inside.keys).items in
     let vs : List Values = c.self.inside.values.items in
@@ -45,19 +45,19 @@ returns-in-Ok c =
     let d : Values = c.index_mut.result.now in
     let written : d ≡ get_or vs i d = c.index_mut.ensures.value in
     let value : c.raise.new.self ≡ joint (get_or vs i d).value (v ∷ []) = c.raise.ensures.joint ∙
-    ap (λ (w : OwnedTime). joint d.value (w ∷ [])) c.value.ensures ∙
+    ap (λ (w : ValueView). joint d.value (w ∷ [])) c.value.ensures ∙
     ap (λ (w : Values). joint w.value (v ∷ [])) written in
-    let is = with_both (λ (w : Values) (u : OwnedTime). record { value = u; gap = w.gap }) written
+    let is = with_both (λ (w : Values) (u : ValueView). record { value = u; gap = w.gap }) written
     value in
     let raised = raised_there ks vs k i v _ d c.self.invariant.same sorted here within is ∙
     ap (raise_nodes (point k) v) c.self.view_is in
-    record { told = known_added ns _ k v i c.args.room (subst IsSorted c.self.view_is c.self.invariant.sorted) stands raised }
+    record { reported = known_added ns _ k v i c.args.room (subst IsSorted c.self.view_is c.self.invariant.sorted) stands raised }
 
 pub invariant_of-self : goal.invariant_of-self
 invariant_of-self c =
     let k : KeyBytes = c.args.add.now.key in
-    let v : OwnedTime = c.args.add.now.value in
-    let i : ℕ = c.in-Ok.place in
+    let v : ValueView = c.args.add.now.value in
+    let i : ℕ = c.in-Ok.index in
     let ns : List Node = c.args.self.now in
     let ks : List KeyBytes = (arc_value c.self.inside.keys).items in
     let vs : List Values = c.self.inside.values.items in
@@ -72,9 +72,9 @@ invariant_of-self c =
     let d : Values = c.index_mut.result.now in
     let written : d ≡ get_or vs i d = c.index_mut.ensures.value in
     let value : c.raise.new.self ≡ joint (get_or vs i d).value (v ∷ []) = c.raise.ensures.joint ∙
-    ap (λ (w : OwnedTime). joint d.value (w ∷ [])) c.value.ensures ∙
+    ap (λ (w : ValueView). joint d.value (w ∷ [])) c.value.ensures ∙
     ap (λ (w : Values). joint w.value (v ∷ [])) written in
-    let is = with_both (λ (w : Values) (u : OwnedTime). record { value = u; gap = w.gap }) written
+    let is = with_both (λ (w : Values) (u : ValueView). record { value = u; gap = w.gap }) written
     value in
     paired_raised ks _ (point k) v (paired ks vs)
     (c.self.invariant.same ∙

@@ -5,7 +5,7 @@ use Rattle.tsc_time.specs.declared.memory.NoMemory.{NoMemory}
 use Rattle.tsc_span.specs.Span.{KeyBytes, between}
 use Rattle.tsc_page_nodes.specs.declared.nodes.Growth.{Growth}
 use Rattle.tsc_page_nodes.specs.Nodes.{Node, IsNewKey, with_new, raise_nodes, nodes_cost, IsSorted}
-use Rattle.tsc_page_nodes.specs.Insertions.{InsertionView, AreReady, AddsWithin, IsTold}
+use Rattle.tsc_page_nodes.specs.Insertions.{InsertionView, AreReady, AddsWithin, IsReported}
 use Rattle.tsc_page_nodes.proofs.Apart.{kept_pair}
 use Rattle.tsc_page_nodes.proofs.Edits.{raise_nodes-length}
 use Rattle.tsc_page_nodes.proofs.Costs.{cost-raised, cost-made}
@@ -14,11 +14,11 @@ use Rattle.tsc_page_nodes.proofs.PairedOrder.{paired_raised}
 use Rattle.tsc_page_nodes.proofs.nodes.Nodes.insert_across.Goals as goal
 
 -- what is told where something comes in
-lower_told : (E : Type 0) (old new : List Node) (a : InsertionView) (room : Growth)
-    (o : Option Growth) (more : Growth) → o ≡ Some more → IsTold {E = E} old new a room (Ok o) →
+lower_reported : (E : Type 0) (old new : List Node) (a : InsertionView) (room : Growth)
+    (o : Option Growth) (more : Growth) → o ≡ Some more → IsReported {E = E} old new a room (Ok o) →
     AddsWithin old new a room more
-lower_told E old new a room o more is told =
-    subst (λ (q : Option Growth). IsTold {E = E} old new a room (Ok q)) is told
+lower_reported E old new a room o more is reported =
+    subst (λ (q : Option Growth). IsReported {E = E} old new a room (Ok q)) is reported
 
 pub insert_between-requires-clause-ready : goal.insert_between-requires-clause-ready
 insert_between-requires-clause-ready c =
@@ -62,12 +62,12 @@ returns c =
     c.stops.invariant.3 c.in_ok-new.ensures.first c.in_ok-new.ensures.second in
     let lower : AddsWithin c.args.low.now c.insert_in_place.new.self c.args.starts.now
     (record { nodes = 1; bytes = c.args.room - c.grown-made.result.bytes }) c.in-Some-2.more =
-    lower_told NoMemory c.args.low.now c.insert_in_place.new.self c.args.starts.now
+    lower_reported NoMemory c.args.low.now c.insert_in_place.new.self c.args.starts.now
     (record { nodes = 1; bytes = c.args.room - c.grown-made.result.bytes }) _ c.in-Some-2.more
-    c.in-Some-2.is c.in_ok-more.ensures.told in
+    c.in-Some-2.is c.in_ok-more.ensures.reported in
     let one : 1 ≤ 1 = omega arith in
     record {
-      told = record {
+      reported = record {
         more_low = c.in-Some-2.more;
         more_high = c.grown-made.result;
         adds_low = record {

@@ -19,7 +19,7 @@ returns-then-made-eq0 c =
     let g = c.in_ok-new.new.second in
     let none = none_in ns h g (omega (arith, c.grown-made.ensures.nodes, c.if-made-eq0.true)) in
     record {
-      told = subst (λ (b : InsertionView). AddsWithin ns c.raise_hinted.new.self b c.args.room
+      reported = subst (λ (b : InsertionView). AddsWithin ns c.raise_hinted.new.self b c.args.room
           (record { nodes = 0; bytes = 0 })) c.add.view_is (record {
             adds = record {
               mid = ns;
@@ -100,7 +100,7 @@ returns c =
     let made = made_length ns o q h g (subst IsSorted c.self.view_is c.self.invariant.sorted) c.add.invariant.3 c.in_ok-new.ensures.first
     c.in_ok-new.ensures.second in
     record {
-      told = record {
+      reported = record {
         adds = record {
           mid = both;
           made = record {

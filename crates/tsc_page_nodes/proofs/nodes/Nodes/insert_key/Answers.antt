@@ -18,10 +18,10 @@ returns c =
     (ap (λ v. v.items) c.in-Some.ensures.value) refl c.self.view_is in
     let added = c.in_ok-insert.ensures.added ∙
     ap (λ (ms : List Node). raise_nodes (point c.args.add.now.key) c.args.add.now.value
-    (with_new ms (Some (c.args.place, c.args.add.now.key)))) kept in
+    (with_new ms (Some (c.args.index, c.args.add.now.key)))) kept in
     record {
-      told = new_added ns _ c.args.add.now.key c.args.add.now.value c.args.place
-          c.cost.result c.args.room (omega (arith, c.if-place-eq0.false)) c.requires.falls
+      reported = new_added ns _ c.args.add.now.key c.args.add.now.value c.args.index
+          c.cost.result c.args.room (omega (arith, c.if-index-eq0.false)) c.requires.falls
           c.cost.ensures.value (omega (arith, c.if-room-more.false))
           (omega (arith, c.if-room-more-2.false)) added;
     }
@@ -44,9 +44,9 @@ invariant_of-self-2 c =
     (ap (λ v. v.items) c.in-Some.ensures.value) refl c.self.view_is in
     let added = c.in_ok-insert.ensures.added ∙
     ap (λ (ms : List Node). raise_nodes (point k) c.args.add.now.value
-    (with_new ms (Some (c.args.place, k)))) kept in
+    (with_new ms (Some (c.args.index, k)))) kept in
     let sorted : IsSorted ns = subst IsSorted c.self.view_is c.self.invariant.sorted in
-    let fresh = new_at ns k c.args.place k refl c.requires.falls in
-    paired_raised _ _ (point k) c.args.add.now.value (with_new ns (Some (c.args.place, k)))
-    c.insert.ensures.same added (with_new-sorted ns (Some (c.args.place, k)) sorted
-    (new_fits ns (Some k) (Some (c.args.place, k)) fresh))
+    let fresh = new_at ns k c.args.index k refl c.requires.falls in
+    paired_raised _ _ (point k) c.args.add.now.value (with_new ns (Some (c.args.index, k)))
+    c.insert.ensures.same added (with_new-sorted ns (Some (c.args.index, k)) sorted
+    (new_fits ns (Some k) (Some (c.args.index, k)) fresh))

@@ -13,7 +13,7 @@ pub returns-in-None : goal.returns-in-None
 returns-in-None c =
     let keys : List KeyBytes = (arc_value c.self.inside.keys).items in
     let values = c.self.inside.values.items in
-    let p : ℕ = c.partition_point-place.result in
+    let p : ℕ = c.partition_point-index.result in
     let searched : c.deref-2.result.now ≡ keys = c.deref-2.ensures.value ∙
     ap (λ v. v.items) c.deref.ensures in
     let read : c.deref-4.result.now ≡ keys = c.deref-4.ensures.value ∙
@@ -22,7 +22,7 @@ returns-in-None c =
     (keys_parted keys values c.args.self.now c.self.invariant.same c.self.view_is (subst IsSorted c.self.view_is c.self.invariant.sorted)
     c.args.cut.now) in
     let point = IsPartitionPoint-from_clause (begins_below c.args.cut.now) _ _
-    c.partition_point-place.ensures.partitioned parted (λ a r q k. search rules) in
+    c.partition_point-index.ensures.partitioned parted (λ a r q k. search rules) in
     let at = subst (λ (ks : List KeyBytes). IsPartitionPoint
     (λ k. begins_below c.args.cut.now k ≡ true) (λ k. begins_below c.args.cut.now k ≡ false) ks
     p) searched point in
@@ -33,7 +33,7 @@ pub returns-in-Some : goal.returns-in-Some
 returns-in-Some c =
     let keys : List KeyBytes = (arc_value c.self.inside.keys).items in
     let values = c.self.inside.values.items in
-    let p : ℕ = c.partition_point-place.result in
+    let p : ℕ = c.partition_point-index.result in
     let searched : c.deref-2.result.now ≡ keys = c.deref-2.ensures.value ∙
     ap (λ v. v.items) c.deref.ensures in
     let read : c.deref-4.result.now ≡ keys = c.deref-4.ensures.value ∙
@@ -42,7 +42,7 @@ returns-in-Some c =
     (keys_parted keys values c.args.self.now c.self.invariant.same c.self.view_is (subst IsSorted c.self.view_is c.self.invariant.sorted)
     c.args.cut.now) in
     let point = IsPartitionPoint-from_clause (begins_below c.args.cut.now) _ _
-    c.partition_point-place.ensures.partitioned parted (λ a r q k. search rules) in
+    c.partition_point-index.ensures.partitioned parted (λ a r q k. search rules) in
     let at = subst (λ (ks : List KeyBytes). IsPartitionPoint
     (λ k. begins_below c.args.cut.now k ≡ true) (λ k. begins_below c.args.cut.now k ≡ false) ks
     p) searched point in

@@ -3,10 +3,10 @@ use Rattle.std.proofs.Common.{refl, subst, ◌-◌, ◌^◌, ◌<◌, List, leng
 use Rattle.std.specs.Prelude.{Option, option_map, is_some}
 use Rattle.std.specs.Arc.{arc_value}
 use Rattle.tsc_span.specs.Span.{KeyBytes}
-use Rattle.tsc_page_nodes.specs.Nodes.{Node, IsNewKey, IsPlaceTold, IsSorted}
+use Rattle.tsc_page_nodes.specs.Nodes.{Node, IsNewKey, IsIndexReported, IsSorted}
 use Rattle.tsc_page_nodes.proofs.Apart.{long_as}
 use Rattle.tsc_page_nodes.proofs.NewKeys.{known_not_new}
-use Rattle.tsc_page_nodes.proofs.ToldPlaces.{moved_within, first_stands, second_stands}
+use Rattle.tsc_page_nodes.proofs.ReportedIndices.{moved_within, first_stands, second_stands}
 use Rattle.tsc_page_nodes.proofs.nodes.Nodes.new_keys.Goals as goal
 
 pub returns-clause-known : goal.returns-clause-known
@@ -33,10 +33,10 @@ returns-clause-hint c order =
     c.in_ok-low.ensures.value in
     let other = subst (λ (ns : List Node). IsNewKey ns second g) c.lists-lists.ensures
     c.in_ok-high.ensures.value in
-    let low = subst (λ (ns : List Node). IsPlaceTold ns first f c.in_ok-low.low)
-    c.lists-lists.ensures c.in_ok-low.ensures.place in
-    let high = subst (λ (ns : List Node). IsPlaceTold ns second g c.in_ok-high.high)
-    c.lists-lists.ensures c.in_ok-high.ensures.place in
+    let low = subst (λ (ns : List Node). IsIndexReported ns first f c.in_ok-low.low)
+    c.lists-lists.ensures c.in_ok-low.ensures.index in
+    let high = subst (λ (ns : List Node). IsIndexReported ns second g c.in_ok-high.high)
+    c.lists-lists.ensures c.in_ok-high.ensures.index in
     let long = long_as (arc_value c.self.inside.keys).items c.self.inside.values.items nodes
     c.self.invariant.same c.self.view_is in
     let few : length nodes < 2 ^ 64 - 1 =

@@ -2,12 +2,12 @@
 use Rattle.std.proofs.Common.{◌≡◌, ◌∙◌, ◌≤◌, ◌<◌, ◌-◌, sym, ap, subst, ℕ, List, [], ◌∷◌, length, get_or, arith}
 use Rattle.std.specs.Arc.{arc_value}
 use Rattle.tsc_time.specs.Time.{zero_time}
-use Rattle.tsc_time.specs.OwnedTime.{OwnedTime, unowned}
+use Rattle.tsc_time.specs.ValueView.{ValueView, unowned}
 use Rattle.tsc_time.specs.Joint.{joint}
 use Rattle.tsc_span.specs.Span.{KeyBytes}
 use Rattle.tsc_page_nodes.specs.declared.nodes.Values.{Values}
 use Rattle.tsc_page_nodes.specs.Nodes.{Node, StandsAt, FallsAt, IsSorted}
-use Rattle.tsc_page_nodes.proofs.Places.{some_node}
+use Rattle.tsc_page_nodes.proofs.Indices.{some_node}
 use Rattle.tsc_page_nodes.proofs.Apart.{long_as, value_at, gap_at}
 use Rattle.tsc_page_nodes.proofs.KeyLookups.{value_there, value_between, value_below}
 use Rattle.tsc_page_nodes.proofs.nodes.Nodes.value_at.Goals as goal
@@ -42,7 +42,7 @@ pub returns-in-Ok : goal.returns-in-Ok
 returns-in-Ok c =
     let ns : List Node = c.args.self.now in
     let k : KeyBytes = c.args.key.now in
-    let i : ℕ = c.in-Ok.place in
+    let i : ℕ = c.in-Ok.index in
     let ks : List KeyBytes = (arc_value c.self.inside.keys).items in
     let vs : List Values = c.self.inside.values.items in
     let stands : StandsAt ns k i =
@@ -55,8 +55,8 @@ returns-in-Ok c =
     let value : d.value ≡ (get_or ns i some_node).value =
     ap (λ (v : Values). v.value) c.index.ensures ∙
     sym (value_at ks vs ns c.self.invariant.same c.self.view_is i some_node d within) in
-    c.raise.ensures.joint ∙ ap (λ (w : OwnedTime). joint w (d.value ∷ [])) c.unowned-best.ensures ∙
-    ap (λ (w : OwnedTime). joint (unowned zero_time) (w ∷ [])) value
+    c.raise.ensures.joint ∙ ap (λ (w : ValueView). joint w (d.value ∷ [])) c.unowned-best.ensures ∙
+    ap (λ (w : ValueView). joint (unowned zero_time) (w ∷ [])) value
     ∙ value_there ns k i some_node (subst IsSorted c.self.view_is c.self.invariant.sorted) stands
 
 pub returns-in-Err-eq0 : goal.returns-in-Err-eq0
@@ -73,13 +73,13 @@ pub returns-in-Err : goal.returns-in-Err
 returns-in-Err c =
     let ns : List Node = c.args.self.now in
     let k : KeyBytes = c.args.key.now in
-    let i : ℕ = c.in-Err.place in
+    let i : ℕ = c.in-Err.index in
     let ks : List KeyBytes = (arc_value c.self.inside.keys).items in
     let vs : List Values = c.self.inside.values.items in
     let falls : FallsAt ns k i = subst (λ (q : KeyBytes). FallsAt ns q i) c.bytes.ensures
     (subst (λ (ms : List Node). FallsAt ms c.bytes.result.now i) c.lists.ensures
     c.in-Err.ensures) in
-    let some : 1 ≤ i = omega (arith, c.in-Err.place-test) in
+    let some : 1 ≤ i = omega (arith, c.in-Err.index-test) in
     let within : i - 1 < length vs =
     omega (
       arith,
@@ -93,6 +93,6 @@ returns-in-Err c =
     ap (λ (v : Values). v.gap) c.index-in-Err.ensures ∙
     sym (gap_at ks vs ns c.self.invariant.same c.self.view_is (i - 1) some_node d within) in
     c.raise-in-Err.ensures.joint ∙
-    ap (λ (w : OwnedTime). joint w (d.gap ∷ [])) c.unowned-best.ensures ∙
-    ap (λ (w : OwnedTime). joint (unowned zero_time) (w ∷ [])) gap
+    ap (λ (w : ValueView). joint w (d.gap ∷ [])) c.unowned-best.ensures ∙
+    ap (λ (w : ValueView). joint (unowned zero_time) (w ∷ [])) gap
     ∙ value_between ns k i some_node (subst IsSorted c.self.view_is c.self.invariant.sorted) some falls

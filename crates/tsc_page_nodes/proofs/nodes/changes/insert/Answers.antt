@@ -1,7 +1,7 @@
 -- The node of the new key comes in, and then its value alone is raised.
 use Rattle.std.proofs.Common.{◌≡◌, ◌∙◌, ◌<◌, refl, sym, ap, subst, ℕ, List, [], ◌∷◌, length, get_or, arith}
 use Rattle.std.specs.Prelude.{Some}
-use Rattle.tsc_time.specs.OwnedTime.{OwnedTime}
+use Rattle.tsc_time.specs.ValueView.{ValueView}
 use Rattle.tsc_time.specs.Joint.{joint}
 use Rattle.tsc_span.specs.Span.{KeyBytes, point}
 use Rattle.tsc_page_nodes.specs.declared.nodes.Values.{Values}
@@ -10,7 +10,7 @@ use Rattle.tsc_page_nodes.proofs.Apart.{kept_pair, paired-length}
 use Rattle.tsc_page_nodes.proofs.NewKeys.{new_fits, with_new_splits}
 use Rattle.tsc_page_nodes.proofs.RaisedNodes.{with_both}
 use Rattle.tsc_page_nodes.proofs.Searches.{new_at}
-use Rattle.tsc_page_nodes.proofs.ToldPlaces.{stands_new}
+use Rattle.tsc_page_nodes.proofs.ReportedIndices.{stands_new}
 use Rattle.tsc_page_nodes.proofs.KeyAdds.{raised_there}
 use Rattle.tsc_page_nodes.proofs.nodes.changes.insert.Goals as goal
 
@@ -19,10 +19,10 @@ split-requires-clause-fits c =
     let old : List Node = paired c.args.keys.now.items c.args.values.now.items in
     let kept = kept_pair _ c.reserve.new.self.items _ c.reserve-2.new.self.items old
     c.in_ok-reserve.ensures.items c.in_ok-reserve-2.ensures.items refl in
-    let fresh = new_at old c.args.add.now.key c.args.place c.in_ok-copy.copy c.in_ok-copy.ensures
+    let fresh = new_at old c.args.add.now.key c.args.index c.in_ok-copy.copy c.in_ok-copy.ensures
     c.requires.falls in
-    subst (λ (ns : List Node). FitsIn ns (Some (c.args.place, c.in_ok-copy.copy))) (sym kept)
-    (new_fits old (Some c.args.add.now.key) (Some (c.args.place, c.in_ok-copy.copy)) fresh)
+    subst (λ (ns : List Node). FitsIn ns (Some (c.args.index, c.in_ok-copy.copy))) (sym kept)
+    (new_fits old (Some c.args.add.now.key) (Some (c.args.index, c.in_ok-copy.copy)) fresh)
 
 pub split-requires-clause-room : goal.split-requires-clause-room
 split-requires-clause-room c = record {
@@ -35,7 +35,7 @@ split-requires-clause-room c = record {
 pub index_mut-requires : goal.index_mut-requires
 index_mut-requires c =
     let k : KeyBytes = c.args.add.now.key in
-    let i : ℕ = c.args.place in
+    let i : ℕ = c.args.index in
     let old : List Node = paired c.args.keys.now.items c.args.values.now.items in
     let kept = kept_pair _ c.reserve.new.self.items _ c.reserve-2.new.self.items old
     c.in_ok-reserve.ensures.items c.in_ok-reserve-2.ensures.items refl in
@@ -53,8 +53,8 @@ index_mut-requires c =
 pub returns-clause-added : goal.returns-clause-added
 returns-clause-added c =
     let k : KeyBytes = c.args.add.now.key in
-    let v : OwnedTime = c.args.add.now.value in
-    let i : ℕ = c.args.place in
+    let v : ValueView = c.args.add.now.value in
+    let i : ℕ = c.args.index in
     let old : List Node = paired c.args.keys.now.items c.args.values.now.items in
     let kept = kept_pair _ c.reserve.new.self.items _ c.reserve-2.new.self.items old
     c.in_ok-reserve.ensures.items c.in_ok-reserve-2.ensures.items refl in
@@ -75,9 +75,9 @@ returns-clause-added c =
     let d : Values = c.index_mut.result.now in
     let written : d ≡ get_or vs i d = c.index_mut.ensures.value in
     let value : c.raise.new.self ≡ joint (get_or vs i d).value (v ∷ []) = c.raise.ensures.joint ∙
-    ap (λ (w : OwnedTime). joint d.value (w ∷ [])) c.value.ensures ∙
+    ap (λ (w : ValueView). joint d.value (w ∷ [])) c.value.ensures ∙
     ap (λ (w : Values). joint w.value (v ∷ [])) written in
-    let is = with_both (λ (w : Values) (u : OwnedTime). record { value = u; gap = w.gap }) written
+    let is = with_both (λ (w : Values) (u : ValueView). record { value = u; gap = w.gap }) written
     value in
     raised_there ks vs k i v _ d c.split.ensures.same sorted stands within is ∙
     ap (raise_nodes (point k) v) mid

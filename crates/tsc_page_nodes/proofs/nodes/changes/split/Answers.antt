@@ -3,12 +3,12 @@ use Rattle.std.proofs.Common.{◌≡◌, ◌∙◌, refl, ap, subst, sym, ◌-�
 use Rattle.std.specs.Prelude.{is_some}
 use Rattle.std.specs.List.{insert}
 use Rattle.tsc_time.specs.Time.{zero_time}
-use Rattle.tsc_time.specs.OwnedTime.{OwnedTime, unowned}
+use Rattle.tsc_time.specs.ValueView.{ValueView, unowned}
 use Rattle.tsc_span.specs.Span.{KeyBytes}
 use Rattle.tsc_page_nodes.specs.declared.nodes.Values.{Values}
 use Rattle.tsc_page_nodes.specs.Nodes.{Node, FitsIn, with_new, node_in_gap, gap_value, paired}
 use Rattle.tsc_page_nodes.specs.Insertions.{HaveRoom}
-use Rattle.tsc_page_nodes.proofs.Places.{some_node}
+use Rattle.tsc_page_nodes.proofs.Indices.{some_node}
 use Rattle.tsc_page_nodes.proofs.Edits.{gap_value-at, first_number}
 use Rattle.tsc_page_nodes.proofs.Apart.{paired-length, paired-insert, gap_at}
 use Rattle.tsc_page_nodes.proofs.nodes.changes.split.Goals as goal
@@ -57,41 +57,41 @@ returns-clause-inserted c =
     let keys : List KeyBytes = c.args.keys.now.items in
     let values : List Values = c.args.values.now.items in
     let nodes : List Node = paired keys values in
-    let place : ℕ = c.in-Some.place in
+    let index : ℕ = c.in-Some.index in
     let fits = subst (FitsIn nodes) c.in-Some.is c.requires.fits in
-    let value : OwnedTime = c.match-checked_sub.value in
+    let value : ValueView = c.match-checked_sub.value in
     let room : HaveRoom c.args.keys.now c.args.values.now 1 =
     subst (λ o. HaveRoom c.args.keys.now c.args.values.now (cond (is_some o) 1 0)) c.in-Some.is
     c.requires.room in
-    let new_keys : c.insert.new.self.items ≡ insert keys place c.in-Some.key =
+    let new_keys : c.insert.new.self.items ≡ insert keys index c.in-Some.key =
     rw (c.insert.ensures.succeeds (omega (arith, room.key_room))) at c.insert.ensures.items in
-    let new_values : c.insert-2.new.self.items ≡ insert values place
+    let new_values : c.insert-2.new.self.items ≡ insert values index
     (record { value = value; gap = value }) =
     rw (c.insert-2.ensures.succeeds (omega (arith, room.value_room))) at
     c.insert-2.ensures.items in
     let inserted = ap (λ (ks : List KeyBytes). paired ks c.insert-2.new.self.items) new_keys ∙
-    ap (λ (vs : List Values). paired (insert keys place c.in-Some.key) vs) new_values ∙
-    paired-insert keys values c.requires.same place c.in-Some.key
+    ap (λ (vs : List Values). paired (insert keys index c.in-Some.key) vs) new_values ∙
+    paired-insert keys values c.requires.same index c.in-Some.key
     (record { value = value; gap = value }) in
-    let with_value = λ (v : OwnedTime). insert nodes place (node_in_gap c.in-Some.key v) in
-    let told = ap (with_new nodes) c.in-Some.is in
+    let with_value = λ (v : ValueView). insert nodes index (node_in_gap c.in-Some.key v) in
+    let reported = ap (with_new nodes) c.in-Some.is in
     let long = paired-length keys values c.requires.same in
     elim c.match-checked_sub.branch [
       | in-Some-checked_sub w ↦
           let before = w.in-Some-checked_sub.ensures in
           let d : Values = w.index.result.now in
-          let gap = gap_at keys values nodes c.requires.same refl (place - 1) some_node d
+          let gap = gap_at keys values nodes c.requires.same refl (index - 1) some_node d
           (omega (arith, before.0, fits.1, long)) in
-          let here : d ≡ get_or values (place - 1) d = w.index.ensures ∙
+          let here : d ≡ get_or values (index - 1) d = w.index.ensures ∙
           ap (λ (i : ℕ). get_or values i d) before.1 in
           inserted ∙ ap with_value
           (w.value-is ∙ ap (λ (v : Values). v.gap) here ∙ sym gap ∙
-          sym (gap_value-at (unowned zero_time) nodes place some_node before.0 fits.1)) ∙
-          sym told
+          sym (gap_value-at (unowned zero_time) nodes index some_node before.0 fits.1)) ∙
+          sym reported
       | in-None w ↦ inserted ∙ ap with_value
           (w.value-is ∙ w.unowned-value.ensures ∙
-          ap (gap_value (unowned zero_time) nodes) (first_number place w.in-None.ensures)) ∙
-          sym told
+          ap (gap_value (unowned zero_time) nodes) (first_number index w.in-None.ensures)) ∙
+          sym reported
     ]
 
 pub returns-clause-room : goal.returns-clause-room

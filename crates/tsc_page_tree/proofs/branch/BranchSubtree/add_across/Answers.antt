@@ -4,7 +4,7 @@ use Rattle.std.specs.Prelude.{Option, is_some}
 use Rattle.std.specs.Arc.{arc_value}
 use Rattle.std.specs.Vec.{with_items}
 use Rattle.std.proofs.lemmas.List.{with_items_is}
-use Rattle.tsc_time.specs.OwnedTime.{OwnedTime}
+use Rattle.tsc_time.specs.ValueView.{ValueView}
 use Rattle.tsc_time.specs.Joint.{joint}
 use Rattle.tsc_span.specs.Span.{Cut, is_below}
 use Rattle.tsc_page_nodes.specs.Nodes.{Node}
@@ -12,11 +12,11 @@ use Rattle.tsc_page_nodes.specs.Insertions.{InsertionView}
 use Rattle.tsc_page_tree.specs.Leaves.{nodes_of, start_of, AreSubtrees}
 use Rattle.tsc_page_tree.specs.Lazy.{with_lazy, sizes_of}
 use Rattle.tsc_page_tree.specs.Trees.{IsBranchOf}
-use Rattle.tsc_page_tree.specs.Across.{IsAcrossTold}
-use Rattle.tsc_page_nodes.proofs.CutOrder.{Lt}
+use Rattle.tsc_page_tree.specs.Across.{IsAcrossReported}
+use Rattle.tsc_span.proofs.CutOrder.{Lt}
 use Rattle.tsc_page_tree.proofs.Lazy.{lazy-start}
-use Rattle.tsc_page_tree.proofs.TreeAcross.{across_lazy, told_across_low, told_across_high}
-use Rattle.tsc_page_tree.proofs.Wholes.{branch_whole, branch_subtrees, told_as}
+use Rattle.tsc_page_tree.proofs.TreeAcross.{across_lazy, reported_across_low, reported_across_high}
+use Rattle.tsc_page_tree.proofs.Wholes.{branch_whole, branch_subtrees, reported_as}
 use Rattle.tsc_page_tree.proofs.branch.BranchSubtree.add_across.Goals as goal
 
 pub raise_two-made-requires-clause-low : goal.raise_two-made-requires-clause-low
@@ -51,8 +51,8 @@ raise_two-made-requires-clause-reaches g c =
     (sym (lazy-start c.args.high.now.aggregate.lazy
     (nodes_of (map read (arc_value c.args.high.now.subtrees).items)))) ∙ c.requires.reaches
 
-pub returns-clause-told : goal.returns-clause-told
-returns-clause-told g c =
+pub returns-clause-reported : goal.returns-clause-reported
+returns-clause-reported g c =
     let f = g.P.Subtree.nodes in
     let xs = (arc_value c.args.low.now.subtrees).items in
     let ys = (arc_value c.args.high.now.subtrees).items in
@@ -84,23 +84,23 @@ returns-clause-told g c =
       ap length c.deref_mut-2.ensures.value,
       w.ok.0,
     )) in
-    let across : IsAcrossTold ns nl ms nh a c.args.room r =
-    subst (λ (zs : List g.row.P.Denot). IsAcrossTold (nodes_of (map f zs)) nl ms nh a c.args.room r) is_low
-    (subst (λ (zs : List g.row.P.Denot). IsAcrossTold (nodes_of (map f c.deref_mut.result.now))
-    nl (nodes_of (map f zs)) nh a c.args.room r) is_high c.raise_two-made.ensures.told) in
-    let told = across_lazy r ns nl ms nh a c.args.room p q c.requires.low.sorted
+    let across : IsAcrossReported ns nl ms nh a c.args.room r =
+    subst (λ (zs : List g.row.P.Denot). IsAcrossReported (nodes_of (map f zs)) nl ms nh a c.args.room r) is_low
+    (subst (λ (zs : List g.row.P.Denot). IsAcrossReported (nodes_of (map f c.deref_mut.result.now))
+    nl (nodes_of (map f zs)) nh a c.args.room r) is_high c.raise_two-made.ensures.reported) in
+    let reported = across_lazy r ns nl ms nh a c.args.room p q c.requires.low.sorted
     c.requires.high.sorted across in
-    let first = ap (λ (o : Option OwnedTime). with_lazy o
+    let first = ap (λ (o : Option ValueView). with_lazy o
     (nodes_of (map f (with_items v xl).items))) c.reach.ensures.lazy ∙
     ap (λ (is : List g.row.P.Denot). with_lazy p (nodes_of (map f is))) kept_low in
-    let second = ap (λ (o : Option OwnedTime). with_lazy o
+    let second = ap (λ (o : Option ValueView). with_lazy o
     (nodes_of (map f (with_items w xh).items))) c.reach-2.ensures.lazy ∙
     ap (λ (is : List g.row.P.Denot). with_lazy q (nodes_of (map f is))) kept_high in
-    subst (λ (ks : List Node). IsAcrossTold (with_lazy p ns) ks (with_lazy q ms)
+    subst (λ (ks : List Node). IsAcrossReported (with_lazy p ns) ks (with_lazy q ms)
     (with_lazy c.reach-2.new.self.lazy (nodes_of (map f (with_items w xh).items))) a c.args.room r)
     (sym first)
-    (subst (λ (ks : List Node). IsAcrossTold (with_lazy p ns) (with_lazy p nl)
-    (with_lazy q ms) ks a c.args.room r) (sym second) told)
+    (subst (λ (ks : List Node). IsAcrossReported (with_lazy p ns) (with_lazy p nl)
+    (with_lazy q ms) ks a c.args.room r) (sym second) reported)
 
 pub returns-clause-low : goal.returns-clause-low
 returns-clause-low g c =
@@ -128,10 +128,10 @@ returns-clause-low g c =
       ap length c.deref_mut.ensures.value,
       v.ok.0,
     )) in
-    let across : IsAcrossTold ns nl ms nh a c.args.room r =
-    subst (λ (zs : List g.row.P.Denot). IsAcrossTold (nodes_of (map f zs)) nl ms nh a c.args.room r) is_low
-    (subst (λ (zs : List g.row.P.Denot). IsAcrossTold (nodes_of (map f c.deref_mut.result.now))
-    nl (nodes_of (map f zs)) nh a c.args.room r) is_high c.raise_two-made.ensures.told) in
+    let across : IsAcrossReported ns nl ms nh a c.args.room r =
+    subst (λ (zs : List g.row.P.Denot). IsAcrossReported (nodes_of (map f zs)) nl ms nh a c.args.room r) is_low
+    (subst (λ (zs : List g.row.P.Denot). IsAcrossReported (nodes_of (map f c.deref_mut.result.now))
+    nl (nodes_of (map f zs)) nh a c.args.room r) is_high c.raise_two-made.ensures.reported) in
     let sum = c.args.low.now.aggregate in
     let up : Lt a.from a.to = subst (λ (b : InsertionView). Lt b.from b.to) c.add.view_is
     c.add.invariant.0 in
@@ -151,7 +151,7 @@ returns-clause-low g c =
             few =
                 subst (λ (n : ℕ). n ≤ 64) (sym long) few.few;
           })
-          (told_as sum.start c.reach.new.self.start _ c.reach.new.self.joint _
+          (reported_as sum.start c.reach.new.self.start _ c.reach.new.self.joint _
           c.reach.new.self.lazy nl
           c.reach.ensures.start (c.reach.ensures.joint ∙
           ap (λ (d : Bool). cond d (joint sum.joint (c.add.inside.value ∷ [])) sum.joint)
@@ -159,8 +159,8 @@ returns-clause-low g c =
           ap (λ (b : InsertionView). cond (is_some r) (joint sum.joint (b.value ∷ [])) sum.joint)
           c.add.view_is)
           c.reach.ensures.lazy
-          (told_across_low r sum.start sum.joint ns nl ms nh a c.args.room p c.requires.low.sorted up across
-          c.requires.low.whole.told)));
+          (reported_across_low r sum.start sum.joint ns nl ms nh a c.args.room p c.requires.low.sorted up across
+          c.requires.low.whole.reported)));
     }
 
 pub returns-clause-high : goal.returns-clause-high
@@ -189,10 +189,10 @@ returns-clause-high g c =
       ap length c.deref_mut-2.ensures.value,
       w.ok.0,
     )) in
-    let across : IsAcrossTold ns nl ms nh a c.args.room r =
-    subst (λ (zs : List g.row.P.Denot). IsAcrossTold (nodes_of (map f zs)) nl ms nh a c.args.room r) is_low
-    (subst (λ (zs : List g.row.P.Denot). IsAcrossTold (nodes_of (map f c.deref_mut.result.now))
-    nl (nodes_of (map f zs)) nh a c.args.room r) is_high c.raise_two-made.ensures.told) in
+    let across : IsAcrossReported ns nl ms nh a c.args.room r =
+    subst (λ (zs : List g.row.P.Denot). IsAcrossReported (nodes_of (map f zs)) nl ms nh a c.args.room r) is_low
+    (subst (λ (zs : List g.row.P.Denot). IsAcrossReported (nodes_of (map f c.deref_mut.result.now))
+    nl (nodes_of (map f zs)) nh a c.args.room r) is_high c.raise_two-made.ensures.reported) in
     let sum = c.args.high.now.aggregate in
     let up : Lt a.from a.to = subst (λ (b : InsertionView). Lt b.from b.to) c.add.view_is
     c.add.invariant.0 in
@@ -212,7 +212,7 @@ returns-clause-high g c =
             few =
                 subst (λ (n : ℕ). n ≤ 64) (sym long) few.few;
           })
-          (told_as sum.start c.reach-2.new.self.start _ c.reach-2.new.self.joint _
+          (reported_as sum.start c.reach-2.new.self.start _ c.reach-2.new.self.joint _
           c.reach-2.new.self.lazy nh c.reach-2.ensures.start
           (c.reach-2.ensures.joint ∙
           ap (λ (d : Bool). cond d (joint sum.joint (c.add.inside.value ∷ [])) sum.joint)
@@ -220,6 +220,6 @@ returns-clause-high g c =
           ap (λ (b : InsertionView). cond (is_some r) (joint sum.joint (b.value ∷ [])) sum.joint)
           c.add.view_is)
           c.reach-2.ensures.lazy
-          (told_across_high r sum.start sum.joint ns nl ms nh a c.args.room q c.requires.high.sorted up
-          c.requires.reaches across c.requires.high.whole.told)));
+          (reported_across_high r sum.start sum.joint ns nl ms nh a c.args.room q c.requires.high.sorted up
+          c.requires.reaches across c.requires.high.whole.reported)));
     }

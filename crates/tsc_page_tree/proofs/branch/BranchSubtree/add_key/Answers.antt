@@ -4,18 +4,18 @@ use Rattle.std.specs.Prelude.{Option}
 use Rattle.std.specs.Arc.{arc_value}
 use Rattle.std.specs.Vec.{with_items}
 use Rattle.std.proofs.lemmas.List.{with_items_is}
-use Rattle.tsc_time.specs.OwnedTime.{OwnedTime}
+use Rattle.tsc_time.specs.ValueView.{ValueView}
 use Rattle.tsc_page_nodes.specs.Nodes.{Node}
 use Rattle.tsc_page_nodes.specs.KeyAdds.{KeyInsertionView}
 use Rattle.tsc_page_tree.specs.Leaves.{nodes_of, AreSubtrees}
 use Rattle.tsc_page_tree.specs.Lazy.{with_lazy, sizes_of, joint_after}
-use Rattle.tsc_page_tree.specs.KeyAdds.{IsKeyAddTold}
+use Rattle.tsc_page_tree.specs.KeyAdds.{IsKeyAddReported}
 use Rattle.tsc_page_tree.specs.Trees.{IsBranchOf}
 use Rattle.tsc_page_tree.proofs.Lazy.{sorted_without}
 use Rattle.tsc_page_tree.proofs.SubtreeLists.{AreSameAs, same_list, copies_same, copies_sorted}
 use Rattle.tsc_page_nodes.proofs.PairedOrder.{on_err}
-use Rattle.tsc_page_tree.proofs.Wholes.{branch_whole, branch_subtrees, branch_same, told_as}
-use Rattle.tsc_page_tree.proofs.KeyAdds.{told_lazy, told_key, refused_key}
+use Rattle.tsc_page_tree.proofs.Wholes.{branch_whole, branch_subtrees, branch_same, reported_as}
+use Rattle.tsc_page_tree.proofs.KeyAdds.{reported_lazy, reported_key, refused_key}
 use Rattle.tsc_page_tree.proofs.branch.BranchSubtree.add_key.Goals as goal
 
 pub add_key-made-requires : goal.add_key-made-requires
@@ -38,8 +38,8 @@ add_key-made-requires g c =
           c.requires.subtree.sorted));
     }
 
-pub returns-in_err-subtrees-clause-told : goal.returns-in_err-subtrees-clause-told
-returns-in_err-subtrees-clause-told g c =
+pub returns-in_err-subtrees-clause-reported : goal.returns-in_err-subtrees-clause-reported
+returns-in_err-subtrees-clause-reported g c =
     let f = g.P.Subtree.nodes in
     let s = g.P.Subtree.sizes in
     let Q = g.P.Subtree.IsWhole in
@@ -75,8 +75,8 @@ returns-in_err-subtrees-clause-whole g c =
     ] in
     branch_same f s Q c.args.self.now.aggregate xs ys same c.requires.subtree.whole
 
-pub returns-clause-told : goal.returns-clause-told
-returns-clause-told g c =
+pub returns-clause-reported : goal.returns-clause-reported
+returns-clause-reported g c =
     let f = g.P.Subtree.nodes in
     let s = g.P.Subtree.sizes in
     let Q = g.P.Subtree.IsWhole in
@@ -98,22 +98,22 @@ returns-clause-told g c =
     (arith, c.add_key-made.ensures.len, ap length c.deref_mut.ensures.value, v.ok.0)) in
     let held = ap (λ u. u.items) (c.make_mut.follows.holds (with_items v ws) (search rules)) ∙
     kept in
-    let entered = subst (λ (ps : List g.row.P.Denot). IsKeyAddTold (nodes_of (map f ps)) new
+    let entered = subst (λ (ps : List g.row.P.Denot). IsKeyAddReported (nodes_of (map f ps)) new
     (sizes_of (map s ps)) (sizes_of (map s ws)) a c.args.room r) c.deref_mut.ensures.value
-    c.add_key-made.ensures.told in
-    let here = subst (λ (ls : List (List Node)). IsKeyAddTold (nodes_of ls) new
+    c.add_key-made.ensures.reported in
+    let here = subst (λ (ls : List (List Node)). IsKeyAddReported (nodes_of ls) new
     (sizes_of (map s v.items)) (sizes_of (map s ws)) a c.args.room r) same.nodes entered in
-    let told = subst (λ (ss : List (List ℕ)). IsKeyAddTold ns new (sizes_of ss)
+    let reported = subst (λ (ss : List (List ℕ)). IsKeyAddReported ns new (sizes_of ss)
     (sizes_of (map s ws)) a c.args.room r) same.sizes here in
-    let below = told_lazy p ns new _ _ a c.args.room r (sorted_without p ns
+    let below = reported_lazy p ns new _ _ a c.args.room r (sorted_without p ns
     c.requires.subtree.sorted)
-    told in
-    subst (λ (ps : List g.row.P.Denot). IsKeyAddTold (with_lazy p ns)
-    (with_lazy c.heed.new.self.lazy (nodes_of (map f ps))) (sizes_of (map s xs))
+    reported in
+    subst (λ (ps : List g.row.P.Denot). IsKeyAddReported (with_lazy p ns)
+    (with_lazy c.update.new.self.lazy (nodes_of (map f ps))) (sizes_of (map s xs))
     (sizes_of (map s ps)) a c.args.room r) (sym held)
-    (subst (λ (o : Option OwnedTime). IsKeyAddTold (with_lazy p ns) (with_lazy o new)
+    (subst (λ (o : Option ValueView). IsKeyAddReported (with_lazy p ns) (with_lazy o new)
     (sizes_of (map s xs)) (sizes_of (map s ws)) a c.args.room r)
-    (sym c.heed.ensures.lazy) below)
+    (sym c.update.ensures.lazy) below)
 
 pub returns-clause-whole : goal.returns-clause-whole
 returns-clause-whole g c =
@@ -139,25 +139,25 @@ returns-clause-whole g c =
     (arith, c.add_key-made.ensures.len, ap length c.deref_mut.ensures.value, v.ok.0)) in
     let long : length ws ≡ length xs =
     omega (arith, c.add_key-made.ensures.len, ap length c.deref_mut.ensures.value, same.long) in
-    let entered = subst (λ (ps : List g.row.P.Denot). IsKeyAddTold (nodes_of (map f ps)) new
+    let entered = subst (λ (ps : List g.row.P.Denot). IsKeyAddReported (nodes_of (map f ps)) new
     (sizes_of (map s ps)) (sizes_of (map s ws)) a c.args.room r) c.deref_mut.ensures.value
-    c.add_key-made.ensures.told in
-    let here = subst (λ (ls : List (List Node)). IsKeyAddTold (nodes_of ls) new
+    c.add_key-made.ensures.reported in
+    let here = subst (λ (ls : List (List Node)). IsKeyAddReported (nodes_of ls) new
     (sizes_of (map s v.items)) (sizes_of (map s ws)) a c.args.room r) same.nodes entered in
-    let told = told_key r sum.start sum.joint p ns new _ _ a c.args.room
+    let reported = reported_key r sum.start sum.joint p ns new _ _ a c.args.room
     c.requires.subtree.sorted here
-    c.requires.subtree.whole.told in
+    c.requires.subtree.whole.reported in
     let few = c.requires.subtree.whole.subtrees in
-    subst (λ (ps : List g.row.P.Denot). IsBranchOf f s Q c.heed.new.self ps)
+    subst (λ (ps : List g.row.P.Denot). IsBranchOf f s Q c.update.new.self ps)
     (sym (ap (λ u. u.items) (c.make_mut.follows.holds (with_items v ws) (search rules)) ∙ kept))
-    (branch_whole f s Q c.heed.new.self ws g.met.P.Subtree.counted
+    (branch_whole f s Q c.update.new.self ws g.met.P.Subtree.counted
     (record {
       each = c.add_key-made.ensures.whole;
       some = subst (λ (n : ℕ). 1 ≤ n) (sym long) few.some;
       few =
           subst (λ (n : ℕ). n ≤ 64) (sym long) few.few;
     })
-    (told_as sum.start c.heed.new.self.start _ c.heed.new.self.joint p c.heed.new.self.lazy new
-    c.heed.ensures.start
-    (c.heed.ensures.joint ∙ ap (λ (w : OwnedTime). joint_after r true w sum.joint) c.value.ensures)
-    c.heed.ensures.lazy told))
+    (reported_as sum.start c.update.new.self.start _ c.update.new.self.joint p
+    c.update.new.self.lazy new c.update.ensures.start
+    (c.update.ensures.joint ∙ ap (λ (w : ValueView). joint_after r true w sum.joint)
+    c.value.ensures) c.update.ensures.lazy reported))

@@ -4,19 +4,19 @@ use Rattle.std.specs.Prelude.{Option, None}
 use Rattle.std.specs.Arc.{arc_value}
 use Rattle.std.specs.Vec.{with_items}
 use Rattle.std.proofs.lemmas.List.{with_items_is}
-use Rattle.tsc_time.specs.OwnedTime.{OwnedTime}
+use Rattle.tsc_time.specs.ValueView.{ValueView}
 use Rattle.tsc_span.specs.Span.{is_below}
 use Rattle.tsc_page_nodes.specs.Nodes.{Node, IsSorted, IsInOrder}
 use Rattle.tsc_page_nodes.specs.Insertions.{InsertionView}
 use Rattle.tsc_page_tree.specs.Leaves.{nodes_of, start_of, AreSubtrees}
-use Rattle.tsc_page_tree.specs.Lazy.{with_lazy, sizes_of, IsAddTold, joint_after}
+use Rattle.tsc_page_tree.specs.Lazy.{with_lazy, sizes_of, IsAddReported, joint_after}
 use Rattle.tsc_page_tree.specs.Trees.{IsBranchOf}
-use Rattle.tsc_page_nodes.proofs.CutOrder.{Lt}
+use Rattle.tsc_span.proofs.CutOrder.{Lt}
 use Rattle.tsc_page_nodes.specs.Prefixes.{IsCutPrefix}
 use Rattle.tsc_page_tree.proofs.SubtreeLists.{AreSameAs, same_list, copies_same, copies_sorted}
-use Rattle.tsc_page_tree.proofs.Told.{told_pushed, told_added}
+use Rattle.tsc_page_tree.proofs.Reported.{reported_pushed, reported_added}
 use Rattle.tsc_page_nodes.proofs.PairedOrder.{on_err}
-use Rattle.tsc_page_tree.proofs.Wholes.{branch_whole, branch_subtrees, branch_same, told_as, refused_told}
+use Rattle.tsc_page_tree.proofs.Wholes.{branch_whole, branch_subtrees, branch_same, reported_as, refused_reported}
 use Rattle.tsc_page_tree.proofs.branch.BranchSubtree.add_within.Goals as goal
 
 pub push_down-requires : goal.push_down-requires
@@ -70,8 +70,8 @@ add_within-made-requires g c =
           });
     }
 
-pub returns-in_err-subtrees-clause-told : goal.returns-in_err-subtrees-clause-told
-returns-in_err-subtrees-clause-told g c =
+pub returns-in_err-subtrees-clause-reported : goal.returns-in_err-subtrees-clause-reported
+returns-in_err-subtrees-clause-reported g c =
     let f = g.P.Subtree.nodes in
     let s = g.P.Subtree.sizes in
     let Q = g.P.Subtree.IsWhole in
@@ -86,8 +86,8 @@ returns-in_err-subtrees-clause-told g c =
       | inr h ↦ copies_same f s Q
           _ xs ys g.met.P.Subtree.copied h.0
     ] in
-    refused_told c.from_residual.result _ _ _ _ c.args.add.now c.args.room c.from_residual.ensures.0
-    (ap (λ (ls : List (List Node)). with_lazy p (nodes_of ls)) same.nodes)
+    refused_reported c.from_residual.result _ _ _ _ c.args.add.now c.args.room
+    c.from_residual.ensures.0 (ap (λ (ls : List (List Node)). with_lazy p (nodes_of ls)) same.nodes)
     (ap (λ (ss : List (List ℕ)). sizes_of ss) same.sizes)
 
 pub returns-in_err-subtrees-clause-whole : goal.returns-in_err-subtrees-clause-whole
@@ -107,8 +107,8 @@ returns-in_err-subtrees-clause-whole g c =
     ] in
     branch_same f s Q c.args.self.now.aggregate xs ys same c.requires.subtree.whole
 
-pub returns-clause-told : goal.returns-clause-told
-returns-clause-told g c =
+pub returns-clause-reported : goal.returns-clause-reported
+returns-clause-reported g c =
     let f = g.P.Subtree.nodes in
     let s = g.P.Subtree.sizes in
     let Q = g.P.Subtree.IsWhole in
@@ -148,23 +148,24 @@ returns-clause-told g c =
     let sizes : sizes_of (map s zs) ≡ sizes_of (map s xs) =
     ap (λ (ss : List (List ℕ)). sizes_of ss)
     (c.push_down.ensures.sizes ∙ ap (map s) c.deref_mut.ensures.value ∙ same.sizes) in
-    let told : IsAddTold (with_lazy p ns) new (sizes_of (map s xs)) (sizes_of (map s ws)) a
+    let reported : IsAddReported (with_lazy p ns) new (sizes_of (map s xs)) (sizes_of (map s ws)) a
     c.args.room r =
-    subst (λ (ms : List Node). IsAddTold ms new (sizes_of (map s xs)) (sizes_of (map s ws)) a
+    subst (λ (ms : List Node). IsAddReported ms new (sizes_of (map s xs)) (sizes_of (map s ws)) a
     c.args.room r) pushed
-    (subst (λ (ss : List ℕ). IsAddTold (nodes_of (map f zs)) new ss (sizes_of (map s ws)) a
+    (subst (λ (ss : List ℕ). IsAddReported (nodes_of (map f zs)) new ss (sizes_of (map s ws)) a
     c.args.room r) sizes
-    (subst (λ (ps : List g.row.P.Denot). IsAddTold (nodes_of (map f ps)) new (sizes_of (map s ps))
-    (sizes_of (map s ws)) a c.args.room r) entered c.add_within-made.ensures.told)) in
-    let none : c.heed.new.self.lazy ≡ None = c.heed.ensures.lazy in
-    subst (λ (o : Option OwnedTime). IsAddTold (with_lazy p ns)
+    (subst (λ (ps : List g.row.P.Denot). IsAddReported (nodes_of (map f ps)) new
+    (sizes_of (map s ps))
+    (sizes_of (map s ws)) a c.args.room r) entered c.add_within-made.ensures.reported)) in
+    let none : c.update.new.self.lazy ≡ None = c.update.ensures.lazy in
+    subst (λ (o : Option ValueView). IsAddReported (with_lazy p ns)
     (with_lazy o (nodes_of (map f
     (arc_value (c.make_mut.follows.lender (with_items (with_items v zs) ws))).items)))
     (sizes_of (map s xs)) (sizes_of
     (map s (arc_value (c.make_mut.follows.lender (with_items (with_items v zs) ws))).items)) a
     c.args.room r) (sym none)
-    (subst (λ (ps : List g.row.P.Denot). IsAddTold (with_lazy p ns) (nodes_of (map f ps))
-    (sizes_of (map s xs)) (sizes_of (map s ps)) a c.args.room r) (sym held) told)
+    (subst (λ (ps : List g.row.P.Denot). IsAddReported (with_lazy p ns) (nodes_of (map f ps))
+    (sizes_of (map s xs)) (sizes_of (map s ps)) a c.args.room r) (sym held) reported)
 
 pub returns-clause-whole : goal.returns-clause-whole
 returns-clause-whole g c =
@@ -212,12 +213,13 @@ returns-clause-whole g c =
       ap length c.deref_mut.ensures.value,
       same.long,
     ) in
-    let told : IsAddTold (with_lazy p ns) new (sizes_of (map s zs)) (sizes_of (map s ws)) a
+    let reported : IsAddReported (with_lazy p ns) new (sizes_of (map s zs)) (sizes_of (map s ws)) a
     c.args.room r =
-    subst (λ (ms : List Node). IsAddTold ms new (sizes_of (map s zs)) (sizes_of (map s ws)) a
+    subst (λ (ms : List Node). IsAddReported ms new (sizes_of (map s zs)) (sizes_of (map s ws)) a
     c.args.room r) pushed
-    (subst (λ (ps : List g.row.P.Denot). IsAddTold (nodes_of (map f ps)) new (sizes_of (map s ps))
-    (sizes_of (map s ws)) a c.args.room r) entered c.add_within-made.ensures.told) in
+    (subst (λ (ps : List g.row.P.Denot). IsAddReported (nodes_of (map f ps)) new
+    (sizes_of (map s ps))
+    (sizes_of (map s ws)) a c.args.room r) entered c.add_within-made.ensures.reported) in
     let order : IsInOrder a.first a.second =
     subst (λ (b : InsertionView). IsInOrder b.first b.second) c.add.view_is c.add.invariant.3 in
     let up : Lt a.from a.to = subst (λ (b : InsertionView). Lt b.from b.to) c.add.view_is
@@ -233,22 +235,23 @@ returns-clause-whole g c =
     c.add.inside.to.now) seen ∙
     ap (λ (b : InsertionView). is_below (start_of new) b.to) c.add.view_is in
     let value : c.add.inside.value ≡ a.value = ap (λ (b : InsertionView). b.value) c.add.view_is in
-    let after_it = told_added r sum.start c.start_prefix.result sum.joint (with_lazy p ns) new _
-    _ a c.args.room c.requires.subtree.sorted order up start told
-    (told_pushed sum.start sum.joint p ns c.requires.subtree.whole.told) in
+    let after_it = reported_added r sum.start c.start_prefix.result sum.joint (with_lazy p ns) new _
+    _ a c.args.room c.requires.subtree.sorted order up start reported
+    (reported_pushed sum.start sum.joint p ns c.requires.subtree.whole.reported) in
     let few = c.requires.subtree.whole.subtrees in
-    subst (λ (ps : List g.row.P.Denot). IsBranchOf f s Q c.heed.new.self ps)
+    subst (λ (ps : List g.row.P.Denot). IsBranchOf f s Q c.update.new.self ps)
     (sym (ap (λ u. u.items) (c.make_mut.follows.holds (with_items (with_items v zs) ws)
     (search rules)) ∙ kept_now))
-    (branch_whole f s Q c.heed.new.self ws g.met.P.Subtree.counted
+    (branch_whole f s Q c.update.new.self ws g.met.P.Subtree.counted
     (record {
       each = c.add_within-made.ensures.whole;
       some = subst (λ (n : ℕ). 1 ≤ n) (sym long) few.some;
       few =
           subst (λ (n : ℕ). n ≤ 64) (sym long) few.few;
     })
-    (told_as c.start_prefix.result c.heed.new.self.start _ c.heed.new.self.joint None
-    c.heed.new.self.lazy new c.heed.ensures.start
-    (c.heed.ensures.joint ∙ ap (λ (b : Bool). joint_after r b c.add.inside.value sum.joint) reached
-    ∙ ap (λ (w : OwnedTime). joint_after r (is_below (start_of new) a.to) w sum.joint) value)
-    c.heed.ensures.lazy after_it))
+    (reported_as c.start_prefix.result c.update.new.self.start _ c.update.new.self.joint None
+    c.update.new.self.lazy new c.update.ensures.start
+    (c.update.ensures.joint ∙ ap (λ (b : Bool). joint_after r b c.add.inside.value sum.joint)
+    reached
+    ∙ ap (λ (w : ValueView). joint_after r (is_below (start_of new) a.to) w sum.joint) value)
+    c.update.ensures.lazy after_it))

@@ -2,7 +2,7 @@
 use Rattle.std.proofs.Common.{◌∙◌, ap, sym, subst, map, List}
 use Rattle.std.specs.Prelude.{not}
 use Rattle.std.specs.Arc.{arc_value}
-use Rattle.tsc_page_nodes.specs.PageView.{is_in}
+use Rattle.tsc_page_model.specs.PageView.{is_in}
 use Rattle.tsc_page_nodes.specs.Nodes.{node_keys}
 use Rattle.tsc_page_tree.specs.Leaves.{nodes_of, AreSubtrees}
 use Rattle.tsc_page_tree.proofs.Lazy.{lazy-is_in}

@@ -3,7 +3,7 @@ use Rattle.std.proofs.Common.{◌∙◌, sym, ap, subst, List, map}
 use Rattle.std.specs.Arc.{arc_value}
 use Rattle.tsc_span.specs.Span.{Cut}
 use Rattle.tsc_page_nodes.specs.Nodes.{node_keys}
-use Rattle.tsc_page_nodes.specs.KeysAbove.{first_above}
+use Rattle.tsc_page_model.specs.KeysAbove.{first_above}
 use Rattle.tsc_page_tree.specs.Leaves.{nodes_of, AreSubtrees}
 use Rattle.tsc_page_tree.proofs.Lazy.{lazy-keys}
 use Rattle.tsc_page_tree.proofs.Wholes.{branch_subtrees}

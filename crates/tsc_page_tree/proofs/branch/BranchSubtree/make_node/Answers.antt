@@ -5,15 +5,15 @@ use Rattle.std.specs.Prelude.{Option, IfSome}
 use Rattle.std.specs.Arc.{arc_value}
 use Rattle.std.specs.Vec.{with_items}
 use Rattle.std.proofs.lemmas.List.{with_items_is}
-use Rattle.tsc_time.specs.OwnedTime.{OwnedTime}
+use Rattle.tsc_time.specs.ValueView.{ValueView}
 use Rattle.tsc_page_nodes.specs.Nodes.{Node, IsSorted}
 use Rattle.tsc_page_tree.specs.Leaves.{nodes_of, AreSubtrees, HasNode}
 use Rattle.tsc_page_tree.specs.Lazy.{with_lazy, all_joint}
-use Rattle.tsc_page_tree.specs.Trees.{branch_nodes, IsTold, IsBranchOf, AreFewSubtrees, items_in}
+use Rattle.tsc_page_tree.specs.Trees.{branch_nodes, IsReported, IsBranchOf, AreFewSubtrees, items_in}
 use Rattle.tsc_page_tree.proofs.Joins.{sorted_left, sorted_right}
 use Rattle.tsc_page_tree.proofs.LeafMakes.{append_nil}
 use Rattle.tsc_page_tree.proofs.SubtreeLists.{AreSameAs, same_list, copies_same, copies_sorted, made_sorted}
-use Rattle.tsc_page_tree.proofs.Told.{told_made, no_items}
+use Rattle.tsc_page_tree.proofs.Reported.{reported_made, no_items}
 use Rattle.tsc_page_tree.proofs.Wholes.{branch_whole, branch_subtrees}
 use Rattle.tsc_page_tree.proofs.branch.BranchSubtree.make_node.Given.{Over}
 use Rattle.tsc_page_tree.proofs.branch.BranchSubtree.make_node.Goals.{After-push_down}
@@ -133,9 +133,9 @@ aggregate_with-self-requires-clause-kept g c = λ h.
     let gs = c.grow.new.subtrees.items in
     let none = ap (λ (is : List g.row.P.Denot). nodes_of (map f is))
     (no_items c.in_ok-upper.upper (sym c.is_some.ensures ∙ h)) in
-    let stays = told_made s.start s.joint s.lazy (nodes_of (map f xs)) _ (nodes_of (map f gs))
+    let stays = reported_made s.start s.joint s.lazy (nodes_of (map f xs)) _ (nodes_of (map f gs))
     (nodes_of (map f (items_in c.in_ok-upper.upper))) c.args.key.now c.requires.subtree.sorted
-    c.requires.subtree.whole.told (all_pushed g
+    c.requires.subtree.whole.reported (all_pushed g
     (goal.at.aggregate_with-self-requires-clause-kept g c).After-push_down)
     c.in_ok-upper.ensures.made none in
     stays ∙ ap (λ (is : List g.row.P.Denot). all_joint (nodes_of (map f is)))
@@ -173,17 +173,17 @@ returns-in_ok-new-in-Some-clause-made g c =
     (all_pushed g (goal.at.returns-in_ok-new-in-Some-clause-made g c).After-push_down)
     c.in_ok-upper.ensures.made in
     let held = ap (λ u. u.items) (c.make_mut.follows.holds c.grow.new.subtrees (search rules)) in
-    let first = ap (λ (o : Option OwnedTime). with_lazy o
+    let first = ap (λ (o : Option ValueView). with_lazy o
     (nodes_of (map f (arc_value (c.make_mut.follows.lender c.grow.new.subtrees)).items)))
     c.aggregate_with-self.ensures.lazy ∙
     ap (λ (is : List g.row.P.Denot). nodes_of (map f is)) held in
-    let told = subst (λ o. HasNode (with_lazy p (nodes_of (map f xs)))
+    let reported = subst (λ o. HasNode (with_lazy p (nodes_of (map f xs)))
     (nodes_of (map f gs) ++ nodes_of (map f (items_in o))) c.args.key.now) c.in-Some.is made in
     subst (λ (ns : List Node). HasNode (with_lazy p (nodes_of (map f xs))) ns c.args.key.now)
     (sym (ap (λ (ns : List Node). ns ++ (branch_nodes f c.in_ok-new-in-Some.field-0 ++ [])) first ∙
     ap (λ (ns : List Node). nodes_of (map f gs) ++ ns)
     (append_nil (branch_nodes f c.in_ok-new-in-Some.field-0) ∙
-    c.in_ok-new-in-Some.ensures.nodes))) told
+    c.in_ok-new-in-Some.ensures.nodes))) reported
 
 pub returns-in_ok-new-in-Some-clause-whole : goal.returns-in_ok-new-in-Some-clause-whole
 returns-in_ok-new-in-Some-clause-whole g c =
@@ -192,11 +192,11 @@ returns-in_ok-new-in-Some-clause-whole g c =
     let Q = g.P.Subtree.IsWhole in
     let gs = c.grow.new.subtrees.items in
     let held = ap (λ u. u.items) (c.make_mut.follows.holds c.grow.new.subtrees (search rules)) in
-    let told = subst (λ (is : List g.row.P.Denot). IsTold c.aggregate_with-self.result
-    (nodes_of (map f is))) c.deref.ensures.value c.aggregate_with-self.ensures.told in
+    let reported = subst (λ (is : List g.row.P.Denot). IsReported c.aggregate_with-self.result
+    (nodes_of (map f is))) c.deref.ensures.value c.aggregate_with-self.ensures.reported in
     subst (λ (is : List g.row.P.Denot). IsBranchOf f s Q c.aggregate_with-self.result is) (sym held)
     (branch_whole f s Q c.aggregate_with-self.result gs g.met.P.Subtree.counted
-    c.in_ok-upper.ensures.few told)
+    c.in_ok-upper.ensures.few reported)
 
 pub returns-in-None-clause-made : goal.returns-in-None-clause-made
 returns-in-None-clause-made g c =
@@ -209,14 +209,14 @@ returns-in-None-clause-made g c =
     (all_pushed g (goal.at.returns-in-None-clause-made g c).After-push_down)
     c.in_ok-upper.ensures.made in
     let held = ap (λ u. u.items) (c.make_mut.follows.holds c.grow.new.subtrees (search rules)) in
-    let first = ap (λ (o : Option OwnedTime). with_lazy o
+    let first = ap (λ (o : Option ValueView). with_lazy o
     (nodes_of (map f (arc_value (c.make_mut.follows.lender c.grow.new.subtrees)).items)))
     c.aggregate_with-self.ensures.lazy ∙
     ap (λ (is : List g.row.P.Denot). nodes_of (map f is)) held in
-    let told = subst (λ o. HasNode (with_lazy p (nodes_of (map f xs)))
+    let reported = subst (λ o. HasNode (with_lazy p (nodes_of (map f xs)))
     (nodes_of (map f gs) ++ nodes_of (map f (items_in o))) c.args.key.now) c.in-None.is made in
     subst (λ (ns : List Node). HasNode (with_lazy p (nodes_of (map f xs))) ns c.args.key.now)
-    (sym (ap (λ (ns : List Node). ns ++ []) first)) told
+    (sym (ap (λ (ns : List Node). ns ++ []) first)) reported
 
 pub returns-in-None-clause-whole : goal.returns-in-None-clause-whole
 returns-in-None-clause-whole g c =
@@ -225,8 +225,8 @@ returns-in-None-clause-whole g c =
     let Q = g.P.Subtree.IsWhole in
     let gs = c.grow.new.subtrees.items in
     let held = ap (λ u. u.items) (c.make_mut.follows.holds c.grow.new.subtrees (search rules)) in
-    let told = subst (λ (is : List g.row.P.Denot). IsTold c.aggregate_with-self.result
-    (nodes_of (map f is))) c.deref.ensures.value c.aggregate_with-self.ensures.told in
+    let reported = subst (λ (is : List g.row.P.Denot). IsReported c.aggregate_with-self.result
+    (nodes_of (map f is))) c.deref.ensures.value c.aggregate_with-self.ensures.reported in
     subst (λ (is : List g.row.P.Denot). IsBranchOf f s Q c.aggregate_with-self.result is) (sym held)
     (branch_whole f s Q c.aggregate_with-self.result gs g.met.P.Subtree.counted
-    c.in_ok-upper.ensures.few told)
+    c.in_ok-upper.ensures.few reported)

@@ -4,17 +4,17 @@ use Rattle.std.specs.Prelude.{Option}
 use Rattle.std.specs.Arc.{arc_value}
 use Rattle.std.specs.Vec.{with_items}
 use Rattle.std.proofs.lemmas.List.{with_items_is}
-use Rattle.tsc_time.specs.OwnedTime.{OwnedTime}
+use Rattle.tsc_time.specs.ValueView.{ValueView}
 use Rattle.tsc_span.specs.Cuts.{cut_of}
 use Rattle.tsc_span.specs.Span.{Cut, between, is_below}
 use Rattle.tsc_page_nodes.specs.Nodes.{Node, raise_nodes}
 use Rattle.tsc_page_tree.specs.Leaves.{nodes_of, start_of, AreSubtrees}
 use Rattle.tsc_page_tree.specs.Lazy.{with_lazy}
-use Rattle.tsc_page_tree.specs.Trees.{IsTold, IsBranchOf}
+use Rattle.tsc_page_tree.specs.Trees.{IsReported, IsBranchOf}
 use Rattle.tsc_page_tree.proofs.Lazy.{raise_lazy}
 use Rattle.tsc_page_tree.proofs.SubtreeLists.{AreSameAs, same_list, copies_same, copies_sorted}
-use Rattle.tsc_page_tree.proofs.TreeAcross.{told_raised_below}
-use Rattle.tsc_page_tree.proofs.Wholes.{branch_whole, branch_subtrees, told_as}
+use Rattle.tsc_page_tree.proofs.TreeAcross.{reported_raised_below}
+use Rattle.tsc_page_tree.proofs.Wholes.{branch_whole, branch_subtrees, reported_as}
 use Rattle.tsc_page_tree.proofs.branch.BranchSubtree.raise_between.Goals as goal
 
 pub raise_between-requires-clause-subtrees : goal.raise_between-requires-clause-subtrees
@@ -64,7 +64,7 @@ returns-clause-raised g c =
     ∙ ap (λ (ls : List (List Node)). raise_nodes (between from to) c.args.value (nodes_of ls))
     same.nodes in
     let held = ap (λ u. u.items) (c.make_mut.follows.holds w (search rules)) ∙ kept in
-    ap (λ (o : Option OwnedTime). with_lazy o
+    ap (λ (o : Option ValueView). with_lazy o
     (nodes_of (map f (arc_value (c.make_mut.follows.lender w)).items))) c.reach.ensures.lazy
     ∙ ap (λ (is : List g.row.P.Denot). with_lazy p (nodes_of (map f is))) held ∙
     ap (with_lazy p) raised ∙ raise_lazy p (between from to) c.args.value ns
@@ -105,14 +105,14 @@ returns-clause-whole g c =
     (c.deref.ensures.value ∙ kept) ∙
     ap (λ (x : Cut). is_below (start_of (nodes_of (map f ws))) x) c.new.ensures ∙
     ap (λ (ms : List Node). is_below (start_of ms) to) raised in
-    let told = told_raised_below sum.start sum.joint c.args.value p from to ns
+    let reported = reported_raised_below sum.start sum.joint c.args.value p from to ns
     c.first_starts_below-reached.result c.requires.subtree.sorted c.requires.order reached
-    c.requires.subtree.whole.told in
-    let told_now : IsTold c.reach.new.self (nodes_of (map f ws)) =
-    subst (λ (ms : List Node). IsTold c.reach.new.self ms) (sym raised)
-    (told_as sum.start c.reach.new.self.start _ c.reach.new.self.joint _
+    c.requires.subtree.whole.reported in
+    let reported_now : IsReported c.reach.new.self (nodes_of (map f ws)) =
+    subst (λ (ms : List Node). IsReported c.reach.new.self ms) (sym raised)
+    (reported_as sum.start c.reach.new.self.start _ c.reach.new.self.joint _
     c.reach.new.self.lazy (raise_nodes (between from to) c.args.value ns)
-    c.reach.ensures.start c.reach.ensures.joint c.reach.ensures.lazy told) in
+    c.reach.ensures.start c.reach.ensures.joint c.reach.ensures.lazy reported) in
     let long : length ws ≡ length xs =
     omega (
       arith,
@@ -128,4 +128,4 @@ returns-clause-whole g c =
       some = subst (λ (n : ℕ). 1 ≤ n) (sym long) few.some;
       few =
           subst (λ (n : ℕ). n ≤ 64) (sym long) few.few;
-    }) told_now)
+    }) reported_now)

@@ -4,15 +4,15 @@ use Rattle.std.specs.Arc.{arc_value}
 use Rattle.tsc_span.specs.Span.{Cut, is_below}
 use Rattle.tsc_page_tree.specs.Leaves.{nodes_of, start_of}
 use Rattle.tsc_page_tree.proofs.Lazy.{lazy-start}
-use Rattle.tsc_page_tree.proofs.Told.{told_start}
+use Rattle.tsc_page_tree.proofs.Reported.{reported_start}
 use Rattle.tsc_page_tree.proofs.branch.BranchSubtree.starts_above.Goals as goal
 
 pub returns-in-Some : goal.returns-in-Some
 returns-in-Some g c =
     let s = c.args.self.now.aggregate in
-    c.in-Some.ensures.1 _ (told_start s.start s.joint s.lazy
+    c.in-Some.ensures.1 _ (reported_start s.start s.joint s.lazy
     (nodes_of (map g.P.Subtree.nodes (arc_value c.args.self.now.subtrees).items))
-    c.requires.whole.told)
+    c.requires.whole.reported)
 
 pub returns-in-None : goal.returns-in-None
 returns-in-None g c =

@@ -2,10 +2,10 @@
 use Rattle.std.proofs.Common.{◌≡◌, ◌∙◌, sym, ap, subst, map, Bool, List}
 use Rattle.std.specs.Prelude.{Option}
 use Rattle.std.specs.Arc.{arc_value}
-use Rattle.tsc_time.specs.OwnedTime.{OwnedTime}
+use Rattle.tsc_time.specs.ValueView.{ValueView}
 use Rattle.tsc_span.specs.Span.{KeyBytes, Cut, before, after, point, is_below}
 use Rattle.tsc_page_nodes.specs.Nodes.{Node, answer_of}
-use Rattle.tsc_page_nodes.proofs.CutOrder.{before-after}
+use Rattle.tsc_span.proofs.CutOrder.{before-after}
 use Rattle.tsc_page_tree.specs.Leaves.{nodes_of, start_of, AreSubtrees}
 use Rattle.tsc_page_tree.specs.Lazy.{with_lazy, seen_with}
 use Rattle.tsc_page_tree.proofs.Lazy.{sorted_without, lazy-start, lazy_answer}
@@ -30,7 +30,7 @@ returns-in-None g c =
     let ns : List Node = nodes_of (map read (arc_value c.args.self.now.subtrees).items) in
     let k : KeyBytes = c.args.key.now in
     c.value_at-below.ensures ∙ ap (λ (xs : List g.row.P.Denot). answer_of (nodes_of (map read xs))
-    (point k)) is ∙ ap (λ (o : Option OwnedTime). answer_of (with_lazy o ns) (point k))
+    (point k)) is ∙ ap (λ (o : Option ValueView). answer_of (with_lazy o ns) (point k))
     (sym c.in-None.is)
 
 pub returns-in-Some : goal.returns-in-Some
@@ -45,7 +45,7 @@ returns-in-Some g c =
     let reached : c.starts_below.result ≡ is_below (start_of ns) (after k) =
     c.starts_below.ensures ∙ ap (λ (x : Cut). is_below x c.past.result) (lazy-start p ns) ∙
     ap (is_below (start_of ns)) c.past.ensures in
-    c.seen.ensures ∙ ap (λ (w : OwnedTime). seen_with p c.starts_below.result w) below ∙
+    c.seen.ensures ∙ ap (λ (w : ValueView). seen_with p c.starts_below.result w) below ∙
     ap (λ (b : Bool). seen_with p b (answer_of ns (point k))) reached
     ∙ sym (lazy_answer p (before k) (after k) ns (sorted_without p ns c.requires.subtree.sorted)
     (before-after k))

@@ -2,20 +2,20 @@
 use Rattle.std.proofs.Common.{◌≡◌, ◌∙◌, ◌-◌, ◌∷◌, [], inl, inr, rules, sym, ap, subst, true, List, length, arith}
 use Rattle.std.specs.Prelude.{Option}
 use Rattle.std.specs.Arc.{arc_value}
-use Rattle.tsc_time.specs.OwnedTime.{OwnedTime}
+use Rattle.tsc_time.specs.ValueView.{ValueView}
 use Rattle.tsc_page_nodes.specs.Nodes.{Node}
-use Rattle.tsc_page_nodes.specs.KeyAdds.{KeyInsertionView, IsKeyTold}
+use Rattle.tsc_page_nodes.specs.KeyAdds.{KeyInsertionView, IsKeyReported}
 use Rattle.tsc_page_tree.specs.Leaves.{IsLeaf}
 use Rattle.tsc_page_tree.specs.Lazy.{with_lazy, joint_after}
-use Rattle.tsc_page_tree.specs.KeyAdds.{IsKeyAddTold}
+use Rattle.tsc_page_tree.specs.KeyAdds.{IsKeyAddReported}
 use Rattle.tsc_page_tree.specs.Trees.{IsLeafOf}
 use Rattle.tsc_page_tree.proofs.Lazy.{sorted_without}
-use Rattle.tsc_page_tree.proofs.Wholes.{leaf_whole, told_as}
-use Rattle.tsc_page_tree.proofs.KeyAdds.{told_leaf, told_lazy, told_key, few_in_leaf}
+use Rattle.tsc_page_tree.proofs.Wholes.{leaf_whole, reported_as}
+use Rattle.tsc_page_tree.proofs.KeyAdds.{reported_leaf, reported_lazy, reported_key, few_in_leaf}
 use Rattle.tsc_page_tree.proofs.leaf.LeafSubtree.add_key.Goals as goal
 
-pub returns-clause-told : goal.returns-clause-told
-returns-clause-told c =
+pub returns-clause-reported : goal.returns-clause-reported
+returns-clause-reported c =
     let ns : List Node = arc_value c.args.self.now.nodes in
     let p = c.args.self.now.aggregate.lazy in
     let a : KeyInsertionView = c.args.add.now in
@@ -23,19 +23,19 @@ returns-clause-told c =
     let new : List Node = c.add_key-made.new.self in
     let same : c.in_ok-nodes.nodes.now ≡ ns =
     elim c.in_ok-nodes.ensures.value [ inl h ↦ h | inr h ↦ h ] in
-    let here = subst (λ (ms : List Node). IsKeyTold ms new a
+    let here = subst (λ (ms : List Node). IsKeyReported ms new a
     (record { nodes = 64 - c.len.result; bytes = c.args.room }) r) same
-    c.add_key-made.ensures.told in
-    let below = told_lazy p ns new _ _ a c.args.room r (sorted_without p ns
+    c.add_key-made.ensures.reported in
+    let below = reported_lazy p ns new _ _ a c.args.room r (sorted_without p ns
     c.requires.subtree.sorted)
-    (told_leaf r ns new a _ here) in
+    (reported_leaf r ns new a _ here) in
     let held : arc_value (c.make_mut.follows.lender new) ≡ new =
     c.make_mut.follows.holds new (search rules) in
-    subst (λ (ms : List Node). IsKeyAddTold (with_lazy p ns)
-    (with_lazy c.heed.new.self.lazy ms) (length ns ∷ []) (length ms ∷ []) a c.args.room r)
+    subst (λ (ms : List Node). IsKeyAddReported (with_lazy p ns)
+    (with_lazy c.update.new.self.lazy ms) (length ns ∷ []) (length ms ∷ []) a c.args.room r)
     (sym held)
-    (subst (λ (o : Option OwnedTime). IsKeyAddTold (with_lazy p ns) (with_lazy o new)
-    (length ns ∷ []) (length new ∷ []) a c.args.room r) (sym c.heed.ensures.lazy) below)
+    (subst (λ (o : Option ValueView). IsKeyAddReported (with_lazy p ns) (with_lazy o new)
+    (length ns ∷ []) (length new ∷ []) a c.args.room r) (sym c.update.ensures.lazy) below)
 
 pub returns-clause-whole : goal.returns-clause-whole
 returns-clause-whole c =
@@ -46,19 +46,20 @@ returns-clause-whole c =
     let new : List Node = c.add_key-made.new.self in
     let same : c.in_ok-nodes.nodes.now ≡ ns =
     elim c.in_ok-nodes.ensures.value [ inl h ↦ h | inr h ↦ h ] in
-    let here = subst (λ (ms : List Node). IsKeyTold ms new a
+    let here = subst (λ (ms : List Node). IsKeyReported ms new a
     (record { nodes = 64 - c.len.result; bytes = c.args.room }) r) same
-    c.add_key-made.ensures.told in
+    c.add_key-made.ensures.reported in
     let leaf = c.requires.subtree.whole.leaf in
     let few : IsLeaf new = few_in_leaf r ns new a
     (record { nodes = 64 - c.len.result; bytes = c.args.room }) leaf.0 leaf.1
     (omega (arith, c.len.ensures, ap length same, leaf.1)) here in
-    let told = told_key r s.start s.joint s.lazy ns new _ _ a c.args.room c.requires.subtree.sorted
-    (told_leaf r ns new a _ here) c.requires.subtree.whole.told in
-    subst (λ (ms : List Node). IsLeafOf c.heed.new.self ms)
+    let reported = reported_key r s.start s.joint s.lazy ns new _ _ a c.args.room
+    c.requires.subtree.sorted
+    (reported_leaf r ns new a _ here) c.requires.subtree.whole.reported in
+    subst (λ (ms : List Node). IsLeafOf c.update.new.self ms)
     (sym (c.make_mut.follows.holds new (search rules)))
-    (leaf_whole c.heed.new.self new few
-    (told_as s.start c.heed.new.self.start _ c.heed.new.self.joint s.lazy
-    c.heed.new.self.lazy new c.heed.ensures.start
-    (c.heed.ensures.joint ∙ ap (λ (w : OwnedTime). joint_after r true w s.joint) c.value.ensures)
-    c.heed.ensures.lazy told))
+    (leaf_whole c.update.new.self new few
+    (reported_as s.start c.update.new.self.start _ c.update.new.self.joint s.lazy
+    c.update.new.self.lazy new c.update.ensures.start
+    (c.update.ensures.joint ∙ ap (λ (w : ValueView). joint_after r true w s.joint) c.value.ensures)
+    c.update.ensures.lazy reported))

@@ -8,12 +8,12 @@ use Rattle.tsc_page_nodes.specs.Insertions.{InsertionView}
 use Rattle.tsc_page_nodes.specs.Insertions as insertions
 use Rattle.tsc_page_nodes.specs.declared.nodes.Growth.{Growth}
 use Rattle.tsc_page_tree.specs.Leaves.{IsLeaf, start_of}
-use Rattle.tsc_page_tree.specs.Lazy.{with_lazy, IsAddTold, joint_after}
+use Rattle.tsc_page_tree.specs.Lazy.{with_lazy, IsAddReported, joint_after}
 use Rattle.tsc_page_tree.specs.Trees.{IsLeafOf}
-use Rattle.tsc_page_nodes.proofs.CutOrder.{Lt}
+use Rattle.tsc_span.proofs.CutOrder.{Lt}
 use Rattle.tsc_page_tree.proofs.Lazy.{lazy-length}
-use Rattle.tsc_page_tree.proofs.Told.{told_pushed, told_added}
-use Rattle.tsc_page_tree.proofs.Wholes.{leaf_whole, told_as, add_told, leaf_added}
+use Rattle.tsc_page_tree.proofs.Reported.{reported_pushed, reported_added}
+use Rattle.tsc_page_tree.proofs.Wholes.{leaf_whole, reported_as, add_reported, leaf_added}
 use Rattle.tsc_page_tree.proofs.leaf.LeafSubtree.add_within.Goals as goal
 
 pub returns-clause-whole : goal.returns-clause-whole
@@ -33,11 +33,13 @@ returns-clause-whole c =
       omega (arith, lazy-length p ns, c.requires.subtree.whole.leaf.1),
     ) in
     let room : Growth = record { nodes = 64 - c.len.result; bytes = c.args.room } in
-    let made : insertions.IsTold old new a room c.insert_in_place-made.result =
-    subst (λ (ms : List Node). insertions.IsTold ms new a room c.insert_in_place-made.result) pushed
-    c.insert_in_place-made.ensures.told in
-    let told : IsAddTold old new (length old ∷ []) (length new ∷ []) a c.args.room
-    c.insert_in_place-made.result = add_told c.insert_in_place-made.result old new a room made in
+    let made : insertions.IsReported old new a room c.insert_in_place-made.result =
+    subst (λ (ms : List Node). insertions.IsReported ms new a room c.insert_in_place-made.result)
+    pushed
+    c.insert_in_place-made.ensures.reported in
+    let reported : IsAddReported old new (length old ∷ []) (length new ∷ []) a c.args.room
+    c.insert_in_place-made.result = add_reported c.insert_in_place-made.result old new a room made
+    in
     let order : IsInOrder a.first a.second =
     subst (λ (b : InsertionView). IsInOrder b.first b.second) c.add.view_is c.add.invariant.3 in
     let up : Lt a.from a.to = subst (λ (b : InsertionView). Lt b.from b.to) c.add.view_is
@@ -46,18 +48,18 @@ returns-clause-whole c =
     c.starts_below-reached.ensures ∙
     ap (λ (b : InsertionView). is_below (start_of new) b.to) c.add.view_is in
     let value : c.add.inside.value ≡ a.value = ap (λ (b : InsertionView). b.value) c.add.view_is in
-    let after_it = told_added c.insert_in_place-made.result s.start c.start_prefix.result
+    let after_it = reported_added c.insert_in_place-made.result s.start c.start_prefix.result
     s.joint old new
-    _ _ a c.args.room c.requires.subtree.sorted order up c.start_prefix.ensures told
-    (told_pushed s.start s.joint p ns c.requires.subtree.whole.told) in
+    _ _ a c.args.room c.requires.subtree.sorted order up c.start_prefix.ensures reported
+    (reported_pushed s.start s.joint p ns c.requires.subtree.whole.reported) in
     let few : IsLeaf new = leaf_added c.insert_in_place-made.result old new a room leaf
     (omega (arith, c.len.ensures, ap length pushed, leaf.1)) made in
     let held = c.make_mut.follows.holds new (search rules) in
-    subst (λ (ms : List Node). IsLeafOf c.heed.new.self ms) (sym held)
-    (leaf_whole c.heed.new.self new few
-    (told_as c.start_prefix.result c.heed.new.self.start _ c.heed.new.self.joint None
-    c.heed.new.self.lazy new c.heed.ensures.start
-    (c.heed.ensures.joint ∙ ap (λ (b : Bool). joint_after c.insert_in_place-made.result b
+    subst (λ (ms : List Node). IsLeafOf c.update.new.self ms) (sym held)
+    (leaf_whole c.update.new.self new few
+    (reported_as c.start_prefix.result c.update.new.self.start _ c.update.new.self.joint None
+    c.update.new.self.lazy new c.update.ensures.start
+    (c.update.ensures.joint ∙ ap (λ (b : Bool). joint_after c.insert_in_place-made.result b
     c.add.inside.value s.joint) reached ∙
     ap (λ w. joint_after c.insert_in_place-made.result (is_below (start_of new) a.to) w s.joint)
-    value) c.heed.ensures.lazy after_it))
+    value) c.update.ensures.lazy after_it))

@@ -7,7 +7,7 @@ use Rattle.tsc_page_nodes.specs.Nodes.{Node}
 use Rattle.tsc_page_tree.specs.Leaves.{IsLeaf}
 use Rattle.tsc_page_tree.specs.Lazy.{with_lazy}
 use Rattle.tsc_page_tree.specs.Trees.{nodes_in}
-use Rattle.tsc_page_tree.proofs.Told.{told_made, no_nodes}
+use Rattle.tsc_page_tree.proofs.Reported.{reported_made, no_nodes}
 use Rattle.tsc_page_tree.proofs.leaf.LeafSubtree.make_node.Goals as goal
 
 pub new-requires : goal.new-requires
@@ -23,7 +23,7 @@ aggregate_with-self-requires-clause-kept c = λ h.
     elim c.in_ok-nodes.ensures.value [ inl h ↦ h | inr h ↦ h ] in
     let pushed : c.push_down.new.nodes ≡ with_lazy s.lazy ns = c.push_down.ensures ∙
     ap (with_lazy s.lazy) same in
-    told_made s.start s.joint s.lazy ns c.push_down.new.nodes c.grow.new.nodes
+    reported_made s.start s.joint s.lazy ns c.push_down.new.nodes c.grow.new.nodes
     (nodes_in c.in_ok-upper.upper) c.args.key.now c.requires.subtree.sorted
-    c.requires.subtree.whole.told pushed
+    c.requires.subtree.whole.reported pushed
     c.in_ok-upper.ensures.made (no_nodes c.in_ok-upper.upper (sym c.is_some.ensures ∙ h))

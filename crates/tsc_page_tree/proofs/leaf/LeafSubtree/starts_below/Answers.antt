@@ -5,14 +5,14 @@ use Rattle.tsc_span.specs.Span.{Cut, is_below}
 use Rattle.tsc_page_nodes.specs.Nodes.{Node}
 use Rattle.tsc_page_tree.specs.Leaves.{start_of}
 use Rattle.tsc_page_tree.proofs.Lazy.{lazy-start}
-use Rattle.tsc_page_tree.proofs.Told.{told_start}
+use Rattle.tsc_page_tree.proofs.Reported.{reported_start}
 use Rattle.tsc_page_tree.proofs.leaf.LeafSubtree.starts_below.Goals as goal
 
 pub returns-in-Some : goal.returns-in-Some
 returns-in-Some c =
     let s = c.args.self.now.aggregate in
-    c.in-Some.ensures.1 _ (told_start s.start s.joint s.lazy (arc_value c.args.self.now.nodes)
-    c.requires.whole.told)
+    c.in-Some.ensures.1 _ (reported_start s.start s.joint s.lazy (arc_value c.args.self.now.nodes)
+    c.requires.whole.reported)
 
 pub returns-in-None : goal.returns-in-None
 returns-in-None c =

@@ -8,8 +8,8 @@ use Rattle.tsc_page_tree.proofs.subtrees.joints.joint_below.Given as goal
 
 -- the best so far, with the answer of the subtrees that are left, is the answer of all from the
 -- first one on
-abbrev pub invariant-loop-place : goal.invariant-loop-place
-invariant-loop-place g l = AnswersSoFar (nodes_of (drop l.fn.start (map g.P.Subtree.nodes
+abbrev pub invariant-loop-index : goal.invariant-loop-index
+invariant-loop-index g l = AnswersSoFar (nodes_of (drop l.fn.start (map g.P.Subtree.nodes
     l.fn.subtrees)))
-    (nodes_of (drop l.place (map g.P.Subtree.nodes l.fn.subtrees))) (before []) l.fn.to
+    (nodes_of (drop l.index (map g.P.Subtree.nodes l.fn.subtrees))) (before []) l.fn.to
     (before []) l.best

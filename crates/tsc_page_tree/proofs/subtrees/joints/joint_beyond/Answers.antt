@@ -2,12 +2,12 @@
 use Rattle.std.proofs.Common.{◌≡◌, ◌∙◌, ◌+◌, ◌<◌, ap, sym, subst, ℕ, suc, List, [], ◌∷◌, map, get_or, take, drop, length, arith}
 use Rattle.std.proofs.lemmas.List.{length-map}
 use Rattle.tsc_time.specs.Time.{zero_time}
-use Rattle.tsc_time.specs.OwnedTime.{OwnedTime, unowned}
+use Rattle.tsc_time.specs.ValueView.{ValueView, unowned}
 use Rattle.tsc_time.specs.Joint.{joint}
 use Rattle.tsc_span.specs.Span.{Cut, before, last, between}
 use Rattle.tsc_page_nodes.specs.Nodes.{Node, IsSorted, answer_of}
 use Rattle.tsc_page_tree.specs.Leaves.{nodes_of, IsLeafAt}
-use Rattle.tsc_page_nodes.proofs.CutOrder.{Lt, Le_Lt-chain}
+use Rattle.tsc_span.proofs.CutOrder.{Lt, Le_Lt-chain}
 use Rattle.tsc_page_nodes.proofs.Cuts.{lowest}
 use Rattle.tsc_page_tree.proofs.Joins.{up_to_last}
 use Rattle.tsc_page_tree.proofs.LeafLists.{read_leaf, leaf_first, parted_at, sorted_from, starts_low, ends_high, all_some, read_subtree}
@@ -56,17 +56,17 @@ returns g c =
     (subst IsSorted first (sorted_from ls p sorted))
     (ends_high ls from p some (up_to_last from to c.requires.order) at) c.requires.goes.beyond
     here in
-    let answer : OwnedTime = answer_of (get_or ls p []) (between from last) in
-    let rest : OwnedTime = answer_of behind (between (before []) to) in
+    let answer : ValueView = answer_of (get_or ls p []) (between from last) in
+    let rest : ValueView = answer_of behind (between (before []) to) in
     let next : p + 1 ≡ suc p = omega arith in
     let best = c.joint_below-best.ensures ∙
     ap (λ (j : ℕ). answer_of (nodes_of (drop j ls)) (between (before []) to)) next in
-    c.joined.ensures ∙ ap (λ (w : OwnedTime). joint w
+    c.joined.ensures ∙ ap (λ (w : ValueView). joint w
     (answer_of (read c.index-subtrees-first.result) (between from c.new-last.result) ∷ [])) best
     ∙ ap (λ (x : Cut). joint rest (answer_of (read c.index-subtrees-first.result) (between from x) ∷
     [])) c.new-last.ensures
     ∙ ap (λ (ns : List Node). joint rest (answer_of ns (between from last) ∷ [])) is
     ∙ joint-swap rest answer
-    ∙ ap (λ (w : OwnedTime). joint w (rest ∷ []))
+    ∙ ap (λ (w : ValueView). joint w (rest ∷ []))
     (sym (zero_first answer (zero_below_answer (between from last) (get_or ls p []))))
     ∙ more.answers

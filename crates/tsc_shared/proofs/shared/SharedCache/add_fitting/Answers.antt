@@ -37,8 +37,8 @@ apply_by-outcome-requires-clause-make g c =
     (subst (λ (x : SharedView). CanAllBeAdded x.config (marks_asked c.args.asked.now.marks)
     c.args.asked.now.moment) (sym c.self.view_is) c.requires.made)
 
-pub apply_by-outcome-requires-clause-untold : goal.apply_by-outcome-requires-clause-untold
-apply_by-outcome-requires-clause-untold g c = c.requires.untold
+pub apply_by-outcome-requires-clause-unreported : goal.apply_by-outcome-requires-clause-unreported
+apply_by-outcome-requires-clause-unreported g c = c.requires.unreported
 
 pub invariant_of-seat : goal.invariant_of-seat
 invariant_of-seat g c =
@@ -102,7 +102,7 @@ returns-in-Busy g c =
     let same = same_seat c.seat.inside.participant c.apply_by-outcome.new.who
     c.apply_by-outcome.ensures.table
     (c.in-Busy.ensures.outcome.is.0 ∙ sym c.seat.invariant.rest) ∙ c.seat.view_is in record {
-      told_is = c.in-Busy.ensures.outcome.told_is;
+      reported_is = c.in-Busy.ensures.outcome.reported_is;
       gate = tt;
       accepted = tt;
       seat = subst (λ (new : SeatView). GoesOn c.args.seat.now new) (sym same)
@@ -127,8 +127,8 @@ returns-in-Made g c =
         seen = seen_of c.apply_by-outcome.new.who.me.0;
       };
     } in record {
-      told_is = c.in-Made.ensures.outcome.told_is;
-      gate = subst (g.G.Gate.HasTold c.args.notice.now.gate.now)
+      reported_is = c.in-Made.ensures.outcome.reported_is;
+      gate = subst (g.G.Gate.HasReported c.args.notice.now.gate.now)
           (c.seat.invariant.number_kept ∙ ap (λ (s : SeatView). s.number) c.seat.view_is)
           (c.in-Made.ensures.outcome.gate refl);
       accepted = subst (λ (r : Receipt). Accepts c.args.seat.now c.receipt.new.seat
@@ -153,7 +153,7 @@ returns-in-Refused g c =
     let n = c.in-Refused.ensures.outcome.is in
     let r = rests_unadded c.seat.inside.participant c.apply_by-outcome.new.who _ c.in-Refused.seen
     c.in-Refused.why c.seat.invariant.seat c.apply_by-outcome.ensures.table n in record {
-      told_is = c.in-Refused.ensures.outcome.told_is;
+      reported_is = c.in-Refused.ensures.outcome.reported_is;
       gate = tt;
       accepted = tt;
       seat = subst (λ (new : SeatView). GoesOn c.args.seat.now new) (sym c.fault.ensures.same)

@@ -41,8 +41,8 @@ returns-then-not-fits-clause-answers g c =
 
 pub returns-clause-gate : goal.returns-clause-gate
 returns-clause-gate g c =
-    subst (λ gate. OnOk c.add_fitting.result (g.G.Gate.HasTold gate c.args.seat.now.number))
+    subst (λ gate. OnOk c.add_fitting.result (g.G.Gate.HasReported gate c.args.seat.now.number))
     c.due.ensures.gate c.add_fitting.ensures.gate
 
-pub add_fitting-requires-clause-untold : goal.add_fitting-requires-clause-untold
-add_fitting-requires-clause-untold g c = search rules
+pub add_fitting-requires-clause-unreported : goal.add_fitting-requires-clause-unreported
+add_fitting-requires-clause-unreported g c = search rules

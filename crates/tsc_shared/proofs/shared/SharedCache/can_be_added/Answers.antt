@@ -1,7 +1,7 @@
 -- What the laws of one cache say of the marks, by the form in which the caller lends them.
 use Rattle.std.proofs.Common.{◌≡◌, sym, subst, true}
-use Rattle.tsc_page_nodes.specs.Page.{Mark}
-use Rattle.tsc_cache.specs.Settings.{fits}
+use Rattle.tsc_page_model.specs.Page.{Mark}
+use Rattle.tsc_cache.specs.ConfigView.{fits}
 use Rattle.tsc_cache.specs.Batch.{all_fit}
 use Rattle.tsc_cache.specs.History.{CanBeAdded, CanAllBeAdded}
 use Rattle.tsc_shared.specs.declared.adds.MarksRef.{MarksRef}

@@ -13,8 +13,8 @@ invariant_of-seat c = let l = c.read-figures.ensures.looked in
     c.read-figures.result.1 l.0 c.seat.inside.number c.seat.inside.count
     c.seat.inside.seen c.seat.invariant l.1 c.read-figures.ensures.table
 
-pub returns-clause-figures : goal.returns-clause-figures
-returns-clause-figures c = let l = c.read-figures.ensures.looked in
+pub returns : goal.returns
+returns c = let l = c.read-figures.ensures.looked in
     subst (λ old. ReadsFigures old (seat_view c.read-figures.new.who)
     (record {
       figures = c.read-figures.result.0;

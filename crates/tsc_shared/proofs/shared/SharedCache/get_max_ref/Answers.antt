@@ -3,7 +3,7 @@
 use Rattle.std.proofs.Common.{subst}
 use Rattle.tsc_shared.specs.Keeping.{seat_view}
 use Rattle.tsc_shared.specs.Answers.{AnswersLookup}
-use Rattle.tsc_shared.proofs.SeatSteps.{kept_looked, looks_now, is_above, tells_no_part}
+use Rattle.tsc_shared.proofs.SeatSteps.{kept_looked, looks_now, is_above, reports_no_part}
 use Rattle.tsc_shared.proofs.shared.SharedCache.get_max_ref.Goals as goal
 
 pub invariant_of-seat : goal.invariant_of-seat
@@ -29,5 +29,5 @@ returns-clause-above c = is_above c.args.seat.now (seat_view c.read-value.new.wh
     }) (returns-clause-looked c)
 
 pub returns-clause-whole : goal.returns-clause-whole
-returns-clause-whole c = tells_no_part (seat_view c.read-value.new.who) c.args.span.now
+returns-clause-whole c = reports_no_part (seat_view c.read-value.new.who) c.args.span.now
     c.read-value.result.0 (returns-clause-above c)

@@ -1,5 +1,5 @@
 -- The places beside a key are in order.
-use Rattle.tsc_span.proofs.CutOrder.{sides_in_order}
+use Rattle.tsc_span.proofs.CutsTotal.{sides_in_order}
 use Rattle.tsc_span.proofs.add_span.AddSpan.cuts.Goals as goal
 
 pub returns-in-Point-clause-order : goal.returns-in-Point-clause-order

@@ -1,7 +1,7 @@
 -- The places beside a key are in order, and the key of a span has bytes that a key can have.
 use Rattle.std.proofs.Common.{subst}
 use Rattle.tsc_span.specs.MadeSpan.{IsKey}
-use Rattle.tsc_span.proofs.CutOrder.{sides_in_order}
+use Rattle.tsc_span.proofs.CutsTotal.{sides_in_order}
 use Rattle.tsc_span.proofs.MadeSpans.{is_key, made_point}
 use Rattle.tsc_span.proofs.span.Span.cuts.Goals as goal
 

@@ -1,7 +1,7 @@
 -- Proves the contract of `Stripe::add`. It adds in place, or by the next version.
 use Rattle.std.proofs.Common.{◌≡◌, subst, rules}
 use Rattle.std.specs.Prelude.{Option, None, OnOk}
-use Rattle.tsc_page_nodes.specs.Page.{Mark}
+use Rattle.tsc_page_model.specs.Page.{Mark}
 use Rattle.tsc_cache.specs.declared.added.Added.{Added}
 use Rattle.tsc_cache.specs.CacheView.{CacheView, StandsAfter, AddsWithoutRotation}
 use Rattle.tsc_cache.proofs.AddsSeen.{adds_are_steps}

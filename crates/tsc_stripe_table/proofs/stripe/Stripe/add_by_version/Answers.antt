@@ -1,6 +1,6 @@
 -- Proves the contract of `Stripe::add_by_version`. The next version takes the place of the cache.
 use Rattle.std.proofs.Common.{sym, subst}
-use Rattle.tsc_page_nodes.specs.Page.{Mark}
+use Rattle.tsc_page_model.specs.Page.{Mark}
 use Rattle.tsc_cache.specs.CacheView.{CacheView, StandsAfter}
 use Rattle.tsc_stripe_table.proofs.stripe.Stripe.add_by_version.Goals as goal
 

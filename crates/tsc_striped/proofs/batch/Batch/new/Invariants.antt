@@ -1,7 +1,7 @@
 -- There are pieces for each stripe that was met.
 use Rattle.std.proofs.Common.{◌≡◌, ℕ, ◌+◌, ◌-◌, ◌<◌, List, length}
 use Rattle.std.specs.Prelude.{slice_index_or}
-use Rattle.tsc_page_nodes.specs.Page.{Mark}
+use Rattle.tsc_page_model.specs.Page.{Mark}
 use Rattle.tsc_stripe_table.specs.Stripes.{marks_in}
 use Rattle.tsc_striped.proofs.batch.Batch.new.Given as goal
 

@@ -2,7 +2,7 @@
 use Rattle.std.proofs.Common.{◌≡◌, ◌∙◌, sym, ap, subst, ◌+◌, arith, List}
 use Rattle.std.specs.Prelude.{Ok}
 use Rattle.tsc_span.specs.Span.{KeyBytes}
-use Rattle.tsc_page_nodes.specs.Page.{Mark}
+use Rattle.tsc_page_model.specs.Page.{Mark}
 use Rattle.tsc_time.specs.Time.{Time}
 use Rattle.tsc_cache.specs.History.{CanAllBeAdded}
 use Rattle.tsc_striped.specs.declared.striped.StripedCache.TheInside.{Inside}
@@ -38,7 +38,7 @@ add_batch-requires-clause-can g c =
             (sym is.0) can);
         room = c.seat.invariant.seat.settled.room;
       },
-      c.due-notice.ensures.told,
+      c.due-notice.ensures.reported,
     )
 
 pub invariant_of-seat-2 : goal.invariant_of-seat-2
@@ -89,6 +89,6 @@ returns-clause-gate g c =
     let due = c.due-notice.ensures.gate in
     let number : c.due-notice.result.seat ≡ c.args.seat.now.number =
     due.1 ∙ c.seat.invariant.number_kept ∙ ap (λ (s : SeatView). s.number) c.seat.view_is in
-    subst (g.G.Gate.HasTold c.args.gate.now) number
-    (subst (λ gate. g.G.Gate.HasTold gate c.due-notice.result.seat) due.0
+    subst (g.G.Gate.HasReported c.args.gate.now) number
+    (subst (λ gate. g.G.Gate.HasReported gate c.due-notice.result.seat) due.0
     c.in_ok-added.ensures.added.1)

@@ -1,7 +1,7 @@
 -- Proves the contract of `StripedCache::add_gated`. An Add of which the gate is told.
-use Rattle.tsc_striped.proofs.Adds.{told_waited}
+use Rattle.tsc_striped.proofs.Adds.{reported_waited}
 use Rattle.tsc_striped.proofs.striped.StripedCache.add_gated.Goals as goal
 
 pub returns-clause-gate : goal.returns-clause-gate
 returns-clause-gate g c =
-    told_waited c.add_alone.result c.waited.result _ c.add_alone.ensures.gate c.waited.ensures
+    reported_waited c.add_alone.result c.waited.result _ c.add_alone.ensures.gate c.waited.ensures

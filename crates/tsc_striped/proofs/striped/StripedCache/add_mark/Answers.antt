@@ -1,8 +1,8 @@
 -- Proves the contract of `StripedCache::add_mark`. An Add of one mark.
 use Rattle.std.proofs.Common.{◌≡◌, ◌∙◌, sym, ap, subst, ◌+◌, arith, true, [], ◌∷◌}
 use Rattle.std.specs.Prelude.{Ok}
-use Rattle.tsc_page_nodes.specs.Page.{Mark}
-use Rattle.tsc_cache.specs.Settings.{Settings, fits}
+use Rattle.tsc_page_model.specs.Page.{Mark}
+use Rattle.tsc_cache.specs.ConfigView.{ConfigView, fits}
 use Rattle.tsc_cache.specs.History.{CanBeAdded}
 use Rattle.tsc_striped.specs.declared.striped.StripedCache.TheInside.{Inside}
 use Rattle.tsc_striped.specs.declared.answers.Receipt.{Receipt}
@@ -36,9 +36,9 @@ add_in-requires-clause-mark g c =
     span_fits p.me.0.setup c.args.mark.span.now c.cost-cost.result settled
     c.cost-cost.ensures.value c.cost-cost.ensures.most in
     let can : CanBeAdded p.me.0.setup.config m c.args.mark.moment =
-    subst (λ (s : Settings). CanBeAdded s m c.args.mark.moment) config
+    subst (λ (s : ConfigView). CanBeAdded s m c.args.mark.moment) config
     (c.can_be_added.ensures
-    (subst (λ (s : Settings). fits s c.args.mark.span.now ≡ true) (sym config) fit)) in
+    (subst (λ (s : ConfigView). fits s c.args.mark.span.now ≡ true) (sym config) fit)) in
     let there = there_in c.as_slice.result.now p.me.0.setup.bounds c.args.mark.span.now
     c.find_touched-touched.result.first bounds first in
     let lies = lies_there p.me.0.setup c.as_slice.result.now m c.args.mark.moment
@@ -65,9 +65,9 @@ invariant_of-seat-2 g c =
     span_fits p.me.0.setup c.args.mark.span.now c.cost-cost.result settled
     c.cost-cost.ensures.value c.cost-cost.ensures.most in
     let can : CanBeAdded p.me.0.setup.config m c.args.mark.moment =
-    subst (λ (s : Settings). CanBeAdded s m c.args.mark.moment) config
+    subst (λ (s : ConfigView). CanBeAdded s m c.args.mark.moment) config
     (c.can_be_added.ensures
-    (subst (λ (s : Settings). fits s c.args.mark.span.now ≡ true) (sym config) fit)) in
+    (subst (λ (s : ConfigView). fits s c.args.mark.span.now ≡ true) (sym config) fit)) in
     let there = there_in c.as_slice.result.now p.me.0.setup.bounds c.args.mark.span.now
     c.find_touched-touched.result.first bounds first in
     let lies = lies_there p.me.0.setup c.as_slice.result.now m c.args.mark.moment
@@ -105,9 +105,9 @@ returns-clause-answers g c =
     span_fits p.me.0.setup c.args.mark.span.now c.cost-cost.result settled
     c.cost-cost.ensures.value c.cost-cost.ensures.most in
     let can : CanBeAdded p.me.0.setup.config m c.args.mark.moment =
-    subst (λ (s : Settings). CanBeAdded s m c.args.mark.moment) config
+    subst (λ (s : ConfigView). CanBeAdded s m c.args.mark.moment) config
     (c.can_be_added.ensures
-    (subst (λ (s : Settings). fits s c.args.mark.span.now ≡ true) (sym config) fit)) in
+    (subst (λ (s : ConfigView). fits s c.args.mark.span.now ≡ true) (sym config) fit)) in
     let there = there_in c.as_slice.result.now p.me.0.setup.bounds c.args.mark.span.now
     c.find_touched-touched.result.first bounds first in
     let lies = lies_there p.me.0.setup c.as_slice.result.now m c.args.mark.moment

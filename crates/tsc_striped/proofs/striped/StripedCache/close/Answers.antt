@@ -2,7 +2,7 @@
 use Rattle.std.proofs.Common.{◌∙◌, sym, ap, subst, arith}
 use Rattle.tsc_striped.specs.Seats.{DealerView, StripedView}
 use Rattle.tsc_striped.specs.Answers.{Closes}
-use Rattle.tsc_striped.proofs.Endings.{gathered_states, all_gathered, none_held, closes}
+use Rattle.tsc_striped.proofs.Endings.{gathered_states, all_gathered, none_held, retires}
 use Rattle.tsc_striped.proofs.striped.StripedCache.close.Goals as goal
 
 pub gather-all-requires-clause-seats : goal.gather-all-requires-clause-seats
@@ -32,8 +32,7 @@ returns-clause-closed c =
     let p = c.dealer.inside.participant in
     subst (λ (d : DealerView). Closes d c.args.seats.items (record { caches = c.close.result }))
     c.dealer.view_is
-    (closes _ c.args.seats.items c.gather-all.result.me.0.states _
-    (record { caches = c.close.result })
+    (retires _ c.args.seats.items c.gather-all.result.me.0.states _ c.close.result.items
     (c.self.invariant.1 ∙ ap (λ (x : StripedView). x.terms) (c.self.view_is
     ∙ sym c.requires.dealer ∙ sym (ap (λ (d : DealerView). d.cache) c.dealer.view_is)))
     c.dealer.invariant.some

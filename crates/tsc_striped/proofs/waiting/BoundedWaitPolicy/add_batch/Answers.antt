@@ -10,12 +10,13 @@ add_under_all-requires-clause-can g c =
     let b = c.args.batch.now in
     let can = subst (λ (m : At). CanAddBatch m.0.setup b) (sym c.loop.invariant.5)
     c.requires.can.0 in
-    (can, ap (λ it. it.told) c.loop.invariant.6 ∙ c.requires.can.1)
+    (can, ap (λ it. it.reported) c.loop.invariant.6 ∙ c.requires.can.1)
 
 pub returns-in-Ok-clause-added : goal.returns-in-Ok-clause-added
 returns-in-Ok-clause-added g c =
     let b = c.args.batch.now in (
       subst (λ (m : At). AddsAll m c.add_under_all.new.who.me b.marks.items b.moment c.in-Ok.added)
           c.loop.invariant.5 c.in-Ok.ensures.added.0,
-      subst (λ it. g.G.Gate.HasTold it.gate.now it.seat) c.loop.invariant.6 c.in-Ok.ensures.added.1,
+      subst (λ it. g.G.Gate.HasReported it.gate.now it.seat) c.loop.invariant.6
+          c.in-Ok.ensures.added.1,
     )

@@ -1,5 +1,5 @@
 -- Proves the contract of `get`. What a lookup answered, by the fields behind its word.
-use Rattle.tsc_time.specs.OwnedTime.{owner_of}
+use Rattle.tsc_time.specs.ValueView.{owner_of}
 use Rattle.tsc_trace.specs.LogText.{space, time_text, owner_text}
 use Rattle.tsc_trace.proofs.Cuts.{no_cut}
 use Rattle.tsc_trace.proofs.FieldReading.{get_refused, get_read, value_parts}

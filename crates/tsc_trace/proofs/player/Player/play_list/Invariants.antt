@@ -1,7 +1,7 @@
 -- Proves the loop invariants of `Player::play_list`. Makes the calls of the list with this number,
 -- and adds their lines.
 use Rattle.std.proofs.Common.{◌≡◌, ◌+◌, ◌≤◌, drop}
-use Rattle.tsc_cache.specs.Settings.{Settings}
+use Rattle.tsc_cache.specs.ConfigView.{ConfigView}
 use Rattle.tsc_trace.specs.Play.{Standing}
 use Rattle.tsc_trace.specs.PlayerParts.{StandsAt}
 use Rattle.tsc_trace.proofs.ListSteps.{IsUnderWay}
@@ -11,8 +11,8 @@ use Rattle.tsc_trace.proofs.player.Player.play_list.Given as goal
 abbrev pub invariant-loop-index : goal.invariant-loop-index
 invariant-loop-index g l =
     record {
-      under_way : (settings : Settings) (from : Standing) → StandsAt l.fn.self settings from →
-          IsUnderWay l.fn.self l.self settings l.thread l.index l.calls (drop l.index l.calls) from;
+      under_way : (config : ConfigView) (from : Standing) → StandsAt l.fn.self config from →
+          IsUnderWay l.fn.self l.self config l.thread l.index l.calls (drop l.index l.calls) from;
       counted : l.self.adds ≤ l.fn.self.adds + l.index;
-      settings : l.self.cache.settings ≡ l.fn.self.cache.settings;
+      config : l.self.cache.config ≡ l.fn.self.cache.config;
     }

@@ -3,7 +3,7 @@ use Rattle.std.proofs.Common.{◌≡◌, ◌∷◌, ap, ◌∙◌, sym, arith, O
 use Rattle.json.specs.Token.{Token}
 use Rattle.json.specs.Reads.{token_of}
 use Rattle.serde_json.specs.Data.{null}
-use Rattle.tsc_time.specs.OwnedTime.{owner_of}
+use Rattle.tsc_time.specs.ValueView.{owner_of}
 use Rattle.tsc_trace_fast.proofs.TokenLemmas.{null_reads}
 use Rattle.tsc_trace_fast.proofs.Values.{owner_got, null_is}
 use Rattle.tsc_trace_fast.proofs.quick.mark.owner.Goals as goal

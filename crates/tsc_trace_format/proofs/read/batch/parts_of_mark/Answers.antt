@@ -1,5 +1,5 @@
 -- Proves the contract of `parts_of_mark`. The span, the time and the owner of a mark.
-use Rattle.tsc_time.specs.OwnedTime.{owner_of}
+use Rattle.tsc_time.specs.ValueView.{owner_of}
 use Rattle.tsc_trace_format.proofs.BothParts.{both_gives}
 use Rattle.tsc_trace_format.proofs.read.batch.parts_of_mark.Goals as goal
 

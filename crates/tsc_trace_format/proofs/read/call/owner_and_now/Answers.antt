@@ -1,5 +1,5 @@
 -- Proves the contract of `owner_and_now`. The owner and the moment of an Add.
-use Rattle.tsc_time.specs.OwnedTime.{owner_of}
+use Rattle.tsc_time.specs.ValueView.{owner_of}
 use Rattle.tsc_trace_format.proofs.BothParts.{both_gives}
 use Rattle.tsc_trace_format.proofs.read.call.owner_and_now.Goals as goal
 

@@ -2,7 +2,7 @@
 use Rattle.std.proofs.Common.{Ok, sym, ap, ◌∙◌}
 use Rattle.std.proofs.lemmas.Result.{err_from_is_err_and}
 use Rattle.serde_json.specs.View.{view}
-use Rattle.tsc_time.specs.OwnedTime.{owner_of}
+use Rattle.tsc_time.specs.ValueView.{owner_of}
 use Rattle.tsc_trace_format.proofs.Owners.{null_owner, no_text, text_owner}
 use Rattle.tsc_trace_format.proofs.read.call.owner_name.Goals as goal
 

@@ -2,7 +2,7 @@
 use Rattle.std.proofs.Common.{◌≡◌, ◌∙◌, ℕ, sym, ap, subst, List, length, arith}
 use Rattle.tsc_span.specs.Span.{KeyBytes, key_cmp}
 use Rattle.tsc_page_nodes.specs.Nodes.{Node, FallsAt, IsSorted}
-use Rattle.tsc_page_nodes.proofs.Places.{some_node, falls_last}
+use Rattle.tsc_page_nodes.proofs.Indices.{some_node, falls_last}
 use Rattle.tsc_page_nodes.proofs.Searches.{stands_here, smaller_here, greater_here}
 use Rattle.tsc_page_nodes.proofs.Apart.{key_at, long_as}
 use Rattle.tsc_page_nodes.proofs.nodes.lists.Lists.find_from.Goals as goal

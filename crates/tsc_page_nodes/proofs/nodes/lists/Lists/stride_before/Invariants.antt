@@ -5,9 +5,9 @@ use Rattle.tsc_page_nodes.specs.Nodes.{HasKeysBelow}
 use Rattle.tsc_page_nodes.proofs.nodes.lists.Lists.stride_before.Given as goal
 
 -- the keys before the place found so far are below
-abbrev pub invariant-loop-place : goal.invariant-loop-place
-invariant-loop-place l = HasKeysBelow l.self l.key l.low
+abbrev pub invariant-loop-index : goal.invariant-loop-index
+invariant-loop-index l = HasKeysBelow l.self l.key l.low
 
 -- fewer keys are left
-abbrev pub decreases-loop-place : goal.decreases-loop-place
-decreases-loop-place l = length l.self-inside.keys.now - l.place
+abbrev pub decreases-loop-index : goal.decreases-loop-index
+decreases-loop-index l = length l.self-inside.keys.now - l.index

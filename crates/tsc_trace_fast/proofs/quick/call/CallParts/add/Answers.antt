@@ -2,7 +2,7 @@
 -- out of the members.
 use Rattle.std.proofs.Common.{◌∙◌, ap, sym, Ok}
 use Rattle.std.specs.Prelude.{unwrap_or}
-use Rattle.tsc_time.specs.OwnedTime.{owner_of}
+use Rattle.tsc_time.specs.ValueView.{owner_of}
 use Rattle.tsc_trace_format.specs.declared.trace.Call.TheVariants.{Add}
 use Rattle.tsc_trace_fast.proofs.CallMembers.{add_is, not_there}
 use Rattle.tsc_trace_fast.proofs.quick.call.CallParts.add.Goals as goal

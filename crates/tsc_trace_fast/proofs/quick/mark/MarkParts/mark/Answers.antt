@@ -1,7 +1,7 @@
 -- Proves the contract of `MarkParts::mark`. Makes the mark that the members are.
 use Rattle.std.proofs.Common.{◌∙◌, ap, sym, Ok}
 use Rattle.std.specs.Prelude.{unwrap_or}
-use Rattle.tsc_time.specs.OwnedTime.{owner_of}
+use Rattle.tsc_time.specs.ValueView.{owner_of}
 use Rattle.tsc_trace_fast.proofs.MarkMembers.{mark_is}
 use Rattle.tsc_trace_fast.proofs.quick.mark.MarkParts.mark.Goals as goal
 

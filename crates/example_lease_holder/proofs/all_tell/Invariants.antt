@@ -1,9 +1,0 @@
--- Proves the loop invariants of `all_tell`. Has all threads print what they have to tell, in their
--- order, where each came through its turn.
-use Rattle.example_lease_holder.specs.Turns.{HasSpoken}
-use Rattle.timestamp_cache.proofs.Rows.{IsPartWay}
-use Rattle.example_lease_holder.proofs.all_tell.Given as goal
-
-abbrev pub invariant-loop-worker : goal.invariant-loop-worker
-invariant-loop-worker g l = IsPartWay HasSpoken l.fn.ended.items l.after.items
-    l.worker-iterator.rest.items

@@ -1,8 +1,0 @@
--- Proves the loop invariants of `lay`. Lays one more, and seven empty slots behind it.
-use Rattle.std.proofs.Common.{◌≡◌, ◌++◌, ◌∷◌, replicate}
-use Rattle.tsc_left_right.specs.declared.table.Slot.TheVariants.{Empty}
-use Rattle.tsc_left_right.proofs.opening.lay.Given as goal
-
-abbrev pub invariant-loop-beside : goal.invariant-loop-beside
-invariant-loop-beside g l = l.slots.items ≡ l.fn.slots.items ++ l.fn.slot ∷ replicate l._beside
-    Empty

@@ -1,7 +1,0 @@
--- A tree tells what its nodes cost.
-use Rattle.std.proofs.Common.{ap}
-use Rattle.tsc_page.specs.Roots.{TreeView}
-use Rattle.tsc_page.proofs.tree.Tree.bytes.Goals as goal
-
-pub returns : goal.returns
-returns c = ap (λ (t : TreeView). t.bytes) c.self.view_is

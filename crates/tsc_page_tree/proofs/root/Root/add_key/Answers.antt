@@ -1,0 +1,17 @@
+-- The list has as many subtrees as before.
+use Rattle.std.proofs.Common.{◌∙◌, ap, subst, length}
+use Rattle.tsc_page_tree.specs.Roots.{IsWholeTwo, IsWholeThree, IsWholeRoot}
+use Rattle.tsc_page_tree.proofs.TreeLists.{few_with}
+use Rattle.tsc_page_tree.proofs.root.Root.add_key.Goals as goal
+
+pub returns-in-Two-clause-whole : goal.returns-in-Two-clause-whole
+returns-in-Two-clause-whole c =
+    few_with IsWholeTwo c.in-Two.subtrees c.add_key-in-Two.new.subtrees
+    (c.add_key-in-Two.ensures.len ∙ ap length c.deref_mut-in-Two.ensures.value)
+    c.add_key-in-Two.ensures.whole (subst IsWholeRoot c.in-Two.is c.requires.root.whole)
+
+pub returns-in-Three-clause-whole : goal.returns-in-Three-clause-whole
+returns-in-Three-clause-whole c =
+    few_with IsWholeThree c.in-Three.subtrees c.add_key-in-Three.new.subtrees
+    (c.add_key-in-Three.ensures.len ∙ ap length c.deref_mut-in-Three.ensures.value)
+    c.add_key-in-Three.ensures.whole (subst IsWholeRoot c.in-Three.is c.requires.root.whole)

@@ -1,6 +1,0 @@
--- An equal time is not earlier.
-use Rattle.std.proofs.Common.{rules}
-use Rattle.tsc_time.proofs.laws.tells_earlier.Goals as goal
-
-pub returns : goal.returns
-returns c = search rules
