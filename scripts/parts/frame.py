@@ -260,6 +260,8 @@ def run_part(kind, part, words):
     # (so that folders are removed, and what was started ends)
     for it in (signal.SIGTERM, signal.SIGHUP, signal.SIGINT):
         signal.signal(it, lambda number, _: sys.exit(128 + number))
+    # (a shell starts a job with this ignored, and so would be what a part starts)
+    signal.signal(signal.SIGQUIT, signal.SIG_DFL)
     cases = Cases(kind != "check") if hasattr(module, "run") else None
     try:
         if not cases:
