@@ -10,7 +10,7 @@ use Rattle.timestamp_cache.specs.declared.summary_fault.SummaryFault.{SummaryFau
 use Rattle.tsc_ffi_store.specs.declared.refusal.Refusal.{Refusal}
 use Rattle.tsc_ffi_store.specs.declared.refusal.Refusal.TheVariants as refusal
 use Rattle.tsc_ffi_store.specs.declared.seats.kinds.AnySeat.{AnySeat}
-use Rattle.tsc_ffi_store.specs.declared.summaries.SeatBytes.{SeatBytes}
+use Rattle.tsc_ffi_store.specs.declared.summary_requests.SeatBytes.{SeatBytes}
 use Rattle.tsc_ffi_store.specs.Asking.{SumsUpShared, SumsUpStriped}
 use Rattle.tsc_ffi_store.specs.Decode.{NamesAddSpan}
 use Rattle.tsc_ffi_store.specs.Kinds.{ByKind}

@@ -5,7 +5,7 @@ use Rattle.tsc_shared.specs.Answers.{HasLookedOn}
 use Rattle.tsc_striped.specs.Seats.{SeatView as StripedSeat}
 use Rattle.tsc_ffi_store.specs.declared.refusal.Refusal.{Refusal}
 use Rattle.tsc_ffi_store.specs.declared.refusal.Refusal.TheVariants as refusal
-use Rattle.tsc_ffi_store.specs.declared.summaries.SeatBytes.{SeatBytes}
+use Rattle.tsc_ffi_store.specs.declared.summary_requests.SeatBytes.{SeatBytes}
 use Rattle.tsc_ffi_store.specs.Summaries.{AskedSummary, ReportsSeatSummary, RefusesSummary}
 use Rattle.tsc_ffi_store.specs.StripedCalls.{ReportsStripedSummary, LooksOn}
 

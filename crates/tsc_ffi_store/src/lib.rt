@@ -5,33 +5,33 @@
 //! It does all that is asked, or does nothing and returns a [`Refusal`] that says why.
 #![tactic(auto)]
 
-mod bounds;
 mod buffer;
-mod cache_calls;
+mod cache_requests;
 mod counts;
 mod ctypes;
 mod decode;
 pub mod laws;
 mod marks;
-mod places;
+mod named_bounds;
+mod open_handles;
 mod refusal;
-mod seat_calls;
+mod seat_requests;
 mod seats;
 mod store;
-mod summaries;
-mod writes;
+mod summary_requests;
+mod write_requests;
 
-pub use bounds::check_bounds;
 pub use buffer::{REFUSED, put};
-pub use cache_calls::{add_all_in, add_in, figures_in, floor_in, look_in};
+pub use cache_requests::{add_all_in, add_in, figures_in, floor_in, look_in};
 pub use counts::{CountedCache, CountedSeat, Counts};
 pub use ctypes::{
     AddArgs, ApplyArgs, BatchArgs, BoundsArgs, ConfigArgs, SpanArgs, SummaryArgs, TscAdded,
     TscFigures, TscMark, TscSpan, TscTime, TscValue, WriteArgs,
 };
 pub use decode::{Form, config};
+pub use named_bounds::check_bounds;
 pub use refusal::{OK, Refusal, code};
-pub use seat_calls::{add_all_at, add_at, figures_at, floor_at, look_at, may_seat};
+pub use seat_requests::{add_all_at, add_at, figures_at, floor_at, look_at, may_seat};
 pub use store::{Slot, Store};
-pub use summaries::{apply_in, put_at, put_in};
-pub use writes::{may_at, may_in, write_at, write_in};
+pub use summary_requests::{apply_in, put_at, put_in};
+pub use write_requests::{may_at, may_in, write_at, write_in};

@@ -5,7 +5,7 @@ ghost use Rattle.std.specs.Prelude.{◌≡◌, ◌≢◌, ◌⊎◌, IfSome, IfN
 ghost use Rattle.tsc_ffi_store.specs.declared.store.Slot.TheVariants as kinds;
 
 use crate::counts::{CountedCache, CountedSeat};
-use crate::places::place_of;
+use crate::open_handles::place_of;
 use crate::seats::Owner;
 use std::alloc::Global;
 use std::marker::Model;
