@@ -10,7 +10,7 @@ use crate::seat_calls::{
 };
 use crate::store_ptr::StorePtr;
 use crate::summary_calls::{tsc_apply, tsc_seat_summary, tsc_summary};
-use crate::texts::{tsc_check, tsc_replay};
+use crate::text_calls::{tsc_check, tsc_replay};
 use crate::version::tsc_version;
 use crate::write_calls::{
     tsc_earliest_write, tsc_may_write, tsc_seat_earliest_write, tsc_seat_may_write,

@@ -8,7 +8,7 @@ ghost use Rattle.tsc_ffi_store.specs.Puts.{Puts};
 ghost use Rattle.tsc_c.specs.Texts.{text_of, reported_of};
 ghost use Rattle.tsc_ffi_store.specs.declared.refusal.Refusal.TheVariants.{NoMemory};
 
-use crate::buffer::report;
+use crate::outcome::report;
 use std::alloc::Global;
 use tsc_check::{check_bytes, replay_bytes};
 

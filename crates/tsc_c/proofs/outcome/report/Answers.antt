@@ -2,7 +2,7 @@
 use Rattle.std.proofs.Common.{ℕ, List, subst, rules}
 use Rattle.tsc_check.specs.declared.bytes.Outcome.TheVariants.{Text, Refused}
 use Rattle.tsc_ffi_store.specs.Puts.{Puts}
-use Rattle.tsc_c.proofs.buffer.report.Goals as goal
+use Rattle.tsc_c.proofs.outcome.report.Goals as goal
 
 pub returns-in-Ok-Text-clause-put : goal.returns-in-Ok-Text-clause-put
 returns-in-Ok-Text-clause-put c =
