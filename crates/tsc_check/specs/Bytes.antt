@@ -7,8 +7,8 @@ use Rattle.tsc_trace.specs.LogReading.{IsTextOf, ReadsAs}
 use Rattle.tsc_trace.specs.Replay.{replay_text, fault_text as trace_fault_text}
 use Rattle.tsc_trace.specs.declared.log.Line.{Line as LogLine}
 use Rattle.tsc_trace.specs.declared.log_reader.LogFault.TheVariants as log_fault
-use Rattle.tsc_trace.specs.declared.replays.ReplayFault.{ReplayFault}
-use Rattle.tsc_trace.specs.declared.replays.ReplayFault.TheVariants as replay_fault
+use Rattle.tsc_trace.specs.declared.stream_replays.ReplayFault.{ReplayFault}
+use Rattle.tsc_trace.specs.declared.stream_replays.ReplayFault.TheVariants as replay_fault
 use Rattle.tsc_check.specs.Verdict.{verdict_of}
 use Rattle.tsc_check.specs.Checking.{verdict_line, fault_text as check_fault_text}
 use Rattle.tsc_check.specs.declared.streams.CheckFault.{CheckFault}

@@ -8,7 +8,7 @@ use Rattle.tsc_trace.specs.Replay.{HasReadTrace, NotRead, TooMuchRead, RefusedAs
 use Rattle.tsc_trace.specs.declared.log.Line.{Line}
 use Rattle.tsc_trace.specs.declared.log_reader.LogFault.{LogFault}
 use Rattle.tsc_trace.specs.declared.log_reader.LogFault.TheVariants as log_fault
-use Rattle.tsc_trace.specs.declared.replays.ReplayFault.TheVariants.{Read, TooLong, Trace as Refused, Write, NoMemory}
+use Rattle.tsc_trace.specs.declared.stream_replays.ReplayFault.TheVariants.{Read, TooLong, Trace as Refused, Write, NoMemory}
 use Rattle.tsc_check.specs.Verdict.{verdict_of}
 use Rattle.tsc_check.specs.declared.verdict.Verdict.{Verdict}
 use Rattle.tsc_check.specs.declared.verdict.Verdict.TheVariants.{Right, WrongCall, WrongPlace, WrongAnswer}

@@ -2,7 +2,7 @@
 use Rattle.std.proofs.Common.{◌≡◌, ◌==◌, ◌++◌, ◌⊎◌, ◌∙◌, ℕ, List, [], ◌∷◌, Option, Result, Ok, Err, Some, None, IsNone, codes, false, true≢false, inl, inr, sym, ap, subst, refl}
 use Rattle.tsc_trace.specs.LogText.{line_feed}
 use Rattle.tsc_trace.specs.Replay.{StopsReplay}
-use Rattle.tsc_trace.specs.declared.replays.ReplayFault.TheVariants.{Read}
+use Rattle.tsc_trace.specs.declared.stream_replays.ReplayFault.TheVariants.{Read}
 use Rattle.tsc_stream.proofs.Reliable.{fresh_is_reliable, reliable_reads_do_not_fail}
 use Rattle.tsc_stream.specs.Stream.{KnownReader, KnownWriter, no_trouble}
 use Rattle.tsc_commands.specs.Check.{EndsCheck}

@@ -5,8 +5,8 @@ use Rattle.std.specs.declared.string.String.{String}
 use Rattle.std.specs.declared.alloc.Global.{Global}
 use Rattle.tsc_trace.specs.LogText.{line_feed}
 use Rattle.tsc_stream.specs.Stream.{KnownReader, KnownWriter}
-use Rattle.tsc_trace.specs.declared.replays.ReplayFault.{ReplayFault}
-use Rattle.tsc_trace.specs.declared.replays.ReplayFault.TheVariants.{Read, NoMemory}
+use Rattle.tsc_trace.specs.declared.stream_replays.ReplayFault.{ReplayFault}
+use Rattle.tsc_trace.specs.declared.stream_replays.ReplayFault.TheVariants.{Read, NoMemory}
 use Rattle.tsc_commands.specs.Check.{EndsCheck}
 use Rattle.tsc_commands.specs.FileSystem.{KnownFile, Opening, fresh_file}
 use Rattle.tsc_commands.specs.Replay.{EndsReplay, Reports, fault_line, status_of}

@@ -4,8 +4,8 @@ use Rattle.tsc_trace.specs.LogText.{line_feed}
 use Rattle.tsc_trace.specs.Replay.{Done, StopsReplay, fault_text}
 use Rattle.tsc_stream.specs.Stream.{KnownReader, KnownWriter, HasWritten, CouldNotWrite}
 use Rattle.tsc_trace_format.specs.declared.read.TraceFault.TheVariants as trace_fault
-use Rattle.tsc_trace.specs.declared.replays.ReplayFault.{ReplayFault}
-use Rattle.tsc_trace.specs.declared.replays.ReplayFault.TheVariants.{Read, TooLong, Trace as Refused, Write, NoMemory}
+use Rattle.tsc_trace.specs.declared.stream_replays.ReplayFault.{ReplayFault}
+use Rattle.tsc_trace.specs.declared.stream_replays.ReplayFault.TheVariants.{Read, TooLong, Trace as Refused, Write, NoMemory}
 
 -- the exit status of a fault
 abbrev pub status_of : ReplayFault → ℕ

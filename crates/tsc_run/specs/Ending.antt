@@ -6,7 +6,7 @@ use Rattle.tsc_trace.specs.Replay.{HasReadTrace, RefusedAs, NotRead, TooMuchRead
 use Rattle.tsc_stream.specs.Stream.{KnownReader, KnownWriter, HasWritten, CouldNotWrite}
 use Rattle.tsc_trace_format.specs.Traces.{Trace}
 use Rattle.tsc_trace.specs.declared.log.Line.{Line}
-use Rattle.tsc_trace.specs.declared.replays.ReplayFault.TheVariants.{Read, TooLong, Trace as Refused, Write, NoMemory}
+use Rattle.tsc_trace.specs.declared.stream_replays.ReplayFault.TheVariants.{Read, TooLong, Trace as Refused, Write, NoMemory}
 use Rattle.tsc_check.specs.Verdict.{verdict_of}
 use Rattle.tsc_check.specs.declared.verdict.Verdict.TheVariants.{Right}
 use Rattle.tsc_run.specs.declared.fault.RunFault.{RunFault}

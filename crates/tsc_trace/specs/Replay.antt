@@ -9,10 +9,10 @@ use Rattle.tsc_trace_format.specs.declared.read.TraceFault.{TraceFault}
 use Rattle.tsc_trace_format.specs.declared.read.TraceFault.TheVariants as trace_fault
 use Rattle.tsc_stream.specs.declared.input.InputFault.{InputFault}
 use Rattle.tsc_stream.specs.declared.input.InputFault.TheVariants as input_fault
-use Rattle.tsc_trace.specs.declared.replays.WriteLogFault.{WriteLogFault}
-use Rattle.tsc_trace.specs.declared.replays.WriteLogFault.TheVariants as write_log_fault
-use Rattle.tsc_trace.specs.declared.replays.ReplayFault.{ReplayFault}
-use Rattle.tsc_trace.specs.declared.replays.ReplayFault.TheVariants.{Read, TooLong, Trace as Refused, Write, NoMemory}
+use Rattle.tsc_trace.specs.declared.stream_replays.WriteLogFault.{WriteLogFault}
+use Rattle.tsc_trace.specs.declared.stream_replays.WriteLogFault.TheVariants as write_log_fault
+use Rattle.tsc_trace.specs.declared.stream_replays.ReplayFault.{ReplayFault}
+use Rattle.tsc_trace.specs.declared.stream_replays.ReplayFault.TheVariants.{Read, TooLong, Trace as Refused, Write, NoMemory}
 
 -- the text that a replay of a trace writes
 abbrev pub replay_text : Trace → List ℕ

@@ -12,12 +12,12 @@ pub mod log_laws;
 mod log_reader;
 mod player;
 mod printer;
-mod replays;
+mod stream_replays;
 
 pub use log::{AddOutcome, CallAnswer, Line, Lines, Log, log_text};
 pub use log_reader::{LogFault, read_log};
 pub use player::{add_all_fitting, add_fitting, play, play_with_progress};
-pub use replays::{
+pub use stream_replays::{
     ReplayFault, WriteLogFault, read_trace_from, replay, replay_stream,
     replay_stream_with_progress, write_log,
 };

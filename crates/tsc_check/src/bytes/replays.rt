@@ -2,7 +2,7 @@
 ghost use Rattle.std.specs.Prelude.{◌≡◌, ◌≢◌, ◌≤◌, IfOk, IfErr, length};
 ghost use Rattle.tsc_check.specs.TextLimit.{longest_text};
 ghost use Rattle.tsc_trace.specs.Replay.{fault_text};
-ghost use Rattle.tsc_trace.specs.declared.replays.ReplayFault.TheVariants as replay_fault;
+ghost use Rattle.tsc_trace.specs.declared.stream_replays.ReplayFault.TheVariants as replay_fault;
 ghost use Rattle.tsc_check.specs.Bytes.{IsTrace, IsNoTrace, SaysOfReplay};
 
 use crate::bytes::Outcome;

@@ -1,6 +1,6 @@
 -- The replay of the trace is written.
 use Rattle.std.proofs.Common.{rules}
-use Rattle.tsc_trace.proofs.replays.replay_stream_with_progress.Goals as goal
+use Rattle.tsc_trace.proofs.stream_replays.replay_stream_with_progress.Goals as goal
 
 pub returns-clause-ok : goal.returns-clause-ok
 returns-clause-ok g c = search rules
