@@ -11,8 +11,8 @@ use Rattle.tsc_trace.specs.declared.stream_replays.ReplayFault.{ReplayFault}
 use Rattle.tsc_trace.specs.declared.stream_replays.ReplayFault.TheVariants as replay_fault
 use Rattle.tsc_check.specs.Verdict.{verdict_of}
 use Rattle.tsc_check.specs.Checking.{verdict_line, fault_text as check_fault_text}
-use Rattle.tsc_check.specs.declared.streams.CheckFault.{CheckFault}
-use Rattle.tsc_check.specs.declared.streams.CheckFault.TheVariants.{Stream, Text as Line, Length}
+use Rattle.tsc_check.specs.declared.stream_checks.CheckFault.{CheckFault}
+use Rattle.tsc_check.specs.declared.stream_checks.CheckFault.TheVariants.{Stream, Text as Line, Length}
 use Rattle.tsc_check.specs.TextLimit.{longest_text}
 use Rattle.tsc_check.specs.declared.bytes.Outcome.{Outcome}
 use Rattle.tsc_check.specs.declared.bytes.Outcome.TheVariants.{Text, Refused}

@@ -12,8 +12,8 @@ use Rattle.tsc_trace.specs.declared.stream_replays.ReplayFault.TheVariants.{Read
 use Rattle.tsc_check.specs.Verdict.{verdict_of}
 use Rattle.tsc_check.specs.declared.verdict.Verdict.{Verdict}
 use Rattle.tsc_check.specs.declared.verdict.Verdict.TheVariants.{Right, WrongCall, WrongPlace, WrongAnswer}
-use Rattle.tsc_check.specs.declared.streams.CheckFault.{CheckFault}
-use Rattle.tsc_check.specs.declared.streams.CheckFault.TheVariants.{Stream, Text, Length}
+use Rattle.tsc_check.specs.declared.stream_checks.CheckFault.{CheckFault}
+use Rattle.tsc_check.specs.declared.stream_checks.CheckFault.TheVariants.{Stream, Text, Length}
 
 -- the text of a verdict
 abbrev pub verdict_text : Verdict → List ℕ

@@ -5,11 +5,11 @@
 //! the replay and the check of those commands. As for a command, a trace and a log have 16,777,216
 //! bytes at the most.
 
-mod checks;
-mod replays;
+mod byte_checks;
+mod byte_replays;
 
-pub use checks::check_bytes;
-pub use replays::replay_bytes;
+pub use byte_checks::check_bytes;
+pub use byte_replays::replay_bytes;
 
 /// What is said of bytes.
 #[derive(Debug, Drop)]

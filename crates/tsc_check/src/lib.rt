@@ -7,11 +7,11 @@ mod calls;
 mod checks;
 pub mod laws;
 mod order;
-mod streams;
+mod stream_checks;
 mod sweep;
 mod verdict;
 
 pub use bytes::{Outcome, check_bytes, replay_bytes};
 pub use checks::{check, check_with_progress};
-pub use streams::{CheckFault, check_stream};
+pub use stream_checks::{CheckFault, check_stream};
 pub use verdict::Verdict;

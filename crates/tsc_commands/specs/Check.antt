@@ -6,8 +6,8 @@ use Rattle.tsc_stream.specs.Stream.{KnownReader, KnownWriter}
 use Rattle.tsc_check.specs.Checking.{Checked, StopsCheck, fault_text}
 use Rattle.tsc_check.specs.declared.verdict.Verdict.{Verdict}
 use Rattle.tsc_check.specs.declared.verdict.Verdict.TheVariants.{Right, WrongCall, WrongPlace, WrongAnswer}
-use Rattle.tsc_check.specs.declared.streams.CheckFault.{CheckFault}
-use Rattle.tsc_check.specs.declared.streams.CheckFault.TheVariants.{Stream, Text, Length}
+use Rattle.tsc_check.specs.declared.stream_checks.CheckFault.{CheckFault}
+use Rattle.tsc_check.specs.declared.stream_checks.CheckFault.TheVariants.{Stream, Text, Length}
 use Rattle.tsc_commands.specs.Replay.{Reports, status_of}
 
 -- the exit status of a verdict

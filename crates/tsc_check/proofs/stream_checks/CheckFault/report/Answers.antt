@@ -1,5 +1,5 @@
 -- Proves the contract of `CheckFault::report`. Writes the text of the fault.
-use Rattle.tsc_check.proofs.streams.CheckFault.report.Goals as goal
+use Rattle.tsc_check.proofs.stream_checks.CheckFault.report.Goals as goal
 
 pub returns-in-Text-clause-ok : goal.returns-in-Text-clause-ok
 returns-in-Text-clause-ok g c = rw (

@@ -1,6 +1,6 @@
 -- A verdict was written once, after the trace was read and then the log.
 use Rattle.std.proofs.Common.{rules}
-use Rattle.tsc_check.proofs.streams.check_stream.Goals as goal
+use Rattle.tsc_check.proofs.stream_checks.check_stream.Goals as goal
 
 pub returns-clause-ok : goal.returns-clause-ok
 returns-clause-ok g c = search rules

@@ -7,9 +7,9 @@ ghost use Rattle.tsc_check.specs.Checking.{verdict_line, fault_text};
 ghost use Rattle.tsc_check.specs.Bytes.{IsTrace, IsLogText, IsNoLog, HasNoVerdict, SaysOfCheck};
 
 use crate::bytes::Outcome;
-use crate::bytes::replays::{LONGEST_TEXT, trace_of};
+use crate::bytes::byte_replays::{LONGEST_TEXT, trace_of};
 use crate::checks::check;
-use crate::streams::CheckFault;
+use crate::stream_checks::CheckFault;
 use crate::verdict::Verdict;
 use std::alloc::Global;
 use tsc_time::NoMemory;

@@ -4,7 +4,7 @@ ghost use Rattle.tsc_stream.specs.Stream.{CouldNotWrite, HasWritten};
 ghost use Rattle.tsc_trace.specs.Replay.{fault_of_input};
 ghost use Rattle.tsc_trace.specs.declared.stream_replays.ReplayFault.TheVariants as replay_fault;
 ghost use Rattle.tsc_check.specs.Checking.{Checked, HasReadLog, StopsCheck, StopsReadingLog, fault_of_log, fault_text};
-ghost use Rattle.tsc_check.specs.declared.streams.CheckFault.TheVariants.{Stream};
+ghost use Rattle.tsc_check.specs.declared.stream_checks.CheckFault.TheVariants.{Stream};
 
 use crate::checks::check_with_progress;
 use crate::verdict::Verdict;
