@@ -4,8 +4,8 @@ use Rattle.std.specs.Prelude.{◌≡◌, ◌++◌, ℕ, List, ◌⊎◌, ◌∷�
 use Rattle.tsc_trace.specs.LogText.{line_feed}
 use Rattle.tsc_stream.specs.Stream.{KnownReader, KnownWriter}
 use Rattle.tsc_run.specs.Ending.{Ran, StopsRun, stop_text}
-use Rattle.tsc_run.specs.declared.streams.RunStop.{RunStop}
-use Rattle.tsc_run.specs.declared.streams.RunStop.TheVariants.{Stream, NoView, NoPlace, HistoryFull, NoThread}
+use Rattle.tsc_run.specs.declared.stream_runs.RunStop.{RunStop}
+use Rattle.tsc_run.specs.declared.stream_runs.RunStop.TheVariants.{Stream, NoView, NoPlace, HistoryFull, NoThread}
 use Rattle.tsc_commands.specs.Replay.{Reports, status_of}
 
 -- the exit status of why a run ended

@@ -7,7 +7,7 @@ use Rattle.tsc_run.specs.Ending.{stop_of_run}
 use Rattle.tsc_run.specs.Runs.{StopsLists}
 use Rattle.tsc_run.specs.declared.fault.RunFault.{RunFault}
 use Rattle.tsc_run.specs.declared.fault.RunFault.TheVariants as fault
-use Rattle.tsc_run.specs.declared.streams.RunStop.TheVariants as stop
+use Rattle.tsc_run.specs.declared.stream_runs.RunStop.TheVariants as stop
 
 -- No run of a list ends so.
 pub is_started : (why : RunFault) (cache : SharedView) (lists : List (List Call))

@@ -11,8 +11,8 @@ use Rattle.tsc_check.specs.Verdict.{verdict_of}
 use Rattle.tsc_check.specs.declared.verdict.Verdict.TheVariants.{Right}
 use Rattle.tsc_run.specs.declared.fault.RunFault.{RunFault}
 use Rattle.tsc_run.specs.declared.fault.RunFault.TheVariants as run_fault
-use Rattle.tsc_run.specs.declared.streams.RunStop.{RunStop}
-use Rattle.tsc_run.specs.declared.streams.RunStop.TheVariants.{Stream, NoView, NoPlace, HistoryFull, NoThread}
+use Rattle.tsc_run.specs.declared.stream_runs.RunStop.{RunStop}
+use Rattle.tsc_run.specs.declared.stream_runs.RunStop.TheVariants.{Stream, NoView, NoPlace, HistoryFull, NoThread}
 
 -- All of a trace was read, and the text of a log was written, of which the verdict is right, and
 -- nothing else.

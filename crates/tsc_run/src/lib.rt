@@ -7,12 +7,12 @@
 
 mod fault;
 mod list;
-mod run;
 mod start;
-mod streams;
+mod stream_runs;
 mod threads;
+mod trace_runs;
 
 pub use fault::RunFault;
-pub use run::run_trace;
 pub use start::{NotStarted, RefusesThreads};
-pub use streams::{RunStop, run_stream};
+pub use stream_runs::{RunStop, run_stream};
+pub use trace_runs::run_trace;

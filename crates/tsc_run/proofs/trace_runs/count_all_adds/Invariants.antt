@@ -2,7 +2,7 @@
 use Rattle.std.proofs.Common.{◌≡◌, ◌+◌, ◌≤◌, drop, map, length}
 use Rattle.std.specs.List.{sum_by}
 use Rattle.tsc_check.specs.TrueLog.{adds_of_lists}
-use Rattle.tsc_run.proofs.run.count_all_adds.Given as goal
+use Rattle.tsc_run.proofs.trace_runs.count_all_adds.Given as goal
 
 -- the Adds so far, and those that are left
 abbrev pub invariant-loop-calls : goal.invariant-loop-calls

@@ -1,5 +1,5 @@
 -- Proves the contract of `RunStop::report`. Writes the text of why the run ended.
-use Rattle.tsc_run.proofs.streams.RunStop.report.Goals as goal
+use Rattle.tsc_run.proofs.stream_runs.RunStop.report.Goals as goal
 
 pub returns-in-HistoryFull-clause-ok : goal.returns-in-HistoryFull-clause-ok
 returns-in-HistoryFull-clause-ok g c =

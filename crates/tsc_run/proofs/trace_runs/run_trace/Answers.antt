@@ -12,7 +12,7 @@ use Rattle.tsc_run.specs.Runs.{RunsAll, StopsLists, RunResult}
 use Rattle.tsc_run.proofs.Seating.{can_end}
 use Rattle.tsc_run.proofs.Unstarted.{is_started}
 use Rattle.tsc_run.proofs.Truth.{run_of}
-use Rattle.tsc_run.proofs.run.run_trace.Goals as goal
+use Rattle.tsc_run.proofs.trace_runs.run_trace.Goals as goal
 
 pub run_lists-requires : goal.run_lists-requires
 run_lists-requires g c =

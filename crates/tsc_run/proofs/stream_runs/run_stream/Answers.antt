@@ -2,7 +2,7 @@
 use Rattle.std.proofs.Common.{◌≡◌, ◌∙◌, Err, sym, ap, rules}
 use Rattle.tsc_run.specs.Ending.{stop_of_run}
 use Rattle.tsc_run.proofs.Unstarted.{only_unstarted}
-use Rattle.tsc_run.proofs.streams.run_stream.Goals as goal
+use Rattle.tsc_run.proofs.stream_runs.run_stream.Goals as goal
 
 pub returns-in_err-log-clause-err : goal.returns-in_err-log-clause-err
 returns-in_err-log-clause-err g c = search rules

@@ -3,11 +3,11 @@ ghost use Rattle.std.specs.Prelude.{◌≡◌, Some, Err, IfErr, OnOk, OnErr};
 ghost use Rattle.tsc_stream.specs.Stream.{CouldNotWrite, HasWritten};
 ghost use Rattle.tsc_trace.specs.Replay.{fault_of_output};
 ghost use Rattle.tsc_run.specs.Ending.{Ran, StopsRun, stop_of_run, stop_text};
-ghost use Rattle.tsc_run.specs.declared.streams.RunStop.TheVariants.{Stream};
+ghost use Rattle.tsc_run.specs.declared.stream_runs.RunStop.TheVariants.{Stream};
 
 use crate::fault::RunFault;
-use crate::run::run_trace;
 use crate::start::RefusesThreads;
+use crate::trace_runs::run_trace;
 use std::alloc::Global;
 use std::error::Error;
 use std::fmt;
