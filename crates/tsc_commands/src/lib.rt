@@ -18,7 +18,7 @@ mod meter;
 pub mod program;
 mod replay;
 mod run;
-mod streams;
+mod standard_streams;
 mod system;
 
 pub use check::{check_command, check_with_progress, report_check_fault, status_of_check_fault};
@@ -27,5 +27,5 @@ pub use file_system::{FileSystem, OpenFault};
 pub use meter::{Meter, NoMeter};
 pub use replay::{replay_command, replay_with_progress, report_fault};
 pub use run::{report_stop, run_command};
-pub use streams::{Errors, Output, Streams};
+pub use standard_streams::{Errors, Output, Streams};
 pub use system::{SystemFiles, fetch_words, standard_errors, standard_output};

@@ -11,7 +11,7 @@ use crate::cli::{Asked, WordsFault, request};
 use crate::file_system::{FileSystem, OpenFault};
 use crate::replay::{replay_with_progress, report_fault, status_of};
 use crate::run::run_command;
-use crate::streams::Streams;
+use crate::standard_streams::Streams;
 use std::alloc::Global;
 use std::process::ExitCode;
 use std::sync::Wait;

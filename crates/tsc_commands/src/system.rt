@@ -8,7 +8,7 @@ ghost use Rattle.tsc_commands.specs.FileSystem.{says_nothing};
 
 use crate::cli::WordsFault;
 use crate::file_system::{FileSystem, OpenFault};
-use crate::streams::{Errors, Output};
+use crate::standard_streams::{Errors, Output};
 use std::env::Env;
 use std::io::{ErrorKind, Stderr, Stdout};
 use std::rt::Files;
