@@ -61,14 +61,15 @@ impl StripedCache {
     /// `NoMemory`. A refused Add is in no history, and cache and seat are as they were. The empty
     /// span touches stripe 0.
     ///
-    /// In one stripe the span is added in place. Where the pages rotate there, the next version of
-    /// the stripe's cache takes its place, which takes the memory of a list of pages. The pages
-    /// that go are dropped when the lock is released. A span that touches several stripes is added
-    /// under all of their locks, as [`add_all`](StripedCache::add_all) adds a batch of it alone.
+    /// A search among the bounds finds which stripes the span touches. In one stripe it is added
+    /// in place. Where the pages rotate there, the next version of the stripe's cache takes its
+    /// place, which takes the memory of a list of pages. The pages that go are dropped when the
+    /// lock is released. A span that touches several stripes is added under all of their locks, as
+    /// [`add_all`](StripedCache::add_all) adds a batch of it alone.
     ///
     /// The call waits until the lock of the stripe is free: it pauses for longer and longer, and
     /// then leaves the processor to others between its tries. Nothing bounds how often others
-    /// acquire the lock before.
+    /// acquire the lock before. Adds and lookups in that stripe wait until the call releases it.
     pub fn add<R: Wait>(
         &self,
         rt: &R,
@@ -88,10 +89,13 @@ impl StripedCache {
         waited(self.add_mark(&Blocking(rt), seat, mark))
     }
 
-    /// As [`add`](StripedCache::add), for a caller who has no leave to wait: it tries `tries` times
-    /// to acquire all locks that it needs. Where another seat held one of them at each try, the Add
-    /// is refused as `Busy`, and all is as it was. With no tries that is always so. `SeatFull`
-    /// comes before.
+    /// As [`add`](StripedCache::add), for a caller who has no leave to wait: it tries `tries`
+    /// times to acquire all locks that it needs. Where another seat held one of them at each try,
+    /// the Add is refused as `Busy`, and all is as it was. With no tries that is always so.
+    /// `SeatFull` comes before. A call with no tries takes no memory.
+    ///
+    /// Between two tries the seat idles, for one step at first and for 64 at the most, and leaves
+    /// the processor to nobody. An Add in several stripes makes its versions anew at each try.
     pub fn try_add(
         &self,
         seat: &mut Seat,
@@ -117,13 +121,15 @@ impl StripedCache {
     /// added one mark after another. An Add of no marks is an entry too, which changes nothing.
     ///
     /// It is made under the locks of all stripes on which the marks lie, which are acquired in the
-    /// order of the stripes. Where one is held, the seat releases all, waits for that one, and
-    /// begins anew. So such an Add may wait longer than one in a single stripe. Each stripe makes
-    /// the next version of its cache, and once all have one they take their places.
+    /// order of the stripes. Adds and lookups there wait meanwhile. Each stripe makes the next
+    /// version of its cache, and once all have one they take their places. Where a lock is held,
+    /// the seat releases all, waits for that one, and begins anew, with versions that are made
+    /// anew. So such an Add may wait longer than one in a single stripe.
     ///
-    /// The call takes the memory of a copy of the marks, of what lies of them in each stripe, and
-    /// of what [`Cache::next_all`] takes there. What the versions replace is dropped when all locks
-    /// are released, as are the versions of an Add that finds a lock held.
+    /// Before the call acquires a lock, it compares each mark with each stripe from the first to
+    /// the last. It takes the memory of a copy of the marks, of what lies of them in each stripe,
+    /// and of what [`Cache::next_all`] takes there. What the versions replace is dropped when all
+    /// locks are released, as are the versions of an Add that finds a lock held.
     pub fn add_all<R: Wait>(
         &self,
         rt: &R,
@@ -142,8 +148,9 @@ impl StripedCache {
     /// of it alone. The gate's `publish` is called once for an accepted Add, after the last growth
     /// that can refuse it and before anybody can see it, and not for a refused one.
     ///
-    /// The seat holds the locks of all stripes on which the span lies meanwhile. So a gate must not
-    /// call this cache, by whichever seat: it might wait for itself for ever.
+    /// The seat holds the locks of all stripes on which the span lies meanwhile, so all calls
+    /// there wait for the gate. A gate must not call this cache, by whichever seat: it might wait
+    /// for itself for ever.
     pub fn add_gated<R: Wait, G: Gate>(
         &self,
         rt: &R,
@@ -166,7 +173,8 @@ impl StripedCache {
     }
 
     /// As [`add_all`](StripedCache::add_all), where the gate is told as in
-    /// [`add_gated`](StripedCache::add_gated), once for all marks together.
+    /// [`add_gated`](StripedCache::add_gated), once for all marks together. The gate must not call
+    /// this cache either.
     pub fn add_all_gated<R: Wait, G: Gate>(
         &self,
         rt: &R,

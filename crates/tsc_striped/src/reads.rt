@@ -27,7 +27,9 @@ impl StripedCache {
     /// the seat releases all, waits for that one, and begins anew. It may then wait longer than a
     /// call of one stripe. While it looks, it locks all these stripes.
     ///
-    /// The call waits as [`add`](StripedCache::add) does, and takes no memory.
+    /// The call costs a search among the bounds, and a lookup in each stripe that the span
+    /// touches, where other calls wait meanwhile. It waits as [`add`](StripedCache::add) does, and
+    /// takes no memory.
     pub fn get_max<R: Wait>(&self, rt: &R, seat: &mut Seat, span: &Span) -> Value
         requires cache { seat.old.cache ≡ self.now }
         ensures { AnswersLookup seat.old seat.new span.now result }
@@ -38,6 +40,8 @@ impl StripedCache {
     /// As [`get_max`](StripedCache::get_max), for a caller who has no leave to wait: it tries
     /// `tries` times to acquire all locks that it needs. Where another seat held one of them at
     /// each try, the answer is `Busy`, and all is as it was. With no tries that is always so.
+    /// Between two tries the seat idles as in [`try_add`](StripedCache::try_add), and it looks
+    /// anew at each try.
     pub fn try_get_max(&self, seat: &mut Seat, span: &Span, tries: u32) -> Result<Value, Busy>
         requires cache { seat.old.cache ≡ self.now }
         ensures { Tries seat.old seat.new tries (AnswersLookup seat.old seat.new span.now) result }
@@ -124,7 +128,7 @@ impl StripedCache {
     /// Where the floor of a stripe stands after a history that begins with all that the seat has
     /// seen. The seat has then seen all of it. Each stripe has a floor of its own.
     ///
-    /// The call waits as [`add`](StripedCache::add) does, and takes no memory.
+    /// The call waits as [`add`](StripedCache::add) does, takes no memory, and costs a few steps.
     pub fn low_water<R: Wait>(&self, rt: &R, seat: &mut Seat, stripe: u32) -> Timestamp
         requires cache { seat.old.cache ≡ self.now }
         requires stripe { stripe < stripe_count self.now.terms.bounds }
@@ -162,7 +166,7 @@ impl StripedCache {
     /// after another, has figures after histories of which each begins with the one before.
     ///
     /// The call waits as [`add`](StripedCache::add) does, and takes no memory. It costs a step for
-    /// each page.
+    /// each page of the stripe, where other calls wait meanwhile.
     pub fn figures<R: Wait>(&self, rt: &R, seat: &mut Seat, stripe: u32) -> Figures
         requires cache { seat.old.cache ≡ self.now }
         requires stripe { stripe < stripe_count self.now.terms.bounds }

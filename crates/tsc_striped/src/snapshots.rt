@@ -17,11 +17,14 @@ impl StripedCache {
     /// Copies of the caches of all stripes that a span touches, after one history that begins with
     /// all that the seat has seen. The seat has then seen all of it.
     ///
-    /// The copies are made under the locks of these stripes, as a lookup of the span is. Each
-    /// shares its pages with the cache, whose next Add there finds the pages shared. The call takes
-    /// the memory of a list of pages for each stripe. Where that is refused, the seat is as it was.
+    /// The copies are made under the locks of these stripes, as a lookup of the span is, and other
+    /// calls there wait. A copy costs a step for each of the newest pages, 256 at the most. Each
+    /// shares its pages with the cache, whose next Add there finds the pages shared. The call
+    /// takes the memory of a list of pages for each stripe. Where that is refused, the seat is as
+    /// it was.
     ///
-    /// The call waits as [`get_max`](StripedCache::get_max) does.
+    /// The call waits as [`get_max`](StripedCache::get_max) does, and makes the copies anew each
+    /// time that it begins anew.
     pub fn snapshot<R: Wait>(
         &self,
         rt: &R,
@@ -41,7 +44,8 @@ impl StripedCache {
     }
 
     /// As [`snapshot`](StripedCache::snapshot), where the caller has no leave to wait, as in
-    /// [`try_get_max`](StripedCache::try_get_max). With no tries it takes no memory.
+    /// [`try_get_max`](StripedCache::try_get_max). Each try makes the copies anew. With no tries
+    /// it takes no memory.
     pub fn try_snapshot(
         &self,
         seat: &mut Seat,

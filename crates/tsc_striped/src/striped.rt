@@ -84,8 +84,9 @@ impl StripedCache {
     /// than 8,256 bytes, into which any span fits. Else it is refused as `NoMemory`. The refusals
     /// are tested in this order.
     ///
-    /// It takes the memory of a cache with an empty page for each stripe, and of the table that the
-    /// seats share. A seat takes no memory.
+    /// It takes the memory of a cache with an empty page for each stripe, and of the table that
+    /// the seats share. It also takes that of a prefix of each bound, and of the room for the
+    /// caches that closing gives. A seat takes no memory.
     pub fn open(
         alloc: Global,
         config: Config,
@@ -168,6 +169,9 @@ impl StripedCache {
     }
 
     /// What lies of a span in a stripe, over keys of its own: the empty span where nothing does.
+    ///
+    /// The call takes the memory of a copy of the span, which it gives back, and of the piece's
+    /// keys. It acquires no lock, and waits for nobody.
     pub fn piece_of(&self, alloc: Global, stripe: u32, span: &Span) -> Result<Span, NoMemory>
         requires stripe { stripe < stripe_count self.now.terms.bounds }
         ensures { IfOk result (λ piece. piece ≡ piece_of self.now.terms.bounds stripe span.now) }
@@ -194,7 +198,8 @@ impl StripedCache {
     }
 
     /// Takes in a front. The seat has then seen a history that begins with both its own and the
-    /// front's. The call acquires no lock, and waits for nobody.
+    /// front's. The call costs two atomic steps. It acquires no lock, waits for nobody, and takes
+    /// no memory.
     pub fn learn(&self, seat: &mut Seat, front: Front)
         requires cache { seat.old.cache ≡ self.now }
         requires front { front.cache ≡ self.now }
@@ -204,7 +209,8 @@ impl StripedCache {
     }
 
     /// Has two seats meet: both have then seen one history, which begins with what each had seen.
-    /// The call acquires no lock, and waits for nobody.
+    /// The call costs six atomic steps. It acquires no lock, waits for nobody, and takes no
+    /// memory.
     pub fn meet(&self, first: &mut Seat, second: &mut Seat)
         requires first { first.old.cache ≡ self.now }
         requires second { second.old.cache ≡ self.now }
@@ -219,7 +225,8 @@ impl StripedCache {
     /// its stripes. Where some are missing it hands all back. A seat that was dropped is missing
     /// for good.
     ///
-    /// The call takes no memory, waits for nobody, and takes three steps for each seat.
+    /// The call takes no memory, and waits for nobody. It costs two steps for each seat, and one
+    /// for each stripe.
     pub fn close(self, dealer: Dealer, seats: Vec<Seat>) -> Result<Closed, StillOut>
         requires dealer { dealer.cache ≡ self }
         requires seats { All (λ seat. seat.cache ≡ self) seats.items }
