@@ -96,7 +96,8 @@ pub enum Reason {
 }
 
 impl Range {
-    /// A range of keys that have nothing yet.
+    /// A range of keys that have nothing yet. The call takes the memory of an empty page of the
+    /// cache.
     ///
     /// ```
     /// let config = Config::new(1 << 10, 1 << 20, 2, 10_000_000_000, Timestamp::ZERO)?;
@@ -119,6 +120,11 @@ impl Range {
     /// Answers a read of a transaction as of its time, and remembers that. The answer is the rows
     /// of the span with the transaction's own writes put over them; without these, the rows are the
     /// last of its reads.
+    ///
+    /// The call costs a search for the first key, and a step for each further key of the span and
+    /// for each version there that is later. Each own write within the span costs up to a step for
+    /// each row. The rows take memory twice, for the answer and for the transaction, and the cache
+    /// takes that of an Add.
     ///
     /// ```
     /// let (mut range, mut one) = (new_range(alloc)?, begin(alloc, 20, 'A'));
@@ -156,6 +162,11 @@ impl Range {
 
     /// Commits a transaction at the earliest time, from the one on at which it reads, that is free
     /// for its writes. If what it read isn't so any more as of then, it has to restart.
+    ///
+    /// The call costs a search among the keys and a lookup in the cache for each write. It makes
+    /// each read of several keys once more, whose rows take memory until they are compared. A
+    /// commit then takes the memory of a copy of each write and of each read's span, and of one
+    /// `add_all` to the cache.
     ///
     /// ```
     /// let mut range = new_range(alloc)?;
@@ -198,6 +209,9 @@ impl Range {
 
     /// Hands the range on to a new lease. A new cache takes over what a summary of the old one
     /// tells of the range's span, in at most `most` marks.
+    ///
+    /// The call costs a `summary` of the range's span and its `apply`. It takes the memory of both
+    /// and of a new cache, and then frees the old one.
     ///
     /// ```
     /// let (mut range, mut one) = (new_range(alloc)?, begin(alloc, 20, 'A'));
@@ -277,8 +291,9 @@ impl Range {
         Ok(())
     }
 
-    /// Whether a transaction's writes are the range's, its time is not too early, and its reads can
-    /// be remembered. A commit is refused for the same reason, or for want of memory.
+    /// Whether a transaction's writes are the range's, its time is not too early, and its reads
+    /// can be remembered. A commit is refused for the same reason, or for want of memory. The call
+    /// costs a step for each write and each read, and takes no memory.
     ///
     /// ```
     /// let mut range = new_range(alloc)?;

@@ -31,7 +31,8 @@ impl Model for Transaction {
 }
 
 impl Transaction {
-    /// A transaction that reads as of a time. It has read and written nothing yet.
+    /// A transaction that reads as of a time. It has read and written nothing yet. It takes no
+    /// memory.
     ///
     /// ```
     /// let one = Transaction::new(alloc, at(20), Uuid::from_u128(1));
@@ -96,7 +97,8 @@ impl Transaction {
         &self.writes
     }
 
-    /// Writes a key once it commits. Of several writes of a key the last one counts.
+    /// Writes a key once it commits. Of several writes of a key the last one counts. The call
+    /// copies nothing, and takes memory only where the list of writes grows.
     ///
     /// ```
     /// let (mut range, mut one) = (new_range(alloc)?, begin(alloc, 20, 'A'));
@@ -115,7 +117,8 @@ impl Transaction {
         Ok(())
     }
 
-    /// The transaction at another time, as once it has committed then.
+    /// The transaction at another time, as once it has committed then. The call copies nothing,
+    /// and takes no memory.
     ///
     /// ```
     /// assert_eq!(rt; begin(alloc, 20, 'A').moved_to(at(30)).time(), at(30));

@@ -23,8 +23,8 @@ use timestamp_cache::{CacheFault, Config, NoMemory, Span, Timestamp};
 ///
 /// Each call of a client waits for the lock, and holds it until it answers: it pauses for longer
 /// and longer, and then leaves the processor to others between its tries. Nothing bounds how often
-/// others acquire the lock before. The log keeps each transaction that committed, with what it read
-/// and wrote.
+/// others acquire the lock before. The log keeps each transaction that committed, with what it
+/// read and wrote, so its memory grows with each.
 #[derive(Drop)]
 pub struct SharedRange {
     table: RangeTable,
@@ -47,6 +47,8 @@ impl Model for SharedRange {
 
 impl SharedRange {
     /// A range of keys that have nothing yet, an empty log, and the dealer of `clients` clients.
+    /// The call takes the memory of a range and of the table that the clients share. A client
+    /// takes none.
     pub fn open(
         alloc: Global,
         span: Span,
@@ -85,7 +87,8 @@ impl SharedRange {
         Some(Client { participant })
     }
 
-    /// Answers a read of a transaction, as [`Range::read`] does.
+    /// Answers a read of a transaction, as [`Range::read`] does. All other calls wait while the
+    /// rows are searched for and copied.
     pub fn read<R: Wait>(
         &self,
         rt: &R,
@@ -103,7 +106,8 @@ impl SharedRange {
     }
 
     /// Commits a transaction, as [`Range::commit`] does. If it commits, it is the last of the log
-    /// then. One that has to restart is gone, and one whose commit is refused comes back.
+    /// then. One that has to restart is gone, and one whose commit is refused comes back. The call
+    /// takes the memory of that call, and of one more place in the log.
     pub fn commit<R: Wait>(
         &self,
         rt: &R,
@@ -119,7 +123,8 @@ impl SharedRange {
         calls::commit(rt, shared, &mut client.participant, transaction, now)
     }
 
-    /// Hands the range on to a new lease, as [`Range::hand_on`] does.
+    /// Hands the range on to a new lease, as [`Range::hand_on`] does. All other calls wait for as
+    /// long as that takes.
     pub fn hand_on<R: Wait>(
         &self,
         rt: &R,
@@ -136,7 +141,8 @@ impl SharedRange {
         calls::hand_on(rt, shared, &mut client.participant, config, most, now)
     }
 
-    /// Drops old versions, as [`Range::collect_garbage`] does.
+    /// Drops old versions, as [`Range::collect_garbage`] does. All other calls wait while it goes
+    /// over the versions.
     pub fn collect_garbage<R: Wait>(&self, rt: &R, client: &mut Client, before: Timestamp)
         requires range { client.old.range ≡ self.now }
         ensures { Calls client.old client.new (λ old call new. CollectsAt old call new before) }
@@ -144,8 +150,8 @@ impl SharedRange {
         calls::collect_garbage(rt, &self.table.shared, &mut client.participant, before);
     }
 
-    /// A front of all that a client has seen, for others to learn. It acquires no lock, and waits
-    /// for nobody.
+    /// A front of all that a client has seen, for others to learn. The call costs one atomic step.
+    /// It acquires no lock, waits for nobody, and takes no memory.
     pub fn front(&self, client: &mut Client) -> Front
         requires range { client.old.range ≡ self.now }
         ensures same { client.new ≡ client.old }
@@ -157,8 +163,8 @@ impl SharedRange {
     }
 
     /// Takes in a front. The client has then seen a history that begins with both its own and the
-    /// front's, so its next calls come after those that the front shows. It acquires no lock, and
-    /// waits for nobody.
+    /// front's, so its next calls come after those that the front shows. The call costs two atomic
+    /// steps. It acquires no lock, waits for nobody, and takes no memory.
     pub fn learn(&self, client: &mut Client, front: Front)
         requires range { client.old.range ≡ self.now }
         requires front { front.range ≡ self.now }
@@ -175,7 +181,7 @@ impl SharedRange {
     /// log. Where some are missing it hands all back. A client that was dropped is missing for
     /// good.
     ///
-    /// The call takes no memory, waits for nobody, and takes three steps for each client.
+    /// The call takes no memory, waits for nobody, and costs two steps for each client.
     pub fn close(self, dealer: Dealer, clients: Vec<Client>) -> Result<Closed, StillOut>
         requires dealer { dealer.range ≡ self }
         requires clients { All (λ client. client.range ≡ self) clients.items }

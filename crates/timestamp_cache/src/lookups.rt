@@ -36,6 +36,9 @@ pub trait Lookup {
 
     /// What the cache answers to a span after a history that begins with all that the seat has
     /// seen. The seat has then seen all of it. Where the lookup is refused, the seat is as it was.
+    ///
+    /// Each cache says in its own comment for whom a lookup waits. Neither a [`SharedCache`] nor a
+    /// cache in stripes takes memory for it.
     fn look_up(&self, seat: &mut Self::Seat, span: &Span) -> Result<Value, Self::Fault>
         requires at { IsAt self.now seat.old }
         ensures looked { IfOk result (λ value. LooksUp kind seat.old seat.new span.now value) }

@@ -33,7 +33,8 @@ impl ReadSummary {
     ///
     /// Bytes of another version, of another length than they tell, or with another digest than
     /// that of what stands before it, are refused, in this order; and then bytes in whose frame
-    /// there is no summary. It takes the memory of the summary's keys and marks.
+    /// there is no summary. The call makes one pass of SHA-256 over bytes of the right version and
+    /// length. Only behind that it takes memory, for the summary's keys and marks.
     ///
     /// ```
     /// let cache = Cache::new(alloc, config()?)?;

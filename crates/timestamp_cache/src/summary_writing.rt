@@ -28,7 +28,9 @@ impl ReadSummary {
     /// The summary as bytes, to be sent to another process or kept; `docs/FORMATS.md` has their
     /// form. [`from_bytes`](ReadSummary::from_bytes) reads them back.
     ///
-    /// The call takes the memory of the bytes, twice at the most while it writes.
+    /// The call makes one pass of SHA-256 over the bytes. What it gives has room for less than
+    /// twice as many. While the call writes, it takes less than four times their memory, and once
+    /// more where a block that grows has to move.
     ///
     /// ```
     /// let cache = Cache::new(alloc, config()?)?;
