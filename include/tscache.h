@@ -55,9 +55,9 @@
  * (one cache) or `tsc_free` (all of them, and the store's own). The store's own is enough for as
  * many handles as were open at once, so a store that opens and closes for ever does not grow. A
  * shared cache belongs to its handle and to its seats together, and is freed with the last of
- * these. Lookups and the calls for writes, floors and figures take no memory, and neither does a
- * call that closes. What `tsc_summary`, `tsc_seat_summary`, `tsc_replay` and `tsc_check` take they
- * free before they return.
+ * these. Lookups and the calls for writes, floors and figures take no memory, but for figures in
+ * stripes, and neither does a call that closes. What `tsc_summary`, `tsc_seat_summary`,
+ * `tsc_replay` and `tsc_check` take they free before they return.
  *
  * A cache that threads share has seats, each for one thread at a time. A program opens it, and
  * moves each seat to a store of its own, which it hands to a thread:
@@ -257,26 +257,29 @@ typedef struct {
  * store is freed. A handle that is closed or moved leaves its place to a later one, so the store
  * takes memory for as many as were open at once. The first page has `page_first` bytes, and no
  * page more than `page_max`. A page is dropped only while there are at least `min_pages`, and once
- * all of it is older than `retention` nanoseconds. `low_water` is where the floor stands at
- * first. */
+ * all of it is older than `retention` nanoseconds. `low_water` is where the floor stands at first.
+ * The cache takes the memory of an empty page, however large pages may grow. */
 TSC_NODISCARD
 uint32_t tsc_open(tsc_store *store, uint32_t page_first, uint32_t page_max, uint32_t min_pages,
                   uint64_t retention, const tsc_time *low_water, uint64_t *handle);
 
-/* Adds a span that was read, with the time and the owner of the read, at the moment `now`. */
+/* Adds a span that was read, with the time and the owner of the read, at the moment `now`. A
+ * single key that the newest page holds takes no memory. All other keys are copied. */
 TSC_NODISCARD
 uint32_t tsc_add(tsc_store *store, uint64_t handle, const void *from, size_t from_len,
                  const void *to, size_t to_len, uint32_t ends, const tsc_value *value,
                  const tsc_time *now, tsc_added *out);
 
-/* Adds several marks, one after another at one moment, all of them or none. */
+/* Adds several marks, one after another at one moment, all of them or none. All keys are copied,
+ * and so is what the marks change of the newest page. */
 TSC_NODISCARD
 uint32_t tsc_add_all(tsc_store *store, uint64_t handle, const void *keys, size_t keys_len,
                      const tsc_mark *marks, size_t marks_len, const tsc_time *now, tsc_added *out);
 
 /* The latest time on a span, with its owner where all reads of that time are one transaction's, or
  * the floor. A span whose first key is greater than the second is empty, and the floor answers. A
- * key may be of any length. It is refused by TSC_CLOSED and TSC_ENDS alone. */
+ * key may be of any length. The call searches the pages from the newest on, up to the first whose
+ * latest time is below what it has found. It is refused by TSC_CLOSED and TSC_ENDS alone. */
 TSC_NODISCARD
 uint32_t tsc_get_max(tsc_store *store, uint64_t handle, const void *from, size_t from_len,
                      const void *to, size_t to_len, uint32_t ends, tsc_value *out);
@@ -302,11 +305,12 @@ TSC_NODISCARD
 uint32_t tsc_may_write(tsc_store *store, uint64_t handle, const void *keys, size_t keys_len,
                        const tsc_span *spans, size_t spans_len, const tsc_value *write, bool *out);
 
-/* Where the floor stands. */
+/* Where the floor stands. It makes no search. */
 TSC_NODISCARD
 uint32_t tsc_low_water(tsc_store *store, uint64_t handle, tsc_time *out);
 
-/* What can be counted. It costs a step for each page, and for `memory` one for each block. */
+/* What can be counted. It costs a step for each page, and for `memory` one for each 1 to 64 end
+ * keys. */
 uint32_t tsc_figures_of(tsc_store *store, uint64_t handle, tsc_figures *out);
 
 /* What was read of a span, as bytes to be sent to the next holder of its lease, who hands them to
@@ -320,10 +324,11 @@ uint32_t tsc_figures_of(tsc_store *store, uint64_t handle, tsc_figures *out);
  * pushed further by it, and never less far. With `most` of 0 it is such a floor alone, in at most
  * 8,264 bytes.
  *
- * It costs a lookup for each end key of a read within the span, and for each gap between two. It
- * is refused as a span to be added is, by TSC_ENDS, TSC_KEY_TOO_LONG and TSC_INVERTED, and by
- * TSC_NO_MEMORY and TSC_CLOSED: `out` and `*len` are as before then. A shared cache is asked at a
- * seat, by `tsc_seat_summary`. */
+ * It costs a lookup for each end key of a read within the span, and for each gap between two. With
+ * TSC_SHORT it costs as much. While it runs it takes the memory of the marks, and up to some four
+ * times that of the bytes. It is refused as a span to be added is, by TSC_ENDS, TSC_KEY_TOO_LONG
+ * and TSC_INVERTED, and by TSC_NO_MEMORY and TSC_CLOSED: `out` and `*len` are as before then. A
+ * shared cache is asked at a seat, by `tsc_seat_summary`. */
 TSC_NODISCARD
 uint32_t tsc_summary(tsc_store *store, uint64_t handle, const void *from, size_t from_len,
                      const void *to, size_t to_len, uint32_t ends, size_t most, void *out,
@@ -332,16 +337,18 @@ uint32_t tsc_summary(tsc_store *store, uint64_t handle, const void *from, size_t
 /* Adds what the bytes of a summary tell to a cache, at the moment `now`: all of it or nothing. The
  * new holder of a lease does so before it answers its first write of the span. From then on no
  * answer within the span is earlier than what the former holder's cache answered there, no answer
- * anywhere has sunk, and reads that were told as marks keep their owners.
+ * anywhere has sunk, and reads that were told as marks keep their owners. The call goes over the
+ * bytes once for their digest. It takes the memory of the marks twice, and that of what they
+ * change of the newest page.
  *
  * Bytes of which some are missing or were changed are refused by TSC_SUMMARY_VERSION,
  * TSC_SUMMARY_LENGTH or TSC_SUMMARY_CHECKSUM, and the cache is as it was. The digest is no
  * signature: who takes bytes from somebody that may lie has them signed. Else it is refused by
  * TSC_SUMMARY_FORM; by TSC_TOO_LARGE where a span of the summary costs more than page_max of this
  * cache; by TSC_TIME, which comes first; and by TSC_NO_MEMORY, where what the bytes are may not be
- * known, and TSC_CLOSED. Where it is refused the holder asks for
- * the bytes again, or opens a cache with `low_water` at or above each time at which a read was
- * answered; until then it answers no write of the span. */
+ * known, and TSC_CLOSED. Where it is refused the holder asks for the bytes again, or opens a cache
+ * with `low_water` at or above each time at which a read was answered; until then it answers no
+ * write of the span. */
 TSC_NODISCARD
 uint32_t tsc_apply(tsc_store *store, uint64_t handle, const void *summary, size_t summary_len,
                    const tsc_time *now, tsc_added *out);
@@ -354,14 +361,16 @@ uint32_t tsc_close(tsc_store *store, uint64_t handle);
 void tsc_free(tsc_store *store);
 
 /* What a handle names goes to another store, where it gets the next handle, which is written. The
- * handle names nothing from then on. The two stores are different ones. Where it is refused the
- * other one may own some memory too, which `tsc_free` frees. */
+ * handle names nothing from then on. The two stores are different ones, and the other one takes
+ * memory for a handle alone. Where it is refused the other one may own some memory too, which
+ * `tsc_free` frees. */
 TSC_NODISCARD
 uint32_t tsc_move(tsc_store *store, uint64_t handle, tsc_store *other, uint64_t *other_handle);
 
 /* Opens a cache that threads share, and writes its handle. Its `seats` have the handles behind
  * that, in their order: 1 to 64 of them. There may be `limit` Adds: take UINT64_MAX, which is
- * never reached, since a smaller limit is for tests. What else it takes is as with `tsc_open`. */
+ * never reached, since a smaller limit is for tests. It takes the memory of two empty caches, and
+ * some for each seat. What else it takes is as with `tsc_open`. */
 TSC_NODISCARD
 uint32_t tsc_open_shared(tsc_store *store, uint32_t page_first, uint32_t page_max,
                          uint32_t min_pages, uint64_t retention, const tsc_time *low_water,
@@ -404,14 +413,15 @@ uint32_t tsc_open_striped(tsc_store *store, uint32_t page_first, uint32_t page_m
  * before the first lookup: where one is refused the seat has seen no more than before.
  *
  * Adds come one after another. An Add tries `tries` times to acquire the lock that another seat's
- * Add may hold, and looks as often at each seat that is inside a lookup. If others are in the way
- * each time, the Add is refused with TSC_BUSY, and may be tried again. Take 64 tries. After
- * TSC_BUSY, let other threads run (`sched_yield`, `thrd_yield`), and try again. With 0 tries no Add
- * would ever be made: TSC_TRIES says so, before anything else of the call is looked at but its
- * handle.
- * TSC_FULL means that `limit` Adds were made. `place_in_history` is the Add's position among all
- * Adds, from 0 on. Lookups wait for nobody, and are refused as those of `tsc_get_max` are. `seen`
- * is the number of Adds that the seat has seen then, which never sinks.
+ * Add may hold, and looks as often at each seat that is inside a lookup. Between two tries it
+ * pauses for a moment, and leaves the processor to nobody. If others are in the way each time, the
+ * Add is refused with TSC_BUSY, and may be tried again. Take 64 tries. After TSC_BUSY, let other
+ * threads run (`sched_yield`, `thrd_yield`), and try again. With 0 tries no Add would ever be
+ * made: TSC_TRIES says so, before anything else of the call is looked at but its handle. TSC_FULL
+ * means that `limit` Adds were made. The keys are copied, also known ones, and the Add is made on
+ * both copies of the cache. `place_in_history` is the Add's position among all Adds, from 0 on.
+ * Lookups wait for nobody, and are refused as those of `tsc_get_max` are. `seen` is the number of
+ * Adds that the seat has seen then, which never sinks.
  *
  * All this is of a shared cache. A seat in stripes takes the same calls, with these differences:
  *
@@ -423,10 +433,11 @@ uint32_t tsc_open_striped(tsc_store *store, uint32_t page_first, uint32_t page_m
  *     its own seat, from 0 on, and `seen` is how many of its own the seat has made. A lookup that
  *     begins after an Add of whichever seat has returned counts that Add: so another thread that
  *     continues the work passes nothing on. That is tested and not proved.
- *   - Adds and lookups of several stripes are of one moment. `tsc_seat_low_water` tells the
- *     earliest floor of all stripes, and `tsc_seat_figures_of` what the figures of all come to,
- *     where one stripe is read after another. `memory` is of one moment too, and takes some memory
- *     for each page; it is 0 where that is refused, or locks are busy.
+ *   - Adds and lookups of several stripes are of one moment, and are made anew at each try.
+ *     `tsc_seat_low_water` tells the earliest floor of all stripes, and `tsc_seat_figures_of` what
+ *     the figures of all come to, where one stripe is read after another. `memory` is of one
+ *     moment too, and takes some memory for each page; it is 0 where that is refused, or locks are
+ *     busy.
  *   - No span costs too much. TSC_FULL means that the seat has made 2^64 - 1 Adds. */
 TSC_NODISCARD
 uint32_t tsc_seat_add(tsc_store *store, uint64_t seat, const void *from, size_t from_len,
@@ -454,11 +465,12 @@ uint32_t tsc_seat_low_water(tsc_store *store, uint64_t seat, uint64_t *seen, tsc
 uint32_t tsc_seat_figures_of(tsc_store *store, uint64_t seat, uint64_t *seen, tsc_figures *out);
 
 /* What was read of a span of a shared cache, or of one in stripes, as bytes for the next holder of
- * its lease, without closing the cache. It is what `tsc_summary` tells, after a history that begins
- * with all that the seat has seen, and refused as that is. The caller stops answering reads of the
- * span, and then asks again and again until `*seen` is above the place of each thread's last Add;
- * in practice once. `*seen` is written with TSC_OK and with TSC_SHORT, and is as before with all
- * else.
+ * its lease, without closing the cache. It is what `tsc_summary` tells, after a history that
+ * begins with all that the seat has seen, at the cost of that, and refused as that is. It does not
+ * wait, and an Add meanwhile copies what it changes of the pages. The caller stops answering reads
+ * of the span, and then asks again and again until `*seen` is above the place of each thread's
+ * last Add; in practice once. `*seen` is written with TSC_OK and with TSC_SHORT, and is as before
+ * with all else.
  *
  * In stripes the caller asks once all Adds of reads of the span have returned. The summary is then
  * of one moment of all stripes that the span touches. Each of them may have `most` marks, and one
@@ -468,8 +480,8 @@ uint32_t tsc_seat_summary(tsc_store *store, uint64_t seat, const void *from, siz
                           const void *to, size_t to_len, uint32_t ends, size_t most,
                           uint64_t *seen, void *out, size_t room, size_t *len);
 
-/* Hands in a seat. Its handle names nothing from then on. If the cache lies where both were opened,
- * it knows the seat as it was. */
+/* Hands in a seat. Its handle names nothing from then on. If the cache lies where both were
+ * opened, it knows the seat as it was. The call does not wait. */
 uint32_t tsc_seat_close(tsc_store *store, uint64_t seat);
 
 /* Closes a shared cache, or one in stripes, where all its seats were handed in, and writes how
@@ -478,7 +490,7 @@ uint32_t tsc_seat_close(tsc_store *store, uint64_t seat);
  * only where the call looked for a seat that the cache does not know, and saw that the seat was
  * not returned then. So a cache that knows all its seats closes. That `tsc_seat_close` returns a
  * seat in another store, too, is tested and not proved. In stripes the number stays at 2^64 - 1
- * once it is there. */
+ * once it is there. The call does not wait, and costs a few steps for each seat. */
 uint32_t tsc_close_shared(tsc_store *store, uint64_t handle, uint64_t *length);
 
 /* Recorded traces, from bytes to bytes. These two calls take no store, and threads may make them
@@ -488,8 +500,9 @@ uint32_t tsc_close_shared(tsc_store *store, uint64_t handle, uint64_t *length);
  * byte on, with no zero byte behind it, and what lies behind it is as before: TSC_OK for what was
  * asked for, TSC_REFUSED for why the bytes were refused, as the program tells it on standard
  * error, without the line feed. Where the text is longer than `room` that is TSC_SHORT, and `out`
- * is as before. In all three cases `*len` tells how many bytes the text has; with TSC_NO_MEMORY
- * `out` and `*len` are as before. A trace, or a log, of more than 16,777,216 bytes is refused. */
+ * is as before; the call costs as much then. In all three cases `*len` tells how many bytes the
+ * text has; with TSC_NO_MEMORY `out` and `*len` are as before. A trace, or a log, of more than
+ * 16,777,216 bytes is refused. */
 
 /* Replays a trace on one thread. The text is that of its log. */
 uint32_t tsc_replay(const void *trace, size_t trace_len, void *out, size_t room, size_t *len);

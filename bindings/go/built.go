@@ -18,7 +18,8 @@ type Build struct {
 	Proved bool
 }
 
-// Built is the build of the library that is linked: a line for the log of a store.
+// Built is the build of the library that is linked: a line for the log of a store. Each call
+// copies the texts.
 func Built() Build {
 	b := C.tsc_built()
 	return Build{

@@ -15,6 +15,10 @@ import "runtime"
 // less far. With none it is such a floor alone.
 //
 // It is refused as an Add of the span is, but for its cost, and with ErrClosed.
+//
+// It costs a lookup for each end key of a read within the span, and for each gap between two. A
+// summary of more than 4,096 bytes is made twice: at first to learn its length. Meanwhile the call
+// takes the memory of the marks, and up to some five times that of the bytes.
 func (c *Cache) Summary(span Span, most uint) ([]byte, error) {
 	in, err := c.take()
 	if err != nil {
@@ -32,9 +36,11 @@ func (c *Cache) Summary(span Span, most uint) ([]byte, error) {
 	return out, err
 }
 
-// Summary is what was read of a span of the shared cache, as that of a Cache, and how many Adds the
-// seat has seen then. The cache stays open. The caller stops answering reads of the span, and asks
-// until more Adds were seen than the place of each goroutine's last one; in practice it asks once.
+// Summary is what was read of a span of the shared cache, as that of a Cache, and how many Adds
+// the seat has seen then. The cache stays open. The call waits as GetMax does, and costs what that
+// of a Cache does. An Add meanwhile copies what it changes of the pages. The caller stops
+// answering reads of the span, and asks until more Adds were seen than the place of each
+// goroutine's last one; in practice it asks once.
 func (s *Seat) Summary(span Span, most uint) ([]byte, uint64, error) {
 	in, err := s.take()
 	if err != nil {
@@ -69,6 +75,9 @@ func (s *Seat) Summary(span Span, most uint) ([]byte, uint64, error) {
 // who takes bytes from somebody that may lie has them signed. Else it is refused with
 // ErrSummaryForm, and as AddAll is. Where it is refused the holder asks for the bytes again, or
 // opens a cache with LowWater at or above each time at which a read was answered.
+//
+// The call goes over the bytes once for their digest. It takes the memory of the marks twice, and
+// that of what they change of the newest page.
 func (c *Cache) Apply(summary []byte, now Time) (Added, error) {
 	in, err := c.take()
 	if err != nil {

@@ -93,8 +93,8 @@ func (p *Pool) isClosing() bool {
 	}
 }
 
-// Put puts back a seat that Get gave, once. It panics at any other: one of another pool or of none,
-// one that is not out, or nil.
+// Put puts back a seat that Get gave, once. It panics at any other: one of another pool or of
+// none, one that is not out, or nil. It waits for nobody.
 func (p *Pool) Put(seat *Seat) {
 	p.copies.refuse()
 	if !isOpened(seat) || seat.inner.pool.Load() != p {

@@ -11,7 +11,8 @@ type TextRefused string
 func (r TextRefused) Error() string { return "tscache: " + string(r) }
 
 // Replay replays a trace on one thread, and gives the text of its log. The error is a TextRefused
-// where the bytes are no trace, or ErrNoMemory. A trace has 16,777,216 bytes at the most.
+// where the bytes are no trace, or ErrNoMemory. A trace has 16,777,216 bytes at the most. A log of
+// more than 4,096 bytes is made twice: at first to learn its length.
 func Replay(trace []byte) ([]byte, error) {
 	return told(func(out []byte) (uint32, int) {
 		var length C.size_t

@@ -118,7 +118,8 @@ type Figures struct {
 // where two come at once the second one panics. It must not be copied.
 type Cache struct{ handle }
 
-// Open makes a cache to which nothing was added. Close frees it, and else the collector does.
+// Open makes a cache to which nothing was added. Close frees it, and else the collector does. The
+// cache takes the memory of an empty page, however large pages may grow.
 func Open(config Config) (*Cache, error) {
 	c := &Cache{}
 	in, err := c.open()
@@ -142,7 +143,8 @@ func Open(config Config) (*Cache, error) {
 // nothing.
 func (c *Cache) Close() { c.close() }
 
-// Add adds a span that was read, with the time and the owner of the read, at the moment now.
+// Add adds a span that was read, with the time and the owner of the read, at the moment now. A
+// single key that the newest page holds takes no memory. All other keys are copied.
 func (c *Cache) Add(span Span, value Value, now Time) (Added, error) {
 	in, err := c.take()
 	if err != nil {
@@ -160,7 +162,9 @@ func (c *Cache) Add(span Span, value Value, now Time) (Added, error) {
 	return out, err
 }
 
-// AddAll adds several marks, one after another at one moment, all of them or none.
+// AddAll adds several marks, one after another at one moment, all of them or none. The keys are
+// copied twice: here into one piece, and then by the library. What the marks change of the newest
+// page is copied too.
 func (c *Cache) AddAll(marks []Mark, now Time) (Added, error) {
 	keys, asked := flat(marks)
 	in, err := c.take()
@@ -180,7 +184,8 @@ func (c *Cache) AddAll(marks []Mark, now Time) (Added, error) {
 // GetMax is the latest time on a span, with its owner where all reads of that time are one
 // transaction's, or the floor. A range whose first key is greater than the second is empty, and
 // the floor answers. Keys may be of any length, and no memory is taken: it is refused with
-// ErrClosed and ErrEnds alone, and the time is MaxTime then.
+// ErrClosed and ErrEnds alone, and the time is MaxTime then. It searches the pages from the newest
+// on, up to the first whose latest time is below what it has found.
 func (c *Cache) GetMax(span Span) (Value, error) {
 	in, err := c.take()
 	if err != nil {
@@ -198,8 +203,9 @@ func (c *Cache) GetMax(span Span) (Value, error) {
 
 // EarliestWrite is the earliest time, not before at, at which a transaction may write all of these
 // spans. It is clear of each read on one of them that was added so far, also of one that was
-// dropped since. It costs a lookup for each span. It is refused with ErrNoTime where there is
-// none, with ErrTime, with ErrInverted, and as GetMax is; the time is MaxTime then.
+// dropped since. It costs a lookup for each span, and copies the keys into one piece, whose memory
+// the next such call uses again. It is refused with ErrNoTime where there is none, with ErrTime,
+// with ErrInverted, and as GetMax is; the time is MaxTime then.
 func (c *Cache) EarliestWrite(spans []Span, at Time, by [16]byte) (Time, error) {
 	in, err := c.take()
 	if err != nil {
@@ -216,7 +222,7 @@ func (c *Cache) EarliestWrite(spans []Span, at Time, by [16]byte) (Time, error) 
 	return out, err
 }
 
-// LowWater is where the floor stands.
+// LowWater is where the floor stands. It makes no search, and takes no memory.
 func (c *Cache) LowWater() (Time, error) {
 	in, err := c.take()
 	if err != nil {
@@ -229,7 +235,8 @@ func (c *Cache) LowWater() (Time, error) {
 	return out, err
 }
 
-// Figures is what can be counted.
+// Figures is what can be counted. It costs a step for each page, and for Memory one for each 1 to
+// 64 end keys. It takes no memory.
 func (c *Cache) Figures() (Figures, error) {
 	in, err := c.take()
 	if err != nil {
@@ -255,11 +262,14 @@ type Shared struct{ handle }
 // All Adds of the cache form one history, and a seat has seen a beginning of it. A lookup that
 // returns more Adds than the place of an Add counts that Add, whichever seat made it, and so does
 // each later lookup of its seat.
+//
+// No call of a seat waits, but in stripes those that only read: they let other goroutines run, and
+// try until they have the locks that they need.
 type Seat struct{ handle }
 
 // OpenShared makes a cache to which nothing was added, and its seats, 1 to 64 of them. There may
 // be limit Adds; a limit below math.MaxUint64 is for tests. Close frees each of them, and else the
-// collector does.
+// collector does. The cache takes the memory of two empty ones, and some for each seat.
 func OpenShared(config Config, seats uint32, limit uint64) (*Shared, []*Seat, error) {
 	s := &Shared{}
 	in, err := s.open()
@@ -281,12 +291,13 @@ func OpenShared(config Config, seats uint32, limit uint64) (*Shared, []*Seat, er
 	return s.seats(seats)
 }
 
-// OpenStriped makes a cache in stripes to which nothing was added, and its seats: 1 or more, as many
-// as there is memory for. Stripe 0 has the keys below the first bound, and each other one those from
-// its bound on, below the next. Each is a cache of its own, under a lock of its own, so Adds of
-// goroutines that call different stripes do not wait for one another. Bounds ascend, and there are
-// at most 1023 of them. PageMax is 8256 or more, into which each span fits. There may be as many
-// pages as stripes times those of one cache.
+// OpenStriped makes a cache in stripes to which nothing was added, and its seats: 1 or more, as
+// many as there is memory for. Stripe 0 has the keys below the first bound, and each other one
+// those from its bound on, below the next. Each is a cache of its own, under a lock of its own, so
+// Adds of goroutines that call different stripes do not wait for one another. Bounds ascend, and
+// there are at most 1023 of them. PageMax is 8256 or more, into which each span fits. There may be
+// as many pages as stripes times those of one cache, and the call takes the memory of as many
+// empty caches.
 //
 // A call of a seat acquires the locks of the stripes that its span touches. An Add returns ErrBusy
 // as in a shared cache. A lookup and each other call lets other goroutines run, and tries again.
@@ -361,7 +372,8 @@ func (s *Shared) move(i C.uint64_t, seat *Seat) error {
 }
 
 // Close frees the cache, and tells how many Adds there were. It is refused with ErrStillOut where
-// a seat was not closed, and nothing is changed then.
+// a seat was not closed, and nothing is changed then. The call does not wait, and costs a few
+// steps for each seat.
 func (s *Shared) Close() (uint64, error) {
 	in, err := s.take()
 	if err != nil {
@@ -386,6 +398,9 @@ func (s *Seat) Close() { s.close() }
 // 0. It waits for nobody: if others are in the way at each of its tries, it returns ErrBusy. Take
 // 64 tries; if it is refused, call runtime.Gosched and try again. With no tries it returns ErrTries.
 // Beside an error the place is math.MaxUint64, which no lookup has seen.
+//
+// The call copies the keys, also known ones. Each Add of a shared cache is made on both copies.
+// Between two tries the call pauses for a moment, and leaves the processor to nobody.
 func (s *Seat) Add(span Span, value Value, now Time, tries uint32) (uint64, Added, error) {
 	in, err := s.take()
 	if err != nil {
@@ -403,7 +418,9 @@ func (s *Seat) Add(span Span, value Value, now Time, tries uint32) (uint64, Adde
 	return place, out, err
 }
 
-// AddAll adds several marks as one Add, all of them or none, as Add does.
+// AddAll adds several marks as one Add, all of them or none, as Add does. The keys are copied as
+// by that of a Cache, and once more, in stripes twice. In several stripes the Add is prepared anew
+// at each try.
 func (s *Seat) AddAll(marks []Mark, now Time, tries uint32) (uint64, Added, error) {
 	keys, asked := flat(marks)
 	in, err := s.take()
@@ -443,7 +460,7 @@ func (s *Seat) GetMax(span Span) (Value, uint64, error) {
 }
 
 // EarliestWrite is as that of a Cache, by what lookups of the seat answer, one after another. It
-// waits for nobody.
+// waits as GetMax does.
 func (s *Seat) EarliestWrite(spans []Span, at Time, by [16]byte) (Time, error) {
 	in, err := s.take()
 	if err != nil {
@@ -464,8 +481,8 @@ func (s *Seat) EarliestWrite(spans []Span, at Time, by [16]byte) (Time, error) {
 	return out, err
 }
 
-// LowWater is where the floor stands, and how many Adds the seat has seen then. In stripes it is the
-// earliest floor of all.
+// LowWater is where the floor stands, and how many Adds the seat has seen then. In stripes it is
+// the earliest floor of all. It waits as GetMax does, and takes no memory.
 func (s *Seat) LowWater() (Time, uint64, error) {
 	in, err := s.take()
 	if err != nil {
@@ -483,7 +500,9 @@ func (s *Seat) LowWater() (Time, uint64, error) {
 }
 
 // Figures is what can be counted, and how many Adds the seat has seen then. In stripes it is what
-// the figures of all come to, where one stripe is read after another.
+// the figures of all come to, where one stripe is read after another. It waits as GetMax does, and
+// costs what that of a Cache does. In stripes it takes some memory for each page, and Memory is 0
+// where that is refused, or locks are busy.
 func (s *Seat) Figures() (Figures, uint64, error) {
 	in, err := s.take()
 	if err != nil {

@@ -41,13 +41,14 @@ func (t Time) Next() (Time, bool) {
 
 // MayWrite says whether a transaction may write a span at some time: whether that is clear of what
 // a lookup of the span answers, and so of each read that was added there, also of one that was
-// dropped since. It is refused with ErrTime, with ErrInverted, and as GetMax is.
+// dropped since. It is refused with ErrTime, with ErrInverted, and as GetMax is. It costs a
+// lookup.
 func (c *Cache) MayWrite(span Span, at Time, by [16]byte) (bool, error) {
 	return c.MayWriteAll([]Span{span}, at, by)
 }
 
 // MayWriteAll says whether a transaction may write all of some spans at some time, by the rule of
-// MayWrite. It is so just where EarliestWrite tells that very time.
+// MayWrite. It is so just where EarliestWrite tells that very time. It costs what that does.
 func (c *Cache) MayWriteAll(spans []Span, at Time, by [16]byte) (bool, error) {
 	in, err := c.take()
 	if err != nil {
@@ -64,13 +65,13 @@ func (c *Cache) MayWriteAll(spans []Span, at Time, by [16]byte) (bool, error) {
 	return out, err
 }
 
-// MayWrite is as that of a Cache, by what a lookup of the seat answers. It waits for nobody.
+// MayWrite is as that of a Cache, by what a lookup of the seat answers. It waits as GetMax does.
 func (s *Seat) MayWrite(span Span, at Time, by [16]byte) (bool, error) {
 	return s.MayWriteAll([]Span{span}, at, by)
 }
 
 // MayWriteAll is as that of a Cache, by what lookups of the seat answer, one after another. It
-// waits for nobody.
+// waits as GetMax does.
 func (s *Seat) MayWriteAll(spans []Span, at Time, by [16]byte) (bool, error) {
 	in, err := s.take()
 	if err != nil {

@@ -16,7 +16,7 @@ pub struct Built {
 }
 
 /// What a program writes into its log, so that one knows later what it ran on. A wrong answer is
-/// reported with it.
+/// reported with it. The call takes no memory.
 ///
 /// ```
 /// let tscache::Built { version, commit, kit, is_proved } = tscache::built();

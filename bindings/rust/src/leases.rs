@@ -16,6 +16,11 @@ impl Cache {
     /// The span is refused as one that is to be added, and with [`Error::NoMemory`] where memory
     /// for the bytes was. A shared cache is asked [at a seat](Seat::summary).
     ///
+    /// The call costs a lookup for each end key of a read within the span, and for each gap
+    /// between two. A summary of more than 4,096 bytes is made twice: at first to learn its
+    /// length. Meanwhile the call takes the memory of the marks, and up to some five times that of
+    /// the bytes.
+    ///
     /// ```
     /// use tscache::{Cache, Config, Error, Span, Time, Value};
     /// let (reader, writer, all) = ([0x11; 16], [0x22; 16], Span::until(b"a", b"z"));
@@ -65,6 +70,9 @@ impl Cache {
     /// Where it is refused the holder asks for the bytes again, or opens a cache with
     /// [`low_water`](crate::Config::low_water) at or above each time at which a read was answered.
     ///
+    /// The call goes over the bytes once for their digest. It takes the memory of the marks twice,
+    /// and that of what they change of the newest page.
+    ///
     /// ```
     /// use tscache::{Cache, Config, Error, Span, Time};
     /// let mut cache = Cache::open(&Config::default())?;
@@ -96,7 +104,8 @@ impl Cache {
 impl Seat {
     /// What was read of a span of the shared cache, as bytes for the next holder of its lease, and
     /// how many Adds the seat has seen then: what [`Cache::summary`] tells after these. The cache
-    /// stays open.
+    /// stays open. The call waits as [`get_max`](Seat::get_max) does, and costs what
+    /// [`Cache::summary`] does. An Add meanwhile copies what it changes of the pages.
     ///
     /// The caller has all threads stop answering reads of the span. Then it asks until the seat has
     /// seen the last Add of each of them; in practice it asks once. The next holder

@@ -435,7 +435,8 @@ unsafe impl Send for Cache {}
 // reference or a slice that lives through the call, and what is written to is a local of its own,
 // which a call writes as a whole wherever it answers 0.
 impl Cache {
-    /// A cache to which nothing was added.
+    /// A cache to which nothing was added. The call takes the memory of an empty page, however
+    /// large pages may grow.
     ///
     /// ```
     /// use tscache::{Cache, Config, Error};
@@ -460,7 +461,8 @@ impl Cache {
         Ok(cache)
     }
 
-    /// Adds a span that was read, with the time and the owner of the read, at the moment `now`.
+    /// Adds a span that was read, with the time and the owner of the read, at the moment `now`. A
+    /// single key that the newest page holds takes no memory. All other keys are copied.
     ///
     /// ```
     /// use tscache::{Cache, Config, Error, Span, Time, Value};
@@ -492,7 +494,9 @@ impl Cache {
         Ok(unsafe { added.assume_init() }.into())
     }
 
-    /// Adds several marks, one after another at one moment, all of them or none.
+    /// Adds several marks, one after another at one moment, all of them or none. The keys are
+    /// copied twice: here into one piece, and then by the library. What the marks change of the
+    /// newest page is copied too.
     ///
     /// ```
     /// use tscache::{Cache, Config, Error, Mark, Span, Time, Value};
@@ -527,7 +531,8 @@ impl Cache {
 
     /// The latest time on a span, with its owner where all reads of that time are one
     /// transaction's, or the floor. A range whose first key is greater than the second is empty,
-    /// and the floor answers. Keys may be of any length, and no memory is taken.
+    /// and the floor answers. Keys may be of any length, and no memory is taken. The call searches
+    /// the pages from the newest on, up to the first whose latest time is below what it has found.
     ///
     /// ```
     /// use tscache::{Cache, Config, Error, Span, Time, Value};
@@ -562,7 +567,7 @@ impl Cache {
         unsafe { found.assume_init() }.into()
     }
 
-    /// Where the floor stands.
+    /// Where the floor stands. It makes no search, and takes no memory.
     ///
     /// ```
     /// use tscache::{Cache, Config, Error, Time};
@@ -579,7 +584,9 @@ impl Cache {
         unsafe { floor.assume_init() }
     }
 
-    /// What can be counted. `examples/figures.rs` writes it in the text form of Prometheus.
+    /// What can be counted. `examples/figures.rs` writes it in the text form of Prometheus. The
+    /// call costs a step for each page, and for `memory` one for each 1 to 64 end keys. It takes
+    /// no memory.
     ///
     /// ```
     /// use tscache::{Cache, Config, Error, Span, Time, Value};
@@ -645,6 +652,9 @@ pub struct Shared {
 /// returns more Adds than the place of an Add counts that Add, whichever seat made it, and so does
 /// each later lookup of its seat.
 ///
+/// No call of a seat waits, but in stripes those that only read: they let other threads run, and
+/// try until they have the locks that they need.
+///
 /// It may go to another thread, and is used by one at a time. There is no copy of it.
 // It lies apart as a `Cache` does.
 #[derive(Debug)]
@@ -662,7 +672,8 @@ unsafe impl Send for Seat {}
 
 impl Shared {
     /// A cache to which nothing was added, and its seats, 1 to 64 of them. There may be `limit`
-    /// Adds: take `u64::MAX`, which is never reached, since a smaller limit is for tests.
+    /// Adds: take `u64::MAX`, which is never reached, since a smaller limit is for tests. The call
+    /// takes the memory of two empty caches, and some for each seat.
     ///
     /// ```
     /// use tscache::{Config, Error, Shared};
@@ -699,10 +710,11 @@ impl Shared {
     /// memory for.
     ///
     /// Stripe 0 has the keys below the first bound, and each other one those from its bound on,
-    /// below the next. Each is a cache of its own, under a lock of its own, so Adds of threads that
-    /// call different stripes do not wait for one another. Bounds ascend, and there are at most
-    /// 1,023 of them. `page_max` is 8,256 or more, into which each span fits. There may be as many
-    /// pages as stripes times those of one cache.
+    /// below the next. Each is a cache of its own, under a lock of its own, so Adds of threads
+    /// that call different stripes do not wait for one another. Bounds ascend, and there are at
+    /// most 1,023 of them. `page_max` is 8,256 or more, into which each span fits. There may be as
+    /// many pages as stripes times those of one cache, and the call takes the memory of as many
+    /// empty caches.
     ///
     /// A call of a seat acquires the locks of the stripes that its span touches. An Add is refused
     /// as [`Error::Busy`] as in a shared cache. A lookup and each other call lets other threads run,
@@ -769,7 +781,7 @@ impl Shared {
     }
 
     /// How many Adds there were, once each seat was dropped. Where one wasn't, the cache is handed
-    /// back.
+    /// back. The call takes no memory, does not wait, and costs a few steps for each seat.
     ///
     /// ```
     /// use tscache::{Config, Error, Shared};
@@ -801,6 +813,9 @@ impl Seat {
     /// 0. It waits for nobody: if others are in the way at each of its tries, it is refused as
     /// [`Error::Busy`]. Take 64 tries; if it is refused, call `std::thread::yield_now` and try
     /// again. Without any try it is refused as [`Error::Tries`].
+    ///
+    /// The call copies the keys, also known ones. Each Add of a shared cache is made on both
+    /// copies. Between two tries the call pauses for a moment, and leaves the processor to nobody.
     ///
     /// ```
     /// use tscache::{Config, Error, Shared, Span, Time, Value};
@@ -845,7 +860,9 @@ impl Seat {
         Ok((place, unsafe { added.assume_init() }.into()))
     }
 
-    /// Adds several marks as one Add, all of them or none, as [`add`](Seat::add) does.
+    /// Adds several marks as one Add, all of them or none, as [`add`](Seat::add) does. The keys
+    /// are copied as by [`Cache::add_all`], and once more, in stripes twice. In several stripes
+    /// the Add is prepared anew at each try.
     ///
     /// ```
     /// use tscache::{Config, Error, Mark, Shared, Span, Time, Value};
@@ -920,7 +937,8 @@ impl Seat {
     }
 
     /// Where the floor stands, and how many Adds the seat has seen then. In stripes it is the
-    /// earliest floor of all.
+    /// earliest floor of all. The call waits as [`get_max`](Seat::get_max) does, and takes no
+    /// memory.
     ///
     /// A thread that continues the work of another asks so until its seat has seen the last Add of
     /// that one.
@@ -947,7 +965,10 @@ impl Seat {
     }
 
     /// What can be counted, and how many Adds the seat has seen then. In stripes it is what the
-    /// figures of all come to, where one stripe is read after another.
+    /// figures of all come to, where one stripe is read after another. The call waits as
+    /// [`get_max`](Seat::get_max) does, and costs what [`Cache::figures`] does. In stripes it
+    /// takes some memory for each page, and `memory` is 0 where that is refused, or locks are
+    /// busy.
     ///
     /// ```
     /// use tscache::{Config, Error, Shared};

@@ -26,7 +26,7 @@ impl fmt::Display for TextError {
 impl std::error::Error for TextError {}
 
 /// Replays a trace on one thread, and gives the text of its log. A trace has 16,777,216 bytes at
-/// the most.
+/// the most. A log of more than 4,096 bytes is made twice: at first to learn its length.
 ///
 /// ```
 /// let trace = br#"{"page_first":132,"page_max":132,"min_pages":2,"retention":10,"low_water":[5,0],

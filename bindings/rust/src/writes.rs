@@ -52,8 +52,8 @@ impl Cache {
     /// of the span answers, and so of each read that was added there, also of one that was dropped
     /// since.
     ///
-    /// It is refused as [`earliest_write`](Cache::earliest_write) is, but never with
-    /// [`Error::NoTime`]: no write may be made then, and that is no refusal.
+    /// It costs a lookup, and is refused as [`earliest_write`](Cache::earliest_write) is, but
+    /// never with [`Error::NoTime`]: no write may be made then, and that is no refusal.
     ///
     /// ```
     /// use tscache::{Cache, Config, Error, Span, Time, Value};
@@ -74,7 +74,7 @@ impl Cache {
 
     /// Whether a transaction may write all of these spans at some time, by the rule of
     /// [`may_write`](Cache::may_write). It is so just where
-    /// [`earliest_write`](Cache::earliest_write) tells that very time.
+    /// [`earliest_write`](Cache::earliest_write) tells that very time. It costs what that does.
     ///
     /// ```
     /// # use tscache::{Cache, Config, Error, Span, Time, Value};
@@ -112,7 +112,8 @@ impl Cache {
     }
 
     /// The earliest time, not before `at`, at which a transaction may write all of these spans. It
-    /// costs a lookup for each.
+    /// costs a lookup for each. The keys of a range, or of several spans, are copied into one
+    /// piece, which takes memory.
     ///
     /// It is refused with [`Error::NoTime`] where a read of somebody else stands at the last time,
     /// with [`Error::Time`] where `at` is out of range, with [`Error::Inverted`] where a span is
@@ -158,7 +159,8 @@ impl Cache {
 }
 
 impl Seat {
-    /// As [`Cache::may_write`], by what a lookup of the seat answers. It waits for nobody.
+    /// As [`Cache::may_write`], by what a lookup of the seat answers. The call waits as
+    /// [`get_max`](Seat::get_max) does.
     ///
     /// ```
     /// use tscache::{Config, Error, Shared, Span, Time, Value};
@@ -175,7 +177,8 @@ impl Seat {
         self.may_write_all(std::slice::from_ref(span), at, by)
     }
 
-    /// As [`Cache::may_write_all`], by what lookups of the seat answer, one after another.
+    /// As [`Cache::may_write_all`], by what lookups of the seat answer, one after another. The
+    /// call waits as [`get_max`](Seat::get_max) does.
     ///
     /// ```
     /// use tscache::{Config, Error, Shared, Span, Time, Value};
@@ -214,7 +217,8 @@ impl Seat {
         Ok(may)
     }
 
-    /// As [`Cache::earliest_write`], by what lookups of the seat answer. It waits for nobody.
+    /// As [`Cache::earliest_write`], by what lookups of the seat answer. The call waits as
+    /// [`get_max`](Seat::get_max) does.
     ///
     /// ```
     /// use tscache::{Config, Error, Shared, Span, Time, Value};
