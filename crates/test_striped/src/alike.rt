@@ -1,13 +1,13 @@
 //! Calls that look random, on stripes and on one cache. Where no page rotates and nothing is
 //! dropped, both have to answer alike, which no contract says: this finds a bound or a cut on the
 //! wrong side in the definitions themselves.
-use crate::seats::{Seats, config, keys};
+use crate::seats::Seats;
 use std::alloc::Global;
 use std::sync::Wait;
 use std::test::Fail;
-use test_support::at;
-use test_support::rows::{Reported, SpanBytes, of_cache, owner, span_bytes};
-use tsc_cache::{Added, Cache, Mark, TimestampCache};
+use test_support::rows::{Reported, SpanBytes, owner, span_bytes};
+use test_support::{CacheTable, Table, at, play};
+use tsc_cache::Mark;
 use tsc_time::Value;
 
 /// Spans whose ends are bounds, and lie right before and behind them.
@@ -34,74 +34,67 @@ impl Numbers {
         span_bytes(alloc, SPANS.split(' ').nth(place).unwrap_or(""))
     }
 
-    fn mark(&mut self, alloc: Global) -> Reported<Mark> {
-        let span = self.span(alloc)?.span(alloc)?;
+    /// A mark, and the bytes of its span.
+    fn mark(&mut self, alloc: Global) -> Reported<(SpanBytes, Mark)> {
+        let bytes = self.span(alloc)?;
         let time = at(self.below(40), (self.below(2) % 2) as u32);
         let id = owner(["A", "B", "-"].get(self.below(3) as usize).unwrap_or(&""))?;
-        let value = Value::of(time, id);
-        Ok(Mark { span, value })
+        let (span, value) = (bytes.span(alloc)?, Value::of(time, id));
+        Ok((bytes, Mark { span, value }))
     }
 
     /// Up to four marks.
     fn marks(&mut self, alloc: Global) -> Reported<Vec<Mark>> {
         let mut marks = Vec::new(alloc);
         for _ in 0..self.below(5) {
-            marks.push(self.mark(alloc)?)?;
+            marks.push(self.mark(alloc)?.1)?;
         }
         Ok(marks)
     }
-}
 
-/// Stripes, and one cache beside them.
-#[derive(Drop)]
-struct Both<'a, R> {
-    seats: Seats<'a, R>,
-    alone: Cache,
-}
-
-impl<R: Wait> Both<'_, R> {
-    /// Adds to both, and tells what each of them answers.
-    fn add(&mut self, numbers: &mut Numbers) -> Reported<(Added, Added)> {
-        let (alloc, now) = (self.seats.alloc, at(20, 0));
-        if numbers.below(2) == 0 {
-            let mark = numbers.mark(alloc)?;
-            let alone = self.alone.add(&mark.span, mark.value, now);
-            return Ok((self.seats.add(&mark)?, alone.map_err(of_cache)?));
-        }
-        let marks = numbers.marks(alloc)?;
-        let alone = self.alone.add_all(&marks, now);
-        Ok((self.seats.add_all(&marks)?, alone.map_err(of_cache)?))
-    }
-
-    /// Whether both answer an Add and a lookup alike.
-    fn is_alike(&mut self, numbers: &mut Numbers) -> Reported<bool> {
-        let (one, other) = self.add(numbers)?;
-        let bytes = numbers.span(self.seats.alloc)?;
-        Ok(one == other && self.seats.get(&bytes)? == self.alone.get_max_ref(&bytes.looked_up()))
+    /// Whether two tables answer an Add and a lookup alike.
+    fn are_alike<T: Table, U: Table>(
+        &mut self,
+        alloc: Global,
+        one: &mut T,
+        other: &mut U,
+    ) -> Reported<bool> {
+        let now = at(20, 0);
+        let is_alike = if self.below(2) == 0 {
+            let (bytes, mark) = self.mark(alloc)?;
+            one.add(&bytes, &mark, now)? == other.add(&bytes, &mark, now)?
+        } else {
+            let marks = self.marks(alloc)?;
+            one.add_all(&marks, now)? == other.add_all(&marks, now)?
+        };
+        let bytes = self.span(alloc)?;
+        Ok(is_alike && one.get(&bytes)? == other.get(&bytes)?)
     }
 }
 
-/// How many of 2,000 Adds and lookups are answered alike, with these bounds.
-fn alike<R: Wait>(rt: &R, alloc: Global, bounds: &str, tries: Option<u32>) -> Result<u32, Fail> {
-    let mut seats = Seats::open(rt, alloc, 1 << 20, keys(alloc, bounds)?)?;
-    seats.tries = tries;
-    let alone = Cache::new(alloc, config(1 << 20)?)?;
-    let (mut both, mut numbers) = (Both { seats, alone }, Numbers { state: 7 });
-    let mut count = 0_u32;
+/// How many of 2,000 Adds and lookups are answered alike, in stripes that these rows open.
+fn alike<R: Wait>(rt: &R, alloc: Global, rows: &str) -> Result<u32, Fail> {
+    let (mut seats, mut alone) = (Seats::new(rt, alloc)?, CacheTable::new(alloc)?);
+    play(alloc, &mut seats, rows)?;
+    play(alloc, &mut alone, "open 1048576 1048576 2 10 5.0 0 = done")?;
+    let (mut numbers, mut count) = (Numbers { state: 7 }, 0_u32);
     for _ in 0..2000 {
-        count = count.saturating_add(u32::from(both.is_alike(&mut numbers)?));
+        let is_alike = numbers.are_alike(alloc, &mut seats, &mut alone)?;
+        count = count.saturating_add(u32::from(is_alike));
     }
     Ok(count)
 }
 
 #[test]
 fn three_stripes_answer_as_one_cache(rt: HostRuntime) -> Result<(), Fail> {
-    assert_eq!(rt; alike(&rt, rt.alloc(), "b d", None)?, 2000);
+    let rows = "stripes 1048576 1048576 2 10 5.0 [b] [d] = done";
+    assert_eq!(rt; alike(&rt, rt.alloc(), rows)?, 2000);
     Ok(())
 }
 
 #[test]
 fn tries_answer_as_one_cache(rt: HostRuntime) -> Result<(), Fail> {
-    assert_eq!(rt; alike(&rt, rt.alloc(), "b%00 c", Some(3))?, 2000);
+    let rows = "stripes 1048576 1048576 2 10 5.0 [b%00] [c] = done\ntries 3 = done";
+    assert_eq!(rt; alike(&rt, rt.alloc(), rows)?, 2000);
     Ok(())
 }

@@ -175,7 +175,7 @@ fn take_part<R: Wait>(
 pub fn open(alloc: Global) -> Reported<(StripedCache, Vec<Seat>)>
     ensures { IfOk result (λ opened. All (λ seat. seat.cache ≡ opened.0) opened.1.items) }
 {
-    let opened = StripedCache::open(alloc, config(8256)?, keys(alloc, "b d")?, 3);
+    let opened = StripedCache::open(alloc, config(8256)?, keys(alloc, &["[b]", "[d]"])?, 3);
     let Ok((striped, mut dealer)) = opened else {
         return Err(Refusal::NoMemory);
     };
