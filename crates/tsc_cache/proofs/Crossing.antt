@@ -5,8 +5,8 @@ use Rattle.std.proofs.Crossing.{crosses}
 use Rattle.tsc_time.specs.contracts.timestamp.Timestamp.{the_row as timestamp}
 use Rattle.tsc_time.specs.contracts.value.Value.{the_row as value}
 use Rattle.tsc_span.specs.contracts.key.Key.{the_row as key}
-use Rattle.tsc_page_nodes.specs.contracts.prefix.KeyPrefix.{the_row as key_prefix}
-use Rattle.tsc_page_nodes.specs.contracts.prefix.PrefixedKey.{the_row as prefixed_key}
+use Rattle.tsc_span.specs.contracts.prefix.KeyPrefix.{the_row as key_prefix}
+use Rattle.tsc_span.specs.contracts.prefixed.PrefixedKey.{the_row as prefixed_key}
 use Rattle.tsc_page_nodes.specs.contracts.nodes.Values.{the_row as values}
 use Rattle.tsc_page_nodes.specs.contracts.nodes.Nodes.{the_row as nodes}
 use Rattle.tsc_page_tree.specs.contracts.aggregate.Aggregate.{the_row as aggregate}
@@ -17,12 +17,12 @@ use Rattle.tsc_page_tree.specs.contracts.tree.Tree.{the_row as tree}
 use Rattle.tsc_page.specs.contracts.page.Page.{the_row as page}
 use Rattle.tsc_span.specs.contracts.span.Shape.{the_row as shape}
 use Rattle.tsc_span.specs.contracts.span.Span.{the_row as span}
-use Rattle.tsc_page_model.specs.contracts.plain.PlainMark.{the_row as plain_mark}
-use Rattle.tsc_page_model.specs.contracts.plain.PlainPage.{the_row as plain_page}
+use Rattle.tsc_page_model.specs.contracts.plain_page.PlainMark.{the_row as plain_mark}
+use Rattle.tsc_page_model.specs.contracts.plain_page.PlainPage.{the_row as plain_page}
 use Rattle.tsc_cache.specs.contracts.added.Added.{the_row as added}
 use Rattle.tsc_cache.specs.contracts.config.Config.{the_row as config}
 use Rattle.tsc_cache.specs.contracts.plain_pages.PlainPages.{the_row as plain_pages}
-use Rattle.tsc_cache.specs.contracts.plain.PlainCache.{the_row as plain_cache}
+use Rattle.tsc_cache.specs.contracts.plain_cache.PlainCache.{the_row as plain_cache}
 use Rattle.tsc_cache.specs.contracts.page_stack.Pages.{the_row as pages}
 use Rattle.tsc_cache.specs.contracts.cache.Cache.{the_row as cache}
 

@@ -17,7 +17,7 @@ ghost use Rattle.tsc_cache.specs.Batch.{all_fit, is_any_kept, AddsAll, AddsSome}
 ghost use Rattle.tsc_cache.specs.AnswersAdd.{AnswersAdd, AnswersAddNamed};
 
 use crate::mark::is_any_kept;
-use crate::named_span::{cost_of, named_span, same_key};
+use crate::named_span::{cost_of, named_span};
 use crate::page_stack::{PageStack, Pages};
 use crate::{AddBetweenFault, Added, CacheFault, Config, Figures, Mark, TimestampCache};
 use std::alloc::Global;
@@ -89,7 +89,8 @@ impl TimestampCache for Cache {
         value: Value,
         now: Timestamp,
     ) -> Result<Added, NoMemory> {
-        if !self.keeps(span, value) {
+        let is_kept = !span.is_empty() && self.floor < value.time();
+        if !is_kept {
             return Ok(Added::nothing());
         }
         let span = span.for_add();
@@ -171,7 +172,7 @@ impl Cache {
         ensures { AnswersAdd self.old self.new (record { span = point key.now; value = value }) now
             result }
     {
-        self.add_span(&AddSpan::point(same_key(key)), value, now)
+        self.add_span(&AddSpan::point(key.reborrow()), value, now)
     }
 
     /// As [`add`](TimestampCache::add), of the keys from a start to an end that lie elsewhere.

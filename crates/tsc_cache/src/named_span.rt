@@ -27,18 +27,6 @@ pub(crate) fn named_span<'a>(
     AddSpan::range(from, to, ends)
 }
 
-/// The key once more, over the same bytes.
-pub(crate) fn same_key<'a>(key: &KeyRef<'a>) -> KeyRef<'a>
-    ensures { result ≡ key.now }
-{
-    // The proof takes from what the key costs that it isn't too long.
-    let _cost = key.cost();
-    match KeyRef::new(key.bytes()) {
-        Ok(key) => key,
-        Err(_) => unreachable!(),
-    }
-}
-
 /// What a span costs on a page that has none of its keys, as [`cost`](tsc_span::Span::cost) says.
 pub(crate) fn cost_of(span: &AddSpan<'_>) -> u32
     ensures { result ≡ span_cost span.now }

@@ -62,23 +62,6 @@ module _ (size : ℕ) (t u : Time) (old new : TreeView) (a : InsertionView)
       (added_covers old.nodes inserts.adds.mid a.from a.to inserts.order a.value inserts.adds.split
       old.sizes new.sizes size t u covers is)
 
--- a page that takes over the top and the tree of one that was made of it has that one's size
-pub same_size : (n m : ℕ) (t u : Time) (old new : TreeView) (before made : PageView)
-    (s : SpanView) (v : ValueView) → page_of n t old.nodes old.sizes ≡ before →
-    page_of m u new.nodes new.sizes ≡ made → AddsMark before made s v → m ≡ n
-same_size n m t u old new before made s v before_is made_is adds =
-    ap (λ (w : PageView). w.size) made_is ∙ adds.size ∙ sym (ap (λ (w : PageView). w.size) before_is)
-
--- so it is then as that one
-pub taken_over : (n m : ℕ) (t u : Time) (old new : TreeView) (before made : PageView)
-    (s : SpanView) (v : ValueView) → page_of n t old.nodes old.sizes ≡ before →
-    page_of m u new.nodes new.sizes ≡ made → AddsMark before made s v →
-    AddsMark before (page_of n u new.nodes new.sizes) s v
-taken_over n m t u old new before made s v before_is made_is adds =
-    subst (λ (k : ℕ). AddsMark before (page_of k u new.nodes new.sizes) s v)
-    (same_size n m t u old new before made s v before_is made_is adds)
-    (subst (λ (w : PageView). AddsMark before w s v) (sym made_is) adds)
-
 -- what a call tells that may leave the page as it is, by its answer
 pub was_marked : (E : Type 0) (d : Bool) (old new : PageView) (s : SpanView) (v : ValueView) →
     d ≡ true → IsMarkTried {E = E} old new s v (Ok d) → AddsMark old new s v
@@ -89,15 +72,3 @@ pub was_unmarked : (E : Type 0) (d : Bool) (old new : PageView) (s : SpanView) (
     d ≡ false → IsMarkTried {E = E} old new s v (Ok d) → new ≡ old
 was_unmarked E d old new s v is reported =
     subst (λ (b : Bool). IsMarkTried {E = E} old new s v (Ok b)) is reported
-
--- what one tells that makes another page
-pub was_made_beside : (E : Type 0) (d : Option PageView) (old new : PageView) (s : SpanView)
-    (v : ValueView) → d ≡ Some new → IsMarkedReported {E = E} old s v (Ok d) → AddsMark old new s v
-was_made_beside E d old new s v is reported =
-    subst (λ (o : Option PageView). IsMarkedReported {E = E} old s v (Ok o)) is reported
-
-pub was_full_beside : (E : Type 0) (d : Option PageView) (old : PageView) (s : SpanView)
-    (v : ValueView) → d ≡ None → IsMarkedReported {E = E} old s v (Ok d) →
-    has_room_for old s ≡ false
-was_full_beside E d old s v is reported =
-    subst (λ (o : Option PageView). IsMarkedReported {E = E} old s v (Ok o)) is reported

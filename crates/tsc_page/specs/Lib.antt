@@ -6,5 +6,5 @@ pub use Rattle.tsc_page_model.specs.Limits
 pub use Rattle.tsc_page_model.specs.Page
 pub use Rattle.tsc_page_model.specs.PageView
 pub use Rattle.tsc_page_nodes.specs.Nodes
-pub use Rattle.tsc_page_nodes.specs.Prefixes
+pub use Rattle.tsc_span.specs.Prefixes
 pub use Rattle.tsc_page_model.specs.KeysAbove

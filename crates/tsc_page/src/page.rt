@@ -16,7 +16,7 @@ use std::marker::Model;
 use tsc_page_model::IntervalPage;
 use tsc_page_nodes::KeyInsertion;
 use tsc_page_tree::{Insertion, Tree};
-use tsc_span::{AddSpan, Cut, Key, KeyRef, Span, SpanRef};
+use tsc_span::{AddShape, AddSpan, Cut, Key, KeyRef, Span, SpanRef};
 use tsc_time::{NoMemory, Timestamp, Value};
 
 /// One page of the cache: what was added to it, as sorted nodes.
@@ -165,14 +165,15 @@ impl Page {
         if self.add_in_place(span, value)? {
             return Ok(true);
         }
-        match self.added_span(span, value)? {
-            Some(page) => {
-                self.top = page.top;
-                self.tree = page.tree;
-                Ok(true)
-            }
-            None => Ok(false),
-        }
+        let Some(add) = Insertion::new(span, value) else {
+            unreachable!()
+        };
+        let Some(tree) = self.tree.inserted(&add, self.size)? else {
+            return Ok(false);
+        };
+        self.top = self.top.max(value.time());
+        self.tree = tree;
+        Ok(true)
     }
 
     /// Adds a span with its value in place, where its way in the tree allows that and there is
@@ -181,7 +182,7 @@ impl Page {
         requires not_empty { is_empty_span span.now ≡ false }
         ensures tried { IsMarkTried self.old self.new span.now value result }
     {
-        if let Some(key) = span.key() {
+        if let AddShape::Point(key) = &span.shape {
             return self.add_key(key, value);
         }
         let Some(add) = Insertion::new(span, value) else {
@@ -222,10 +223,8 @@ impl Page {
     fn add_key(&mut self, key: &KeyRef<'_>, value: Value) -> Result<bool, NoMemory>
         ensures tried { IsMarkTried self.old self.new (point key.now) value result }
     {
-        if !self
-            .tree
-            .add_key(&KeyInsertion::new(key, value), self.size)?
-        {
+        let add = KeyInsertion { key, value };
+        if !self.tree.add_key(&add, self.size)? {
             return Ok(false);
         }
         self.top = self.top.max(value.time());

@@ -9,10 +9,10 @@
 
 mod interval_page;
 pub mod laws;
-mod plain;
+mod plain_page;
 
 pub use interval_page::IntervalPage;
-pub use plain::PlainPage;
+pub use plain_page::PlainPage;
 
 /// How many bytes a page may have at the least.
 pub const LEAST_SIZE: u32 = 64;

@@ -1,5 +1,3 @@
-pub mod Prefixes
-pub mod PrefixExamples
 pub mod Answers
 pub mod Splits
 pub mod Raises

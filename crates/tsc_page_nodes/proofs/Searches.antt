@@ -13,7 +13,7 @@ use Rattle.std.proofs.lemmas.Slice.Eq.{bytes_eq-Decides}
 use Rattle.std.proofs.Math.Bool.{or-true}
 use Rattle.tsc_span.specs.Span.{KeyBytes, key_cmp, Cut, before, after, last}
 use Rattle.tsc_page_model.specs.PageView.{is_in}
-use Rattle.tsc_page_nodes.specs.Prefixes.{IsKeyAt}
+use Rattle.tsc_span.specs.Prefixes.{IsKeyAt}
 use Rattle.tsc_page_nodes.specs.Nodes.{Node, node_keys, IsSorted, FitsAt, HasKeysBelow, StandsAt, FallsAt, IsCutAt, IsFoundAt, IsNewKey}
 use Rattle.tsc_span.proofs.CutOrder.{Lt, Le, Le-from_Lt, after-before, below_last}
 use Rattle.tsc_page_nodes.proofs.Cuts.{lowest}

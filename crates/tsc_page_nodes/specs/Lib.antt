@@ -1,6 +1,4 @@
 pub mod Nodes
-pub mod Prefixes
-pub mod Words
 pub mod KeyAdds
 pub mod Insertions
 pub use Rattle.tsc_time.specs.Time

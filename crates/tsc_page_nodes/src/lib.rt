@@ -3,9 +3,7 @@
 //! A node is an end key of a span that was added to a page. It has the value that holds at its key,
 //! and the value that holds in the open gap between its key and that of the next node. [`Nodes`]
 //! keeps nodes in the order of their keys: it makes nodes of keys, ratchets a value into the keys
-//! and gaps between two cuts, and joins the values of those that lie there. A [`PrefixedCut`] is a
-//! cut beside the prefix that the first bytes of its key make, so that most keys are compared by
-//! prefixes.
+//! and gaps between two cuts, and joins the values of those that lie there.
 //!
 //! The crate restates what a `sklPage` does with the nodes of its skiplist, in CockroachDB's
 //! `pkg/kv/kvserver/tscache/interval_skl.go`. There `addNode` makes a node, with the value of the
@@ -17,10 +15,6 @@
 mod insertion;
 pub mod memory;
 mod nodes;
-mod prefix;
-mod prefix_search;
 
-pub use insertion::{KeyInsertion, PrefixedInsertion, SearchKey};
+pub use insertion::{KeyInsertion, PrefixedInsertion};
 pub use nodes::{Growth, Nodes};
-pub use prefix::{KeyPrefix, PrefixedCut, PrefixedKey};
-pub use prefix_search::{Prefixed, lesser_prefixes};

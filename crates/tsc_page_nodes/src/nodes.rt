@@ -5,7 +5,7 @@ ghost use Rattle.std.specs.Arc.{arc_value};
 ghost use Rattle.tsc_time.specs.Time.{zero_time};
 ghost use Rattle.tsc_time.specs.ValueView.{unowned};
 ghost use Rattle.tsc_span.specs.Span.{is_below, between, point};
-ghost use Rattle.tsc_page_nodes.specs.Prefixes.{IsCutPrefix};
+ghost use Rattle.tsc_span.specs.Prefixes.{IsCutPrefix};
 ghost use Rattle.tsc_page_nodes.specs.KeyAdds.{IsKeyReported};
 ghost use Rattle.tsc_page_nodes.specs.Insertions.{IsReported, IsBothReported};
 ghost use Rattle.tsc_page_model.specs.KeysAbove.{first_above};
@@ -15,17 +15,16 @@ mod changes;
 mod lists;
 mod new_keys;
 
-use crate::insertion::{KeyInsertion, PrefixedInsertion, SearchKey};
+use crate::insertion::{KeyInsertion, PrefixedInsertion};
 use crate::memory::{list_memory, shared_memory};
 use crate::nodes::changes::{insert, insert_between, own_keys, raise_values, reserve, split};
 use crate::nodes::lists::Lists;
 use crate::nodes::new_keys::{NewKeys, moved};
-use crate::prefix::{KeyPrefix, PrefixedBytes, PrefixedCut, PrefixedKey};
 use std::alloc::{AllocError, Global};
 use std::marker::Model;
 use std::mem::size_of;
 use std::sync::Arc;
-use tsc_span::{Key, KeyRef};
+use tsc_span::{Key, KeyPrefix, KeyRef, PrefixedCut, PrefixedKey, SearchKey};
 use tsc_time::{NoMemory, Timestamp, Value};
 
 /// How many nodes of a leaf that is cut stay in it.
@@ -149,7 +148,7 @@ impl Nodes {
     pub fn find(&self, key: &KeyRef<'_>) -> Result<usize, usize>
         ensures { IsFoundAt self.now key.now result }
     {
-        self.lists().find(&PrefixedBytes::new(key.bytes()))
+        self.lists().find(key.search())
     }
 
     /// The least key above a cut. It costs a search, and takes no memory.
@@ -185,7 +184,7 @@ impl Nodes {
         ensures { result ≡ answer_of self.now (point key.now) }
     {
         let mut best = Value::unowned(Timestamp::ZERO);
-        match self.lists().find(key.bytes()) {
+        match self.lists().find(key) {
             Ok(index) => {
                 best.raise(&self.values[index].value);
                 best
@@ -370,9 +369,9 @@ impl Nodes {
     ) -> Result<Option<Growth>, NoMemory>
         ensures reported { IsKeyReported self.old self.new add.now room result }
     {
-        match self.lists().find(add.search().bytes()) {
+        match self.lists().find(add.search()) {
             Ok(index) => {
-                self.values[index].value.raise(&add.value());
+                self.values[index].value.raise(&add.value);
                 Ok(Some(Growth { nodes: 0, bytes: 0 }))
             }
             Err(index) => self.insert_key(index, add, room),

@@ -8,7 +8,7 @@ use Rattle.tsc_span.specs.Span.{KeyBytes, Cut, before, after, is_below}
 use Rattle.tsc_page_model.specs.PageView.{is_in}
 use Rattle.tsc_page_nodes.specs.declared.nodes.Growth.{Growth}
 use Rattle.tsc_page_nodes.specs.Nodes.{Node, node_keys, IsSorted, IsNewKey, GrowsBy, with_new}
-use Rattle.tsc_page_nodes.specs.Prefixes.{IsCutPrefix}
+use Rattle.tsc_span.specs.Prefixes.{IsCutPrefix}
 use Rattle.tsc_page_nodes.specs.Insertions.{InsertionView, LiesAt}
 use Rattle.tsc_page_tree.specs.Leaves.{start_of}
 use Rattle.tsc_page_tree.specs.Lazy.{everything, with_lazy, all_joint, IsReportedOf}

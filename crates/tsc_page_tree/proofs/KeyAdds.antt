@@ -11,7 +11,7 @@ use Rattle.tsc_time.specs.ValueView.{ValueView, unowned}
 use Rattle.tsc_time.specs.Joint.{joint}
 use Rattle.tsc_span.specs.Span.{KeyBytes, Cut, before, after, last, point, is_below}
 use Rattle.tsc_page_nodes.proofs.Cuts.{raise_nodes-start}
-use Rattle.tsc_page_nodes.specs.Prefixes.{IsCutPrefix}
+use Rattle.tsc_span.specs.Prefixes.{IsCutPrefix}
 use Rattle.tsc_page_nodes.specs.declared.nodes.Growth.{Growth}
 use Rattle.tsc_page_nodes.specs.Nodes.{Node, IsSorted, FitsAt, IsNewKey, AddsNodes, with_new, node_in_gap, gap_value, raise_nodes, nodes_cost}
 use Rattle.tsc_page_nodes.specs.KeyAdds.{KeyInsertionView, IsKeyReported}

@@ -6,7 +6,7 @@ use Rattle.std.specs.Prelude.{Option, Some, None, is_some, Result, Ok, Err, Vec}
 use Rattle.tsc_time.specs.ValueView.{ValueView}
 use Rattle.tsc_time.specs.Joint.{joint}
 use Rattle.tsc_span.specs.Span.{KeyBytes, is_below}
-use Rattle.tsc_page_nodes.specs.Prefixes.{IsCutPrefix}
+use Rattle.tsc_span.specs.Prefixes.{IsCutPrefix}
 use Rattle.tsc_page_nodes.specs.declared.nodes.Growth.{Growth}
 use Rattle.tsc_page_nodes.specs.Nodes.{Node, IsSorted, IsInOrder}
 use Rattle.tsc_page_nodes.specs.Insertions.{InsertionView}

@@ -6,7 +6,7 @@ use Rattle.tsc_time.specs.ValueView.{ValueView}
 use Rattle.tsc_time.specs.Joint.{joint}
 use Rattle.tsc_span.specs.Span.{KeyBytes, Cut, before, last, between, is_below}
 use Rattle.tsc_page_nodes.specs.Nodes.{Node, IsSorted, raise_nodes}
-use Rattle.tsc_page_nodes.specs.Prefixes.{IsCutPrefix}
+use Rattle.tsc_span.specs.Prefixes.{IsCutPrefix}
 use Rattle.tsc_page_nodes.specs.Insertions.{InsertionView}
 use Rattle.tsc_page_tree.specs.Leaves.{nodes_of, start_of, AreSome}
 use Rattle.tsc_page_tree.specs.Lazy.{with_lazy, all_joint, IsReportedOf}

@@ -4,7 +4,7 @@ use Rattle.tsc_time.specs.ValueView.{ValueView}
 use Rattle.tsc_time.specs.Joint.{joint}
 use Rattle.tsc_span.specs.Span.{before, last, SpanView, between}
 use Rattle.tsc_page_model.specs.PageView.{AreLeafSizes}
-use Rattle.tsc_page_nodes.specs.Prefixes.{IsCutPrefix}
+use Rattle.tsc_span.specs.Prefixes.{IsCutPrefix}
 use Rattle.tsc_page_nodes.specs.Nodes.{Node, AddsNodes, GrowsBy, answer_of, raise_nodes}
 use Rattle.tsc_page_nodes.specs.declared.nodes.Growth.{Growth}
 use Rattle.tsc_page_nodes.specs.Insertions.{InsertionView}

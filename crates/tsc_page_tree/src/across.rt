@@ -9,7 +9,8 @@ ghost use Rattle.tsc_page_tree.specs.Across.{IsAcrossReported, IsLastReached, Is
 
 use crate::subtrees::indices::{stops_at_next, subtree_at};
 use crate::subtrees::{Subtree, raise_all};
-use tsc_page_nodes::{Growth, PrefixedCut, PrefixedInsertion};
+use tsc_page_nodes::{Growth, PrefixedInsertion};
+use tsc_span::PrefixedCut;
 
 /// The last subtree that a span reaches which stops at a cut, or the first one.
 fn last_reached<P: Subtree>(subtrees: &[P], to: &PrefixedCut<'_>) -> usize

@@ -4,7 +4,8 @@ ghost use Rattle.std.specs.Prelude.{◌≡◌, ◌∷◌, [], Some, if◌then◌
 ghost use Rattle.tsc_time.specs.Joint.{joint};
 ghost use Rattle.tsc_page_tree.specs.Lazy.{merged, seen_with, joint_after};
 
-use tsc_page_nodes::{Growth, KeyPrefix};
+use tsc_page_nodes::Growth;
+use tsc_span::KeyPrefix;
 use tsc_time::{NoMemory, Value, ratchet};
 
 /// What is known of all nodes below a subtree of the tree, so that they need not be looked into.

@@ -15,10 +15,8 @@ use std::alloc::{AllocError, Global};
 use std::mem::size_of;
 use std::sync::Arc;
 use tsc_page_nodes::memory::shared_memory;
-use tsc_page_nodes::{
-    Growth, KeyInsertion, KeyPrefix, Prefixed, PrefixedCut, PrefixedInsertion, SearchKey,
-};
-use tsc_span::{Cut, Key, KeyRef};
+use tsc_page_nodes::{Growth, KeyInsertion, PrefixedInsertion};
+use tsc_span::{Cut, Key, KeyPrefix, KeyRef, Prefixed, PrefixedCut, SearchKey};
 use tsc_time::{NoMemory, Value};
 
 /// How many subtrees a branch has at the most.
@@ -212,7 +210,7 @@ impl<P: Subtree> Subtree for Branch<P> {
         let subtrees = Arc::make_mut(&mut self.subtrees)?;
         let made = subtrees::add_key(subtrees, add, room);
         let start = self.aggregate.start;
-        self.aggregate.update(&made, start, true, add.value());
+        self.aggregate.update(&made, start, true, add.value);
         made
     }
 

@@ -14,10 +14,8 @@ use std::alloc::{AllocError, Global};
 use std::mem::size_of;
 use std::sync::Arc;
 use tsc_page_nodes::memory::shared_memory;
-use tsc_page_nodes::{
-    Growth, KeyInsertion, KeyPrefix, Nodes, Prefixed, PrefixedCut, PrefixedInsertion, SearchKey,
-};
-use tsc_span::{Cut, Key, KeyRef};
+use tsc_page_nodes::{Growth, KeyInsertion, Nodes, PrefixedInsertion};
+use tsc_span::{Cut, Key, KeyPrefix, KeyRef, Prefixed, PrefixedCut, SearchKey};
 use tsc_time::{NoMemory, Value};
 
 /// How many nodes a leaf has at the most.
@@ -177,7 +175,7 @@ impl Subtree for Leaf {
         };
         let made = nodes.add_key(add, room);
         let start = self.aggregate.start;
-        self.aggregate.update(&made, start, true, add.value());
+        self.aggregate.update(&made, start, true, add.value);
         made
     }
 

@@ -14,11 +14,11 @@
 mod across;
 mod aggregate;
 mod branch;
-mod insertion;
 mod leaf;
 mod root;
+mod span_insertion;
 mod subtrees;
 mod tree;
 
-pub use insertion::Insertion;
+pub use span_insertion::Insertion;
 pub use tree::Tree;

@@ -16,12 +16,12 @@ ghost use Rattle.tsc_page_tree.specs.Trees.{leaf_nodes, leaf_sizes, IsWholeLeaf,
 ghost use Rattle.tsc_page_tree.specs.Roots.{root_nodes, root_sizes, IsWholeRoot, IsOrderedRoot, AreEnds};
 
 use crate::branch::{self, Branch, Siblings};
-use crate::insertion::Insertion;
 use crate::leaf::Leaf;
+use crate::span_insertion::Insertion;
 use crate::subtrees;
 use std::alloc::Global;
-use tsc_page_nodes::{Growth, KeyInsertion, Nodes, PrefixedCut, PrefixedInsertion, SearchKey};
-use tsc_span::{Cut, Key, KeyRef};
+use tsc_page_nodes::{Growth, KeyInsertion, Nodes, PrefixedInsertion};
+use tsc_span::{Cut, Key, KeyRef, PrefixedCut, SearchKey};
 use tsc_time::{NoMemory, Value};
 
 /// The top of a tree: a list of subtrees, which are as high as it takes to have 64 of them at the

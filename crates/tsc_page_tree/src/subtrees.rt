@@ -4,7 +4,7 @@ ghost use Rattle.std.specs.List.{All};
 ghost use Rattle.tsc_time.specs.Joint.{joint};
 ghost use Rattle.tsc_span.specs.Span.{is_below, between, point};
 ghost use Rattle.tsc_span.specs.Cuts.{cut_of};
-ghost use Rattle.tsc_page_nodes.specs.Prefixes.{IsCutPrefix};
+ghost use Rattle.tsc_span.specs.Prefixes.{IsCutPrefix};
 ghost use Rattle.tsc_page_model.specs.PageView.{is_in};
 ghost use Rattle.tsc_page_model.specs.KeysAbove.{first_above};
 ghost use Rattle.tsc_page_nodes.specs.Nodes.{Node, node_keys, answer_of, raise_nodes};
@@ -25,10 +25,8 @@ pub use crate::subtrees::joints::join_between;
 use crate::subtrees::joints::leaves_out;
 use std::alloc::Global;
 use tsc_page_nodes::memory::list_memory;
-use tsc_page_nodes::{
-    Growth, KeyInsertion, KeyPrefix, Prefixed, PrefixedCut, PrefixedInsertion, SearchKey,
-};
-use tsc_span::{Cut, Key, KeyRef};
+use tsc_page_nodes::{Growth, KeyInsertion, PrefixedInsertion};
+use tsc_span::{Cut, Key, KeyPrefix, KeyRef, Prefixed, PrefixedCut, SearchKey};
 use tsc_time::{NoMemory, Timestamp, Value};
 
 /// Nodes that stand in a list with others of their kind, one after another.
@@ -187,8 +185,7 @@ pub fn is_new<P: Subtree>(subtrees: &[P], key: &KeyRef<'_>) -> bool
     requires subtrees { AreSubtrees P.nodes P.IsWhole subtrees.now }
     ensures { result ≡ not (is_in key.now (node_keys (nodes_of (map P.nodes subtrees.now)))) }
 {
-    let cut = PrefixedCut::new(Cut::Before(key.bytes()));
-    match subtrees.get(subtree_at(subtrees, &cut)) {
+    match subtrees.get(subtree_at(subtrees, key.search().at())) {
         Some(subtree) => subtree.is_new(key),
         None => true,
     }
@@ -327,8 +324,7 @@ pub fn make_node<P: Subtree>(
     ensures few { OnOk result ((length subtrees.old.items ≤ length subtrees.new.items) ×
         (length subtrees.new.items ≤ length subtrees.old.items + 1)) }
 {
-    let cut = PrefixedCut::new(Cut::Before(key.bytes()));
-    let index = subtree_at(subtrees, &cut);
+    let index = subtree_at(subtrees, key.search().at());
     if let Some(upper) = subtrees[index].make_node(alloc, key)? {
         subtrees.insert(index + 1, upper)?;
     }

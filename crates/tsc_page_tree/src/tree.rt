@@ -10,13 +10,13 @@ ghost use Rattle.tsc_page_nodes.specs.Nodes.{IsSplitAt, GrowsBy, node_keys, answ
 ghost use Rattle.tsc_page_tree.specs.KeyAdds.{at_key};
 ghost use Rattle.tsc_page_tree.specs.Roots.{root_nodes, IsWholeRoot, IsOrderedRoot, IsKnown, IsTryReported, IsInsertedReported};
 
-use crate::insertion::Insertion;
 use crate::root::Root;
+use crate::span_insertion::Insertion;
 use std::alloc::Global;
 use std::marker::Model;
 use tsc_page_nodes::memory::keys_memory;
-use tsc_page_nodes::{Growth, KeyInsertion, PrefixedCut, SearchKey};
-use tsc_span::{Cut, Key, KeyRef};
+use tsc_page_nodes::{Growth, KeyInsertion};
+use tsc_span::{Cut, Key, KeyRef, PrefixedCut, SearchKey};
 use tsc_time::{NoMemory, Value};
 
 /// The nodes of a page in leaves that are all equally deep below a root, with how many there are

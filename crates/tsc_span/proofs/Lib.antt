@@ -5,3 +5,5 @@ pub mod Overlaps
 pub mod AllKeys
 pub mod MadeSpans
 pub mod CutOrder
+pub mod Prefixes
+pub mod PrefixExamples

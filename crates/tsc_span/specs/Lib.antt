@@ -11,3 +11,5 @@ pub mod Shape
 pub mod Form
 pub mod AddShape
 pub mod Laws
+pub mod Prefixes
+pub mod PrefixWords

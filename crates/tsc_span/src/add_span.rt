@@ -6,7 +6,7 @@ ghost use Rattle.tsc_span.specs.Span.{nothing, between, point, range, onward, st
 ghost use Rattle.tsc_span.specs.Cuts.{cut_of, span_of_cuts};
 
 use crate::span_ref::{end_cut, start_cut};
-use crate::{Cut, Ends, KeyRef, SpanFault};
+use crate::{Cut, Ends, Key, KeyRef, SpanFault};
 use std::cmp::Ordering;
 use std::marker::Model;
 
@@ -14,14 +14,20 @@ use std::marker::Model;
 /// memory, and copies no key.
 #[derive(Debug, Drop)]
 pub struct AddSpan<'a> {
-    shape: AddShape<'a>,
+    /// What kind of span it is.
+    pub shape: AddShape<'a>,
 }
 
+/// The kinds of spans for Adds.
 #[derive(Debug, Drop)]
-enum AddShape<'a> {
+pub enum AddShape<'a> {
+    /// No key.
     Nothing,
+    /// A single key.
     Point(KeyRef<'a>),
+    /// The keys from one to another, of which the first is the smaller.
     Range(KeyRef<'a>, KeyRef<'a>, Ends),
+    /// All keys from one on, that key itself among them unless it is excluded.
     Onward(KeyRef<'a>, bool),
 }
 
@@ -84,13 +90,13 @@ impl<'a> AddSpan<'a> {
     }
 
     /// The keys from one to another, of which the first is the smaller.
-    pub(crate) fn in_order(from: KeyRef<'a>, to: KeyRef<'a>, ends: Ends) -> AddSpan<'a>
-        requires { is_lt (key_cmp from to) ≡ true }
-        ensures { result ≡ between (start_cut from.entry ends.exclude_from)
-            (end_cut to.entry ends.exclude_to) }
+    pub(crate) fn in_order(from: &'a Key, to: &'a Key, ends: Ends) -> AddSpan<'a>
+        requires { is_lt (key_cmp from.now to.now) ≡ true }
+        ensures { result ≡ between (start_cut from.now ends.exclude_from)
+            (end_cut to.now ends.exclude_to) }
     {
         AddSpan {
-            shape: AddShape::Range(from, to, ends),
+            shape: AddShape::Range(from.borrowed(), to.borrowed(), ends),
         }
     }
 
@@ -131,17 +137,6 @@ impl<'a> AddSpan<'a> {
             AddShape::Nothing => (None, None),
             AddShape::Point(key) | AddShape::Onward(key, _) => (Some(key), None),
             AddShape::Range(from, to, _) => (Some(from), Some(to)),
-        }
-    }
-
-    /// The key of a span that was made as a [single one](AddSpan::point), or as a
-    /// [range](AddSpan::range) from a key to itself.
-    pub fn key(&self) -> Option<&KeyRef<'a>>
-        ensures { IfSome result (λ key. self.now ≡ point key.now) }
-    {
-        match &self.shape {
-            AddShape::Point(key) => Some(key),
-            _ => None,
         }
     }
 }

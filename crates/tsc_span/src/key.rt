@@ -6,10 +6,10 @@ ghost use Rattle.std.specs.Cmp.{partial_equiv_from_equiv};
 ghost use Rattle.std.specs.Cmp.Lexicographic.{nat_list_eq_equiv, nat_list_cmp_total, texts_ties, texts_po};
 ghost use Rattle.tsc_span.specs.Limits.{longest_key};
 ghost use Rattle.tsc_span.specs.Span.{key_cmp, key_cost, fits_key};
-ghost use Rattle.tsc_span.specs.Spelled.{spelled};
 ghost use Rattle.tsc_span.specs.MadeKey.{made_key};
 
 use crate::SpanFault;
+use crate::prefix::{WORD_BYTES, word_at};
 use std::alloc::Global;
 use std::cmp::Ordering;
 use std::marker::Model;
@@ -20,9 +20,6 @@ pub const LONGEST_KEY: usize = 4096;
 
 /// What a node of a page costs beside the bytes of its key.
 pub(crate) const NODE_COST: u32 = 32;
-
-/// How many bytes of two keys are compared at once.
-const WORD_BYTES: usize = 8;
 
 /// A key: a text of bytes, 4096 of them at the most. The empty key comes first.
 ///
@@ -179,21 +176,10 @@ fn compare(bytes: &[u8], other: &[u8]) -> Ordering
     if bytes.len() < WORD_BYTES || other.len() < WORD_BYTES {
         return bytes.cmp(other);
     }
-    let word = first_word(bytes);
-    let other_word = first_word(other);
+    let word = word_at(bytes, 0);
+    let other_word = word_at(other, 0);
     if word != other_word {
         return word.cmp(&other_word);
     }
     bytes[WORD_BYTES..].cmp(&other[WORD_BYTES..])
-}
-
-/// The number that the first eight bytes spell.
-#[inline]
-fn first_word(bytes: &[u8]) -> u64
-    requires { 8 ≤ length bytes.now }
-    ensures { result ≡ spelled 8 0 bytes.now }
-{
-    let mut word = [0; WORD_BYTES];
-    word.copy_from_slice(&bytes[..WORD_BYTES]);
-    u64::from_be_bytes(word)
 }

@@ -173,9 +173,7 @@ impl Span {
         match &self.shape {
             Shape::Nothing => AddSpan::nothing(),
             Shape::Point(key) => AddSpan::point(key.borrowed()),
-            Shape::Range(from, to, ends) => {
-                AddSpan::in_order(from.borrowed(), to.borrowed(), *ends)
-            }
+            Shape::Range(from, to, ends) => AddSpan::in_order(from, to, *ends),
             Shape::Onward(from, exclude_from) => AddSpan::onward(from.borrowed(), *exclude_from),
         }
     }

@@ -5,8 +5,7 @@
 //! wrong.
 use std::alloc::Global;
 use std::cmp::Ordering;
-use tsc_page_nodes::{KeyPrefix, Prefixed, PrefixedCut, lesser_prefixes};
-use tsc_span::{Cut, Key};
+use tsc_span::{Cut, Key, KeyPrefix, Prefixed, PrefixedCut, lesser_prefixes};
 use tsc_time::NoMemory;
 
 /// Among how many prefixes [`lesser_prefixes`] searches.

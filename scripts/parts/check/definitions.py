@@ -36,7 +36,7 @@ PRIVATE = {
     "tsc_page_nodes/Insertions": NODES,
     "tsc_page_nodes/KeyAdds": NODES,
     "tsc_page_nodes/Nodes": NODES,
-    "tsc_page_nodes/Prefixes": NODES,
+    "tsc_span/Prefixes": "prefixes, by which a page is searched: what is found is said of keys and cuts",
     "tsc_page_tree/*": "the tree inside a page: its own contract says what the page stands for",
     "tsc_left_right/*": "the two copies inside a shared cache: its contract says what a seat sees",
     "tsc_stripe_table/[!S]*": "the table of stripes: the calls of a striped cache say what a seat sees",

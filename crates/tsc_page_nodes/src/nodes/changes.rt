@@ -10,8 +10,8 @@ use crate::insertion::{KeyInsertion, PrefixedInsertion};
 use crate::nodes::Values;
 use crate::nodes::lists::Lists;
 use crate::nodes::new_keys::NewKeys;
-use crate::prefix::{PrefixedCut, PrefixedKey};
 use std::sync::Arc;
+use tsc_span::{PrefixedCut, PrefixedKey};
 use tsc_time::{NoMemory, Timestamp, Value};
 
 /// Puts a copy in the place of a list of keys that others hold too.
@@ -167,6 +167,6 @@ pub(super) fn insert(
     values.reserve(1)?;
     let copy = add.copy_key(*keys.allocator())?;
     split(keys, values, Some((index, copy)));
-    values[index].value.raise(&add.value());
+    values[index].value.raise(&add.value);
     Ok(())
 }

@@ -6,14 +6,15 @@ ghost use Rattle.tsc_page_model.specs.PageView.{is_new_among};
 ghost use Rattle.tsc_page_nodes.specs.Nodes.{paired, FallsAt, IsFoundAt, IsCutAt, IsIndexReported, HasKeysBelow, StandsAt, index_of, key_above, first_gap, IsNewKey, HoldsKeysOn, HoldsGapsOn, node_keys};
 
 use crate::nodes::Values;
-use crate::prefix::{PrefixedBytes, PrefixedCut, PrefixedKey};
-use crate::prefix_search::{STRIDE, lesser_prefixes};
 use std::alloc::Global;
 use std::cmp::Ordering;
 use std::marker::Model;
 use std::ops::Range;
-use tsc_span::{Cut, KeyRef};
+use tsc_span::{Cut, KeyRef, PrefixedCut, PrefixedKey, SearchKey, lesser_prefixes};
 use tsc_time::NoMemory;
+
+/// How far the keys stand from one another that a search without a hint looks at.
+const STRIDE: usize = 8;
 
 /// Nodes to be read, as the list of their keys and that of their values.
 #[derive(Drop)]
@@ -36,7 +37,7 @@ impl<'a> Model for Lists<'a> {
 impl<'a> Lists<'a> {
     /// Where a key stands, or else the place for it: where a hint tells, or by a search. The search
     /// looks at every eighth key. From the last of these that isn't above, it looks at each key.
-    pub(super) fn find(&self, key: &PrefixedBytes<'_>) -> Result<usize, usize>
+    pub(super) fn find(&self, key: &SearchKey<'_>) -> Result<usize, usize>
         ensures { IsFoundAt self.now key.now result }
     {
         match lesser_prefixes(self.keys, &key.prefix()) {
@@ -47,7 +48,7 @@ impl<'a> Lists<'a> {
     }
 
     /// Whether all keys before a place lie below a key, by a look at the last of them.
-    fn keys_below(&self, index: usize, key: &PrefixedBytes<'_>) -> bool
+    fn keys_below(&self, index: usize, key: &SearchKey<'_>) -> bool
         ensures { IsTrue result → HasKeysBelow self.now key.now index }
     {
         let Some(before) = index.checked_sub(1) else {
@@ -60,7 +61,7 @@ impl<'a> Lists<'a> {
     }
 
     /// Whether all keys from a place on lie above a key, by a look at the first of them.
-    fn keys_above(&self, index: usize, key: &PrefixedBytes<'_>) -> bool
+    fn keys_above(&self, index: usize, key: &SearchKey<'_>) -> bool
         ensures { IsTrue result → HasKeysBelow self.now key.now index →
             FallsAt self.now key.now index }
     {
@@ -72,7 +73,7 @@ impl<'a> Lists<'a> {
 
     /// The last of every eighth place, from the first one on, before which all keys lie below a
     /// key.
-    fn stride_before(&self, key: &PrefixedBytes<'_>) -> usize
+    fn stride_before(&self, key: &SearchKey<'_>) -> usize
         ensures { HasKeysBelow self.now key.now result }
     {
         let mut low = 0;
@@ -87,7 +88,7 @@ impl<'a> Lists<'a> {
     }
 
     /// Finds a key as `find` does, by a look at one key of the list after another from `index` on.
-    fn find_from(&self, index: usize, key: &PrefixedBytes<'_>) -> Result<usize, usize>
+    fn find_from(&self, index: usize, key: &SearchKey<'_>) -> Result<usize, usize>
         requires low { HasKeysBelow self.now key.now index }
         ensures { IsFoundAt self.now key.now result }
     {
@@ -102,7 +103,7 @@ impl<'a> Lists<'a> {
     }
 
     /// Whether a key stands at a place.
-    fn stands_at(&self, index: usize, key: &PrefixedBytes<'_>) -> bool
+    fn stands_at(&self, index: usize, key: &SearchKey<'_>) -> bool
         ensures { IsTrue result ↔ StandsAt self.now key.now index }
     {
         match self.keys.get(index) {
@@ -179,7 +180,7 @@ impl<'a> Lists<'a> {
         let Some(key) = key else {
             return Ok((None, None))
         };
-        match self.find(&PrefixedBytes::new(key.bytes())) {
+        match self.find(key.search()) {
             Ok(index) => Ok((Some(index), None)),
             Err(index) => {
                 let copy = PrefixedKey::copy_of(alloc, key)?;

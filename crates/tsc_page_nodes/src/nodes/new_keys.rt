@@ -3,7 +3,7 @@ ghost use Rattle.std.specs.Prelude.{◌≡◌, ◌<◌, ◌≤◌, Some, None, I
 ghost use Rattle.tsc_page_nodes.specs.Nodes.{new_count, found_cost, new_cost};
 
 use crate::nodes::Growth;
-use crate::prefix::PrefixedKey;
+use tsc_span::PrefixedKey;
 
 /// Copies of up to two keys that have no node, of which the first is the smaller, with the places
 /// for them. And for each key that was asked for, where it stands once both have nodes.

@@ -5,7 +5,7 @@ ghost use Rattle.tsc_span.specs.Span.{is_below};
 ghost use Rattle.tsc_page_tree.specs.Leaves.{IsLeafAt, IsNotAbove, nodes_of, start_of};
 
 use crate::subtrees::Subtree;
-use tsc_page_nodes::{PrefixedCut, lesser_prefixes};
+use tsc_span::{PrefixedCut, lesser_prefixes};
 
 /// How far the subtrees stand from one another that a search looks at first.
 const STRIDE: usize = 8;

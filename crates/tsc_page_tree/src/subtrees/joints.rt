@@ -7,8 +7,7 @@ ghost use Rattle.tsc_page_tree.specs.Leaves.{AreSubtrees, GoesBeyond, IsSubtree,
 
 use crate::subtrees::Subtree;
 use crate::subtrees::indices::{goes_on, subtree_at};
-use tsc_page_nodes::PrefixedCut;
-use tsc_span::Cut;
+use tsc_span::{Cut, PrefixedCut};
 use tsc_time::{Timestamp, Value, ratchet};
 
 /// The joint value of the keys and gaps of subtrees between two cuts, which mostly is that of one

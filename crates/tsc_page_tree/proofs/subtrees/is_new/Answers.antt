@@ -29,8 +29,8 @@ returns-in-Some g c =
     let here : p < length items = omega (arith, c.in-Some.ensures.lookup.3.0) in
     let inside : p < length ls = omega (arith, here, length-map items read) in
     let is = read_leaf read items p c.in-Some.subtree.now here c.in-Some.ensures.lookup.1 in
-    let at = subst (λ (x : Cut). IsLeafAt ls x p) c.new-cut.ensures c.subtree_at.ensures in
-    let at_key = subst (λ (b : KeyBytes). IsLeafAt ls (before b) p) c.bytes.ensures at in
+    let at = subst (λ (x : Cut). IsLeafAt ls x p) c.at.ensures c.subtree_at.ensures in
+    let at_key = subst (λ (b : KeyBytes). IsLeafAt ls (before b) p) c.search.ensures at in
     let around : StandsAround ls p (before k) =
     stands_around ls p (before k)
     (all_some read g.P.Subtree.IsWhole items g.met.P.Subtree.some c.requires.subtrees.whole)

@@ -45,11 +45,11 @@ returns-in_ok-insert-clause-made g c =
       length-map c.deref.result.now read,
       c.requires.some,
     ) in
-    let at = subst (λ (xs : List g.row.P.Denot). IsLeafAt (map read xs) c.new-cut.result p)
+    let at = subst (λ (xs : List g.row.P.Denot). IsLeafAt (map read xs) c.at.result.now p)
     c.deref.ensures.value c.subtree_at-index.ensures in
     let at_key : IsLeafAt (map read items) (before k) p =
-    subst (λ (b : KeyBytes). IsLeafAt (map read items) (before b) p) c.bytes.ensures
-    (subst (λ (x : Cut). IsLeafAt (map read items) x p) c.new-cut.ensures at) in
+    subst (λ (b : KeyBytes). IsLeafAt (map read items) (before b) p) c.search.ensures
+    (subst (λ (x : Cut). IsLeafAt (map read items) x p) c.at.ensures at) in
     let some = all_some read g.P.Subtree.IsWhole items g.met.P.Subtree.some
     c.requires.subtrees.whole in
     let made = subst (λ (x : g.row.P.Denot). HasNode (read x)
@@ -102,11 +102,11 @@ returns-in_default-clause-made g c =
       length-map c.deref.result.now read,
       c.requires.some,
     ) in
-    let at = subst (λ (xs : List g.row.P.Denot). IsLeafAt (map read xs) c.new-cut.result p)
+    let at = subst (λ (xs : List g.row.P.Denot). IsLeafAt (map read xs) c.at.result.now p)
     c.deref.ensures.value c.subtree_at-index.ensures in
     let at_key : IsLeafAt (map read items) (before k) p =
-    subst (λ (b : KeyBytes). IsLeafAt (map read items) (before b) p) c.bytes.ensures
-    (subst (λ (x : Cut). IsLeafAt (map read items) x p) c.new-cut.ensures at) in
+    subst (λ (b : KeyBytes). IsLeafAt (map read items) (before b) p) c.search.ensures
+    (subst (λ (x : Cut). IsLeafAt (map read items) x p) c.at.ensures at) in
     let some = all_some read g.P.Subtree.IsWhole items g.met.P.Subtree.some
     c.requires.subtrees.whole in
     let made = subst (λ (x : g.row.P.Denot). HasNode (read x)

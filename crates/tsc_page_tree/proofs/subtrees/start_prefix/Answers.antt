@@ -1,7 +1,7 @@
 -- Subtrees begin where the first one does.
 use Rattle.std.proofs.Common.{◌∙◌, ◌<◌, sym, ap, subst, List, [], map, length, arith}
 use Rattle.std.proofs.lemmas.List.{length-map}
-use Rattle.tsc_page_nodes.specs.Prefixes.{IsCutPrefix}
+use Rattle.tsc_span.specs.Prefixes.{IsCutPrefix}
 use Rattle.tsc_page_nodes.specs.Nodes.{Node}
 use Rattle.tsc_page_tree.specs.Leaves.{start_of}
 use Rattle.tsc_page_tree.proofs.LeafLists.{read_leaf, start_at, all_some}

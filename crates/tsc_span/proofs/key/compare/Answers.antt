@@ -12,11 +12,11 @@ returns-then-word-other_word c =
     (λ e. omega (
       arith,
       e,
-      c.first_word-word.ensures,
-      c.first_word-other_word.ensures,
+      c.word_at-word.ensures,
+      c.word_at-other_word.ensures,
       c.if-word-other_word.true,
     ))
-    (rw (← c.first_word-word.ensures, ← c.first_word-other_word.ensures)
+    (rw (← c.word_at-word.ensures, ← c.word_at-other_word.ensures)
     c.cmp-then-word-other_word.ensures)
 
 pub returns : goal.returns
@@ -29,7 +29,7 @@ returns c =
     (omega (arith, c.if-bytes-lt-WORD_BYTES.false)) (omega (arith, c.if-other-lt-WORD_BYTES.false))
     (omega (
       arith,
-      c.first_word-word.ensures,
-      c.first_word-other_word.ensures,
+      c.word_at-word.ensures,
+      c.word_at-other_word.ensures,
       c.if-word-other_word.false,
     ))

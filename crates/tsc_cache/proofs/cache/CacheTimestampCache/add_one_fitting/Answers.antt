@@ -1,8 +1,10 @@
 -- What the mark, or the rotation before it, makes of all that can be seen, for the span that lies
 -- elsewhere, which is the same span.
-use Rattle.std.proofs.Common.{rules, ◌≡◌, ◌∙◌, sym, ap, subst, true, false}
-use Rattle.std.specs.Prelude.{IfOk}
-use Rattle.tsc_span.specs.Span.{SpanView}
+use Rattle.std.proofs.Common.{rules, ◌≡◌, ◌∙◌, sym, ap, subst, Bool, true, false}
+use mathlib.Core.Bool.{true≢false}
+use Rattle.std.specs.Prelude.{IfOk, not, ◌&&◌}
+use Rattle.tsc_time.specs.Time.{Time, is_before}
+use Rattle.tsc_span.specs.Span.{SpanView, is_empty_span}
 use Rattle.tsc_page_model.specs.Page.{Mark}
 use Rattle.tsc_cache.specs.Rotation.{RotatesWith}
 use Rattle.tsc_cache.specs.contracts.cache.Cache.{the_view}
@@ -16,6 +18,13 @@ use Rattle.tsc_cache.proofs.AddsSeen.{rotated_seen}
 use Rattle.tsc_cache.proofs.cache.CacheTimestampCache.add_one_fitting.Goals as goal
 use Rattle.tsc_cache.proofs.cache.CacheTimestampCache.add_one_fitting.Goals.{After-without_rotation}
 use Rattle.tsc_cache.proofs.cache.CacheTimestampCache.add_one_fitting.Goals.{After-rotate}
+use Rattle.tsc_cache.proofs.cache.CacheTimestampCache.add_one_fitting.Goals.{then-not-is_empty, else-not-is_empty}
+
+-- a mark that is not empty and lies above the floor is kept
+kept_by : (floor : Time) (m : Mark) (b : Bool) → is_empty_span m.span ≡ false →
+    b ≡ is_before floor m.value.time → b ≡ true → is_kept floor m ≡ true
+kept_by floor m b some above is =
+    ap (λ x. not x && is_before floor m.value.time) some ∙ sym above ∙ is
 
 pub invariant_of-self-then-branch : goal.invariant_of-self-then-branch
 invariant_of-self-then-branch c =
@@ -42,8 +51,14 @@ in_place c =
       pages = c.mark_span.new.self;
       rotations = c.self.inside.rotations;
     }) in
-    let kept : is_kept c.args.self.now.floor m ≡ true = sym c.keeps.ensures ∙
-    c.if-not-keeps.false in
+    let kept : is_kept c.args.self.now.floor m ≡ true = elim c.if-not-is_empty.branch [
+      | then-not-is_empty w ↦ kept_by c.args.self.now.floor m w.lt-is_kept.result
+          (sym w.if-not-is_empty.ensures)
+          (search rules)
+          (sym w.is_kept-is ∙ c.if-not-is_kept.false)
+      | else-not-is_empty w ↦ absurd (true≢false (sym c.if-not-is_kept.false ∙ w.is_kept-is ∙
+          ap not w.if-not-is_empty.false))
+    ] in
     let room : front_has_room_for c.args.self.now.pages c.args.span.now ≡ true =
     ap (front_has_room_for c.args.self.now.pages) (sym c.for_add-span.ensures) ∙
     ap (λ (v : CacheView). front_has_room_for v.pages c.for_add-span.result) (sym c.self.view_is) ∙
@@ -68,9 +83,17 @@ turned : (c : After-rotate) → IfOk c.rotate.result
     (record { span = c.args.span.now; value = c.args.value }) c.args.now a)
 turned c =
     let m : Mark = record { span = c.for_add-span.result; value = c.args.value } in
+    let own : Mark = record { span = c.args.span.now; value = c.args.value } in
     let kept : is_kept c.args.self.now.floor m ≡ true =
     ap (λ (s : SpanView). is_kept c.args.self.now.floor (record { span = s; value = c.args.value }))
-    c.for_add-span.ensures ∙ sym c.keeps.ensures ∙ c.if-not-keeps.false in
+    c.for_add-span.ensures ∙ elim c.if-not-is_empty.branch [
+      | then-not-is_empty w ↦ kept_by c.args.self.now.floor own w.lt-is_kept.result
+          (sym w.if-not-is_empty.ensures)
+          (search rules)
+          (sym w.is_kept-is ∙ c.if-not-is_kept.false)
+      | else-not-is_empty w ↦ absurd (true≢false (sym c.if-not-is_kept.false ∙ w.is_kept-is ∙
+          ap not w.if-not-is_empty.false))
+    ] in
     let room : front_has_room_for c.args.self.now.pages c.for_add-span.result ≡ false =
     ap (λ (v : CacheView). front_has_room_for v.pages c.for_add-span.result) (sym c.self.view_is) ∙
     sym c.in_ok-mark_span.ensures.room ∙ c.if-branch.false in

@@ -23,8 +23,9 @@ invariant_of-self c = subst (λ (t : TreeView). IsKnown t × (t.bytes ≤ c.self
     (sym c.in_err-add_key.ensures.reported) c.self.invariant
 
 pub invariant_of-self-then-not-branch : goal.invariant_of-self-then-not-branch
-invariant_of-self-then-not-branch c = let same =
-    was_not NoMemory _ c.self.inside.tree c.add_key.new.self (at_key c.new.result)
+invariant_of-self-then-not-branch c =
+    let add : KeyInsertionView = record { key = c.args.key.now; value = c.args.value } in
+    let same = was_not NoMemory _ c.self.inside.tree c.add_key.new.self (at_key add)
     c.self.inside.size c.if-not-branch.true c.in_ok-add_key.ensures.reported
     in subst (λ (t : TreeView). IsKnown t × (t.bytes ≤ c.self.inside.size) ×
     (least_size ≤ c.self.inside.size) × (c.self.inside.size ≤ most_size) ×
@@ -33,34 +34,31 @@ invariant_of-self-then-not-branch c = let same =
 
 pub invariant_of-self-2 : goal.invariant_of-self-2
 invariant_of-self-2 c =
-    let inserts = was_tried NoMemory _ c.self.inside.tree c.add_key.new.self (at_key c.new.result)
+    let add : KeyInsertionView = record { key = c.args.key.now; value = c.args.value } in
+    let inserts = was_tried NoMemory _ c.self.inside.tree c.add_key.new.self (at_key add)
     c.self.inside.size c.if-not-branch.false c.in_ok-add_key.ensures.reported in
     let is = c.max-self-inside.ensures ∙ ap (ord_max time_cmp c.self.inside.top) c.time.ensures ∙
-    later-max c.self.inside.top c.args.value.time ∙
-    ap (λ (d : KeyInsertionView). later c.self.inside.top d.value.time) (sym c.new.ensures) in (
+    later-max c.self.inside.top c.args.value.time in (
       inserts.known,
       inserts.within,
       c.self.invariant.2,
       c.self.invariant.3,
       page_covers c.self.inside.size c.self.inside.top c.max-self-inside.result c.self.inside.tree
-          c.add_key.new.self (at_key c.new.result) inserts is c.self.invariant.4,
+          c.add_key.new.self (at_key add) inserts is c.self.invariant.4,
     )
 
 pub returns : goal.returns
 returns c =
-    let inserts = was_tried NoMemory _ c.self.inside.tree c.add_key.new.self (at_key c.new.result)
+    let add : KeyInsertionView = record { key = c.args.key.now; value = c.args.value } in
+    let inserts = was_tried NoMemory _ c.self.inside.tree c.add_key.new.self (at_key add)
     c.self.inside.size c.if-not-branch.false c.in_ok-add_key.ensures.reported in
     let is = c.max-self-inside.ensures ∙ ap (ord_max time_cmp c.self.inside.top) c.time.ensures ∙
-    later-max c.self.inside.top c.args.value.time ∙
-    ap (λ (d : KeyInsertionView). later c.self.inside.top d.value.time) (sym c.new.ensures) in
+    later-max c.self.inside.top c.args.value.time in
     let adds = page_adds c.self.inside.size c.self.inside.top c.max-self-inside.result
-    c.self.inside.tree c.add_key.new.self (at_key c.new.result) inserts is in
+    c.self.inside.tree c.add_key.new.self (at_key add) inserts is in
     let new : PageView = page_of c.self.inside.size c.max-self-inside.result
     c.add_key.new.self.nodes c.add_key.new.self.sizes in
     record {
       tried = subst (λ (v : PageView). AddsMark v new (point c.args.key.now) c.args.value)
-          c.self.view_is
-          (subst (λ (d : KeyInsertionView). AddsMark
-          ((λ (t : TreeView). page_of c.self.inside.size c.self.inside.top t.nodes t.sizes)
-          c.self.inside.tree) new (point d.key) d.value) c.new.ensures adds);
+          c.self.view_is adds;
     }

@@ -5,6 +5,7 @@ use Rattle.tsc_time.specs.ValueView.{ValueView}
 use Rattle.tsc_time.specs.Joint.{joint}
 use Rattle.tsc_span.specs.Span.{KeyBytes, point}
 use Rattle.tsc_page_nodes.specs.declared.nodes.Values.{Values}
+use Rattle.tsc_page_nodes.specs.KeyAdds.{KeyInsertionView}
 use Rattle.tsc_page_nodes.specs.Nodes.{Node, paired, IsSorted, StandsAt, raise_nodes}
 use Rattle.tsc_page_nodes.proofs.Apart.{paired-length}
 use Rattle.tsc_page_nodes.proofs.RaisedNodes.{with_both}
@@ -35,8 +36,8 @@ returns-in-Ok c =
     let ks : List KeyBytes = (arc_value c.self.inside.keys).items in
     let vs : List Values = c.self.inside.values.items in
     let stands : StandsAt ns k i =
-    subst (λ (q : KeyBytes). StandsAt ns q i) (c.bytes.ensures ∙ c.search.ensures)
-    (subst (λ (ms : List Node). StandsAt ms c.bytes.result.now i) c.lists.ensures
+    subst (λ (q : KeyBytes). StandsAt ns q i) c.search.ensures
+    (subst (λ (ms : List Node). StandsAt ms c.search.result.now i) c.lists.ensures
     c.in-Ok.ensures) in
     let here : StandsAt (paired ks vs) k i =
     subst (λ (ms : List Node). StandsAt ms k i) (sym c.self.view_is) stands in
@@ -45,7 +46,7 @@ returns-in-Ok c =
     let d : Values = c.index_mut.result.now in
     let written : d ≡ get_or vs i d = c.index_mut.ensures.value in
     let value : c.raise.new.self ≡ joint (get_or vs i d).value (v ∷ []) = c.raise.ensures.joint ∙
-    ap (λ (w : ValueView). joint d.value (w ∷ [])) c.value.ensures ∙
+    ap (λ (w : ValueView). joint d.value (w ∷ [])) (ap (λ (a : KeyInsertionView). a.value) c.add.view_is) ∙
     ap (λ (w : Values). joint w.value (v ∷ [])) written in
     let is = with_both (λ (w : Values) (u : ValueView). record { value = u; gap = w.gap }) written
     value in
@@ -62,8 +63,8 @@ invariant_of-self c =
     let ks : List KeyBytes = (arc_value c.self.inside.keys).items in
     let vs : List Values = c.self.inside.values.items in
     let stands : StandsAt ns k i =
-    subst (λ (q : KeyBytes). StandsAt ns q i) (c.bytes.ensures ∙ c.search.ensures)
-    (subst (λ (ms : List Node). StandsAt ms c.bytes.result.now i) c.lists.ensures
+    subst (λ (q : KeyBytes). StandsAt ns q i) c.search.ensures
+    (subst (λ (ms : List Node). StandsAt ms c.search.result.now i) c.lists.ensures
     c.in-Ok.ensures) in
     let here : StandsAt (paired ks vs) k i =
     subst (λ (ms : List Node). StandsAt ms k i) (sym c.self.view_is) stands in
@@ -72,7 +73,7 @@ invariant_of-self c =
     let d : Values = c.index_mut.result.now in
     let written : d ≡ get_or vs i d = c.index_mut.ensures.value in
     let value : c.raise.new.self ≡ joint (get_or vs i d).value (v ∷ []) = c.raise.ensures.joint ∙
-    ap (λ (w : ValueView). joint d.value (w ∷ [])) c.value.ensures ∙
+    ap (λ (w : ValueView). joint d.value (w ∷ [])) (ap (λ (a : KeyInsertionView). a.value) c.add.view_is) ∙
     ap (λ (w : Values). joint w.value (v ∷ [])) written in
     let is = with_both (λ (w : Values) (u : ValueView). record { value = u; gap = w.gap }) written
     value in

@@ -46,9 +46,7 @@ returns-in-Ok c =
     let ks : List KeyBytes = (arc_value c.self.inside.keys).items in
     let vs : List Values = c.self.inside.values.items in
     let stands : StandsAt ns k i =
-    subst (λ (q : KeyBytes). StandsAt ns q i) c.bytes.ensures
-    (subst (λ (ms : List Node). StandsAt ms c.bytes.result.now i) c.lists.ensures
-    c.in-Ok.ensures) in
+    subst (λ (ms : List Node). StandsAt ms k i) c.lists.ensures c.in-Ok.ensures in
     let within : i < length vs = omega
     (arith, stands.bound, c.self.invariant.same, long_as ks vs ns c.self.invariant.same c.self.view_is) in
     let d : Values = c.index.result.now in
@@ -64,9 +62,8 @@ returns-in-Err-eq0 c =
     let ns : List Node = c.args.self.now in
     let k : KeyBytes = c.args.key.now in
     let i : ℕ = c.in-Err-eq0.field-0 in
-    let falls : FallsAt ns k i = subst (λ (q : KeyBytes). FallsAt ns q i) c.bytes.ensures
-    (subst (λ (ms : List Node). FallsAt ms c.bytes.result.now i) c.lists.ensures
-    c.in-Err-eq0.ensures) in
+    let falls : FallsAt ns k i =
+    subst (λ (ms : List Node). FallsAt ms k i) c.lists.ensures c.in-Err-eq0.ensures in
     c.unowned-best.ensures ∙ value_below ns k i (subst IsSorted c.self.view_is c.self.invariant.sorted) c.in-Err-eq0.field-0-test falls
 
 pub returns-in-Err : goal.returns-in-Err
@@ -76,9 +73,8 @@ returns-in-Err c =
     let i : ℕ = c.in-Err.index in
     let ks : List KeyBytes = (arc_value c.self.inside.keys).items in
     let vs : List Values = c.self.inside.values.items in
-    let falls : FallsAt ns k i = subst (λ (q : KeyBytes). FallsAt ns q i) c.bytes.ensures
-    (subst (λ (ms : List Node). FallsAt ms c.bytes.result.now i) c.lists.ensures
-    c.in-Err.ensures) in
+    let falls : FallsAt ns k i =
+    subst (λ (ms : List Node). FallsAt ms k i) c.lists.ensures c.in-Err.ensures in
     let some : 1 ≤ i = omega (arith, c.in-Err.index-test) in
     let within : i - 1 < length vs =
     omega (

@@ -5,6 +5,7 @@ use Rattle.tsc_time.specs.ValueView.{ValueView}
 use Rattle.tsc_time.specs.Joint.{joint}
 use Rattle.tsc_span.specs.Span.{KeyBytes, point}
 use Rattle.tsc_page_nodes.specs.declared.nodes.Values.{Values}
+use Rattle.tsc_page_nodes.specs.KeyAdds.{KeyInsertionView}
 use Rattle.tsc_page_nodes.specs.Nodes.{Node, paired, IsSorted, StandsAt, FitsIn, with_new, raise_nodes}
 use Rattle.tsc_page_nodes.proofs.Apart.{kept_pair, paired-length}
 use Rattle.tsc_page_nodes.proofs.NewKeys.{new_fits, with_new_splits}
@@ -75,7 +76,7 @@ returns-clause-added c =
     let d : Values = c.index_mut.result.now in
     let written : d ≡ get_or vs i d = c.index_mut.ensures.value in
     let value : c.raise.new.self ≡ joint (get_or vs i d).value (v ∷ []) = c.raise.ensures.joint ∙
-    ap (λ (w : ValueView). joint d.value (w ∷ [])) c.value.ensures ∙
+    ap (λ (w : ValueView). joint d.value (w ∷ [])) (ap (λ (a : KeyInsertionView). a.value) c.add.view_is) ∙
     ap (λ (w : Values). joint w.value (v ∷ [])) written in
     let is = with_both (λ (w : Values) (u : ValueView). record { value = u; gap = w.gap }) written
     value in

@@ -159,5 +159,5 @@ returns-clause-whole g c =
     })
     (reported_as sum.start c.update.new.self.start _ c.update.new.self.joint p
     c.update.new.self.lazy new c.update.ensures.start
-    (c.update.ensures.joint ∙ ap (λ (w : ValueView). joint_after r true w sum.joint)
-    c.value.ensures) c.update.ensures.lazy reported))
+    (c.update.ensures.joint ∙ ap (λ (x : KeyInsertionView). joint_after r true x.value sum.joint)
+    c.add.view_is) c.update.ensures.lazy reported))

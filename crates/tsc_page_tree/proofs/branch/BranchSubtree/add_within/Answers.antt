@@ -12,7 +12,7 @@ use Rattle.tsc_page_tree.specs.Leaves.{nodes_of, start_of, AreSubtrees}
 use Rattle.tsc_page_tree.specs.Lazy.{with_lazy, sizes_of, IsAddReported, joint_after}
 use Rattle.tsc_page_tree.specs.Trees.{IsBranchOf}
 use Rattle.tsc_span.proofs.CutOrder.{Lt}
-use Rattle.tsc_page_nodes.specs.Prefixes.{IsCutPrefix}
+use Rattle.tsc_span.specs.Prefixes.{IsCutPrefix}
 use Rattle.tsc_page_tree.proofs.SubtreeLists.{AreSameAs, same_list, copies_same, copies_sorted}
 use Rattle.tsc_page_tree.proofs.Reported.{reported_pushed, reported_added}
 use Rattle.tsc_page_nodes.proofs.PairedOrder.{on_err}

@@ -61,5 +61,6 @@ returns-clause-whole c =
     (leaf_whole c.update.new.self new few
     (reported_as s.start c.update.new.self.start _ c.update.new.self.joint s.lazy
     c.update.new.self.lazy new c.update.ensures.start
-    (c.update.ensures.joint ∙ ap (λ (w : ValueView). joint_after r true w s.joint) c.value.ensures)
+    (c.update.ensures.joint ∙ ap (λ (x : KeyInsertionView). joint_after r true x.value s.joint)
+    c.add.view_is)
     c.update.ensures.lazy reported))

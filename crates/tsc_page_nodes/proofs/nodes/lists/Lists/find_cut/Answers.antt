@@ -1,6 +1,6 @@
 -- The last cut lies behind all keys, which are as many as the nodes.
 use Rattle.std.proofs.Common.{sym, subst}
-use Rattle.tsc_page_nodes.specs.Prefixes.{IsKeyAt}
+use Rattle.tsc_span.specs.Prefixes.{IsKeyAt}
 use Rattle.tsc_page_nodes.proofs.Apart.{long_as}
 use Rattle.tsc_page_nodes.proofs.Searches.{lies_at_key, lies_behind}
 use Rattle.tsc_page_nodes.proofs.nodes.lists.Lists.find_cut.Goals as goal

@@ -15,8 +15,8 @@ returns-in_err-copy-in-Err-clause-memory c known =
     let k : KeyBytes = c.in-Some.key.now in
     let index : ℕ = c.in-Err.index in
     let found : IsFoundAt nodes k (Err index) =
-    subst (λ (m : KeyBytes). IsFoundAt nodes m (Err index)) (c.new.ensures ∙ c.bytes.ensures)
-    (subst (IsFoundAt nodes c.new.result) c.in-Err.is c.find.ensures) in
+    subst (λ (m : KeyBytes). IsFoundAt nodes m (Err index)) c.search.ensures
+    (subst (IsFoundAt nodes c.search.result.now) c.in-Err.is c.find.ensures) in
     let absent = FitsAt-absent k nodes index (before []) (subst IsSorted c.self.view_is c.self.invariant.sorted)
     (fits_at nodes k index found) in
     let new : true ≡ is_new_among (node_keys nodes) (option_map (λ k. k.now) c.args.key) =
@@ -30,8 +30,8 @@ returns-in-Ok-clause-value c =
     let k : KeyBytes = c.in-Some.key.now in
     let index : ℕ = c.in-Ok.index in
     let found : IsFoundAt nodes k (Ok index) =
-    subst (λ (m : KeyBytes). IsFoundAt nodes m (Ok index)) (c.new.ensures ∙ c.bytes.ensures)
-    (subst (IsFoundAt nodes c.new.result) c.in-Ok.is c.find.ensures) in
+    subst (λ (m : KeyBytes). IsFoundAt nodes m (Ok index)) c.search.ensures
+    (subst (IsFoundAt nodes c.search.result.now) c.in-Ok.is c.find.ensures) in
     subst (λ o. IsNewKey nodes (option_map (λ k. k.now) o) None) (sym c.in-Some.is)
     (known_at nodes k index found)
 
@@ -42,8 +42,8 @@ returns-in_ok-copy-in-Err-clause-value c =
     let copy : KeyBytes = c.in_ok-copy-in-Err.copy in
     let index : ℕ = c.in-Err.index in
     let found : IsFoundAt nodes k (Err index) =
-    subst (λ (m : KeyBytes). IsFoundAt nodes m (Err index)) (c.new.ensures ∙ c.bytes.ensures)
-    (subst (IsFoundAt nodes c.new.result) c.in-Err.is c.find.ensures) in
+    subst (λ (m : KeyBytes). IsFoundAt nodes m (Err index)) c.search.ensures
+    (subst (IsFoundAt nodes c.search.result.now) c.in-Err.is c.find.ensures) in
     subst (λ o. IsNewKey nodes (option_map (λ k. k.now) o) (Some (index, copy))) (sym c.in-Some.is)
     (new_at nodes k index copy c.in_ok-copy-in-Err.ensures found)
 
@@ -53,8 +53,8 @@ returns-in-Ok-clause-index c =
     let k : KeyBytes = c.in-Some.key.now in
     let index : ℕ = c.in-Ok.index in
     let found : IsFoundAt nodes k (Ok index) =
-    subst (λ (m : KeyBytes). IsFoundAt nodes m (Ok index)) (c.new.ensures ∙ c.bytes.ensures)
-    (subst (IsFoundAt nodes c.new.result) c.in-Ok.is c.find.ensures) in
+    subst (λ (m : KeyBytes). IsFoundAt nodes m (Ok index)) c.search.ensures
+    (subst (IsFoundAt nodes c.search.result.now) c.in-Ok.is c.find.ensures) in
     subst (λ o. IsIndexReported nodes (option_map (λ k. k.now) o) None (Some index))
     (sym c.in-Some.is) found
 
