@@ -119,7 +119,7 @@ impl Store {
         let now = self.now();
         match self.range.commit(transaction, now) {
             Ok(outcome) => Ok(has_committed(outcome)),
-            Err(error) => Err(error.into()),
+            Err(fault) => Err(fault.into()),
         }
     }
 }

@@ -4,7 +4,7 @@ ghost use Rattle.example_bank.specs.Replays.{CanBeReplayed};
 
 use crate::accounts::{self, TELLERS};
 use anyhow::{Context, Result, bail};
-use mvcc_range::{Outcome, RangeError, Row, Transaction, Write};
+use mvcc_range::{Outcome, RangeFault, Row, Transaction, Write};
 use mvcc_shared::{Client, Closed, Dealer, NotCommitted, SharedRange, laws};
 use std::alloc::Global;
 use std::marker::Model;
@@ -121,8 +121,8 @@ impl<'a, R: Wait> Desk<'a, R> {
             .read(self.rt, &mut self.client, transaction, span, now)
         {
             Ok(rows) => Ok(Some(rows)),
-            Err(RangeError::TooEarly) => Ok(None),
-            Err(error) => Err(error.into()),
+            Err(RangeFault::TooEarly) => Ok(None),
+            Err(fault) => Err(fault.into()),
         }
     }
 
@@ -175,8 +175,8 @@ impl<'a, R: Wait> Desk<'a, R> {
 
 /// A transaction that comes too early has to begin again, and another refusal ends all.
 fn is_over(refused: NotCommitted) -> Result<bool> {
-    match refused.error {
-        RangeError::TooEarly => Ok(false),
-        error => Err(error.into()),
+    match refused.fault {
+        RangeFault::TooEarly => Ok(false),
+        fault => Err(fault.into()),
     }
 }

@@ -122,7 +122,7 @@ fn put<R: Wait>(
             let done = has_committed(&outcome);
             Ok(Claimed { client, done })
         }
-        Err(refused) => Err(refused.error.into()),
+        Err(refused) => Err(refused.fault.into()),
     }
 }
 

@@ -1,4 +1,4 @@
-pub mod Errors
+pub mod Faults
 pub mod Serial
 pub mod Steps
 pub mod Calls

@@ -54,12 +54,12 @@
 //! ```
 #![tactic(auto)]
 
-mod error;
+mod fault;
 pub mod laws;
 mod range;
 mod transaction;
 
-pub use error::RangeError;
+pub use fault::RangeFault;
 pub use mvcc_versions::{Read, Row, Write};
 pub use range::{Outcome, Range, Reason};
 pub use transaction::Transaction;

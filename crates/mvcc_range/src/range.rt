@@ -44,7 +44,7 @@ ghost use Rattle.mvcc_range.specs.Steps.{
 ghost use Rattle.mvcc_versions.specs.Maps.{nodes_of};
 ghost use Rattle.mvcc_range.specs.Calls.{Reads, SeesOwn, ReportsTooLarge, HandsOnBy, AddsSummary, Ends};
 
-use crate::{RangeError, Read, Row, Transaction, Write};
+use crate::{RangeFault, Read, Row, Transaction, Write};
 use mvcc_versions::{Version, VersionMap, rows_after};
 use std::alloc::Global;
 use std::collections::LinkedList;
@@ -133,23 +133,23 @@ impl Range {
     /// assert_eq!(rt; rows[0].value.as_slice(), "mine".as_bytes());
     /// assert_eq!(rt; (rows.len(), one.reads()[0].rows.len()), (1, 0));
     /// let outside = range.read(&mut one, &keys(alloc, "z", "")?, at(20)).err();
-    /// assert_eq!(rt; outside, Some(RangeError::OutOfRange));
+    /// assert_eq!(rt; outside, Some(RangeFault::OutOfRange));
     /// ```
     pub fn read(
         &mut self,
         transaction: &mut Transaction,
         span: &Span,
         now: Timestamp,
-    ) -> Result<Vec<Row>, RangeError>
+    ) -> Result<Vec<Row>, RangeFault>
         ensures ok { OnOk result (Reads self.old self.new transaction.old transaction.new span.now
             now) }
         ensures own { IfOk result (λ rows. SeesOwn self.old transaction.old span.now rows.items) }
         ensures err { OnErr result ((self.new ≡ self.old) × (transaction.new ≡ transaction.old)) }
-        ensures out_of_range { IsErrOf result RangeError.OutOfRange
+        ensures out_of_range { IsErrOf result RangeFault.OutOfRange
             ↔ (is_within span.now self.old.span ≡ false) }
-        ensures too_early { IsErrOf result RangeError.TooEarly ↔ ((is_within span.now self.old.span
+        ensures too_early { IsErrOf result RangeFault.TooEarly ↔ ((is_within span.now self.old.span
             && is_before transaction.old.at self.old.threshold) ≡ true) }
-        ensures too_large { IsErrOf result RangeError.TooLarge ↔ ((is_within span.now self.old.span
+        ensures too_large { IsErrOf result RangeFault.TooLarge ↔ ((is_within span.now self.old.span
             && not (is_before transaction.old.at self.old.threshold)
             && not (fits self.old.cache.config span.now)) ≡ true) }
     {
@@ -182,15 +182,15 @@ impl Range {
         &mut self,
         transaction: &Transaction,
         now: Timestamp,
-    ) -> Result<Outcome, RangeError>
+    ) -> Result<Outcome, RangeFault>
         ensures ok { IfOk result (λ outcome. Ends self.old self.new transaction.now now outcome) }
         ensures err { OnErr result (IsSame self.old self.new) }
-        ensures out_of_range { IsErrOf result RangeError.OutOfRange
+        ensures out_of_range { IsErrOf result RangeFault.OutOfRange
             ↔ (are_within transaction.now.writes self.old.span ≡ false) }
-        ensures too_early { IsErrOf result RangeError.TooEarly
+        ensures too_early { IsErrOf result RangeFault.TooEarly
             ↔ ((are_within transaction.now.writes self.old.span
             && is_before transaction.now.at self.old.threshold) ≡ true) }
-        ensures too_large { IsErrOf result RangeError.TooLarge
+        ensures too_large { IsErrOf result RangeFault.TooLarge
             ↔ ((are_within transaction.now.writes self.old.span
             && not (is_before transaction.now.at self.old.threshold)
             && not (reads_fit self.old.cache.config transaction.now.reads)) ≡ true) }
@@ -240,7 +240,7 @@ impl Range {
     /// let mut range = new_range(alloc)?;
     /// range.collect_garbage(at(50));
     /// let early = range.commit(&begin(alloc, 49, 'A'), at(51)).err();
-    /// assert_eq!(rt; early, Some(RangeError::TooEarly));
+    /// assert_eq!(rt; early, Some(RangeFault::TooEarly));
     /// ```
     pub fn collect_garbage(&mut self, before: Timestamp)
         ensures { Collects self.old self.new before }
@@ -266,27 +266,27 @@ impl Range {
     }
 
     /// Whether a span may be read as of a time.
-    fn check_read(&self, span: &Span, at: Timestamp) -> Result<(), RangeError>
+    fn check_read(&self, span: &Span, at: Timestamp) -> Result<(), RangeFault>
         ensures ok { OnOk result ((is_within span.now self.now.span ≡ true)
             × (is_before at self.now.threshold ≡ false)
             × (fits self.now.cache.config span.now ≡ true)) }
-        ensures out_of_range { IsErrOf result RangeError.OutOfRange
+        ensures out_of_range { IsErrOf result RangeFault.OutOfRange
             ↔ (is_within span.now self.now.span ≡ false) }
-        ensures too_early { IsErrOf result RangeError.TooEarly ↔ ((is_within span.now self.now.span
+        ensures too_early { IsErrOf result RangeFault.TooEarly ↔ ((is_within span.now self.now.span
             && is_before at self.now.threshold) ≡ true) }
-        ensures too_large { IsErrOf result RangeError.TooLarge ↔ ((is_within span.now self.now.span
+        ensures too_large { IsErrOf result RangeFault.TooLarge ↔ ((is_within span.now self.now.span
             && not (is_before at self.now.threshold)
             && not (fits self.now.cache.config span.now)) ≡ true) }
-        ensures memory { IsErrOf result RangeError.NoMemory → ⊥ }
+        ensures memory { IsErrOf result RangeFault.NoMemory → ⊥ }
     {
         if !is_within(span, &self.span) {
-            return Err(RangeError::OutOfRange);
+            return Err(RangeFault::OutOfRange);
         }
         if at < self.threshold {
-            return Err(RangeError::TooEarly);
+            return Err(RangeFault::TooEarly);
         }
         if !self.cache.fits(span) {
-            return Err(RangeError::TooLarge);
+            return Err(RangeFault::TooLarge);
         }
         Ok(())
     }
@@ -299,31 +299,31 @@ impl Range {
     /// let mut range = new_range(alloc)?;
     /// range.collect_garbage(at(50));
     /// let early = range.check_commit(&begin(alloc, 49, 'A')).err();
-    /// assert_eq!(rt; early, Some(RangeError::TooEarly));
+    /// assert_eq!(rt; early, Some(RangeFault::TooEarly));
     /// ```
-    pub fn check_commit(&self, transaction: &Transaction) -> Result<(), RangeError>
+    pub fn check_commit(&self, transaction: &Transaction) -> Result<(), RangeFault>
         ensures ok { OnOk result ((are_within transaction.now.writes self.now.span ≡ true)
             × (is_before transaction.now.at self.now.threshold ≡ false)
             × (reads_fit self.now.cache.config transaction.now.reads ≡ true)) }
-        ensures out_of_range { IsErrOf result RangeError.OutOfRange
+        ensures out_of_range { IsErrOf result RangeFault.OutOfRange
             ↔ (are_within transaction.now.writes self.now.span ≡ false) }
-        ensures too_early { IsErrOf result RangeError.TooEarly
+        ensures too_early { IsErrOf result RangeFault.TooEarly
             ↔ ((are_within transaction.now.writes self.now.span
             && is_before transaction.now.at self.now.threshold) ≡ true) }
-        ensures too_large { IsErrOf result RangeError.TooLarge
+        ensures too_large { IsErrOf result RangeFault.TooLarge
             ↔ ((are_within transaction.now.writes self.now.span
             && not (is_before transaction.now.at self.now.threshold)
             && not (reads_fit self.now.cache.config transaction.now.reads)) ≡ true) }
-        ensures memory { IsErrOf result RangeError.NoMemory → ⊥ }
+        ensures memory { IsErrOf result RangeFault.NoMemory → ⊥ }
     {
         if !are_within(&transaction.writes, &self.span) {
-            return Err(RangeError::OutOfRange);
+            return Err(RangeFault::OutOfRange);
         }
         if transaction.at < self.threshold {
-            return Err(RangeError::TooEarly);
+            return Err(RangeFault::TooEarly);
         }
         if !reads_fit(&self.cache, &transaction.reads) {
-            return Err(RangeError::TooLarge);
+            return Err(RangeFault::TooLarge);
         }
         Ok(())
     }

@@ -36,8 +36,8 @@ use Rattle.tsc_cache.specs.declared.fault.CacheFault.{CacheFault}
 use Rattle.tsc_cache.specs.declared.fault.CacheFault.TheVariants as fault
 use Rattle.mvcc_versions.specs.Versions.{Row, is_within, are_within}
 use Rattle.mvcc_range.specs.declared.range.Outcome.{Outcome}
-use Rattle.mvcc_range.specs.declared.error.RangeError.{RangeError}
-use Rattle.mvcc_range.specs.declared.error.RangeError.TheVariants.{OutOfRange, TooEarly, TooLarge}
+use Rattle.mvcc_range.specs.declared.fault.RangeFault.{RangeFault}
+use Rattle.mvcc_range.specs.declared.fault.RangeFault.TheVariants.{OutOfRange, TooEarly, TooLarge}
 use Rattle.mvcc_range.specs.Serial.{Transaction}
 use Rattle.mvcc_range.specs.Steps.{RangeView, IsOpened, IsSame, Collects, reads_fit}
 use Rattle.mvcc_range.specs.Calls.{Reads, SeesOwn, ReportsTooLarge, HandsOnBy, Ends}
@@ -115,7 +115,7 @@ pub record Calls (old new : ClientView) (holds : RangeView → Call → RangeVie
 -- What a read answers on a range, as the range's own: the rows that the transaction sees, or why it
 -- is refused.
 pub record ReadsAt (old : RangeView) (call : Call) (new : RangeView) (before after : Transaction)
-    (span : SpanView) (now : Time) (result : Result (Vec Row Global) RangeError) : Type 0 where
+    (span : SpanView) (now : Time) (result : Result (Vec Row Global) RangeFault) : Type 0 where
   pub ok : OnOk result ((call ≡ has_read before after span now)
       × Reads old new before after span now)
   pub own : IfOk result (λ rows. SeesOwn old before span rows.items)
@@ -127,10 +127,10 @@ pub record ReadsAt (old : RangeView) (call : Call) (new : RangeView) (before aft
       ↔ ((is_within span old.span && not (is_before before.at old.threshold)
       && not (fits old.cache.config span)) ≡ true)
 
--- a commit was refused with this error
-abbrev pub IsRefusedAs : Result Outcome NotCommitted → RangeError → Type 0
-IsRefusedAs (Ok outcome) error = ⊥
-IsRefusedAs (Err refused) error = refused.error ≡ error
+-- a commit was refused with this fault
+abbrev pub IsRefusedAs : Result Outcome NotCommitted → RangeFault → Type 0
+IsRefusedAs (Ok outcome) why = ⊥
+IsRefusedAs (Err refused) why = refused.fault ≡ why
 
 -- When a commit is refused, but for want of memory, for which none is that is wrong otherwise.
 pub record ReportsRefused (range : RangeView) (t : Transaction)

@@ -1,6 +1,6 @@
 //! What the calls of a shared range answer.
 use crate::{Client, Dealer, SharedRange};
-use mvcc_range::{Range, RangeError, Transaction};
+use mvcc_range::{Range, RangeFault, Transaction};
 
 /// A range that no thread shares any more, and the transactions that committed there, in the order
 /// in which they did, each at the time at which it committed.
@@ -13,7 +13,7 @@ pub struct Closed {
 /// A commit that was refused, and the transaction, which may be tried again.
 #[derive(Drop)]
 pub struct NotCommitted {
-    pub error: RangeError,
+    pub fault: RangeFault,
     pub transaction: Transaction,
 }
 

@@ -6,7 +6,7 @@ ghost use Rattle.mvcc_shared.specs.Participating.{IsOf, IsAtRest, HasCalled};
 use crate::answers::NotCommitted;
 use crate::locking::{acquire, release};
 use crate::table::{Participant, SharedLock};
-use mvcc_range::{Outcome, RangeError, Row, Transaction};
+use mvcc_range::{Outcome, RangeFault, Row, Transaction};
 use std::sync::Wait;
 use timestamp_cache::{CacheFault, Config, Span, Timestamp};
 
@@ -17,7 +17,7 @@ pub(crate) fn read<R: Wait>(
     transaction: &mut Transaction,
     span: &Span,
     now: Timestamp,
-) -> Result<Vec<Row>, RangeError>
+) -> Result<Vec<Row>, RangeFault>
     requires { IsOf who.old shared.now.table_id × IsAtRest who.old.me }
     ensures table { who.new.table_id ≡ who.old.table_id }
     ensures called { HasCalled who.old.me who.new.me (λ old call new. ReadsAt old call new

@@ -6,7 +6,7 @@ ghost use Rattle.mvcc_shared.specs.Pending.{call_of};
 ghost use Rattle.mvcc_shared.specs.Serving.{HasMade};
 
 use crate::answers::NotCommitted;
-use mvcc_range::{Outcome, Range, RangeError, Row, Transaction};
+use mvcc_range::{Outcome, Range, RangeFault, Row, Transaction};
 use std::snapshot::Snapshot;
 use timestamp_cache::{CacheFault, Config, Span, Timestamp};
 
@@ -34,7 +34,7 @@ impl Served {
         transaction: &mut Transaction,
         span: &Span,
         now: Timestamp,
-    ) -> Result<Vec<Row>, RangeError>
+    ) -> Result<Vec<Row>, RangeFault>
         ensures made { HasMade self.old self.new }
         ensures reads { ReadsAt self.old.range (call_of self.new.pending) self.new.range
             transaction.old transaction.new span.now now result }
@@ -46,9 +46,9 @@ impl Served {
                 self.pending = PendingCall::Read(before, after, Snapshot::of(span), now);
                 Ok(rows)
             }
-            Err(error) => {
+            Err(fault) => {
                 self.pending = PendingCall::Refuse;
-                Err(error)
+                Err(fault)
             }
         }
     }
@@ -63,14 +63,14 @@ impl Served {
         ensures ends { EndsAt self.old.range (call_of self.new.pending) self.new.range transaction
             now result }
     {
-        if let Err(error) = self.range.check_commit(&transaction) {
+        if let Err(fault) = self.range.check_commit(&transaction) {
             self.pending = PendingCall::Refuse;
-            return Err(NotCommitted { error, transaction });
+            return Err(NotCommitted { fault, transaction });
         }
         if self.log.reserve(1).is_err() {
             self.pending = PendingCall::Refuse;
             return Err(NotCommitted {
-                error: RangeError::NoMemory,
+                fault: RangeFault::NoMemory,
                 transaction,
             });
         }
@@ -81,9 +81,9 @@ impl Served {
                 record_end(&mut self.log, transaction, &outcome);
                 Ok(outcome)
             }
-            Err(error) => {
+            Err(fault) => {
                 self.pending = PendingCall::Refuse;
-                Err(NotCommitted { error, transaction })
+                Err(NotCommitted { fault, transaction })
             }
         }
     }

@@ -11,7 +11,7 @@ use crate::fronts::{new_front, see_front};
 use crate::opening::{deal, new_table};
 use crate::served::Served;
 use crate::table::{RangeTable, Setup};
-use mvcc_range::{Outcome, Range, RangeError, Row, Transaction};
+use mvcc_range::{Outcome, Range, RangeFault, Row, Transaction};
 use std::alloc::Global;
 use std::marker::Model;
 use std::snapshot::Snapshot;
@@ -96,7 +96,7 @@ impl SharedRange {
         transaction: &mut Transaction,
         span: &Span,
         now: Timestamp,
-    ) -> Result<Vec<Row>, RangeError>
+    ) -> Result<Vec<Row>, RangeFault>
         requires range { client.old.range ≡ self.now }
         ensures { Calls client.old client.new (λ old call new. ReadsAt old call new transaction.old
             transaction.new span.now now result) }

@@ -56,7 +56,7 @@ fn commits<R: Wait + AllocGlobal>(
     writer.write(Write { key, content })?;
     match range.commit(rt, client, writer, at(30, 0)) {
         Ok(outcome) => Ok(outcome == Outcome::Committed(wanted)),
-        Err(refused) => Err(refused.error.into()),
+        Err(refused) => Err(refused.fault.into()),
     }
 }
 

@@ -12,9 +12,9 @@
 //! | `collect 25` | What no read from 25 on can see is dropped. |
 //!
 //! A read or a commit before that time answers `too early`. What else is refused answers the
-//! error's message.
+//! fault's message.
 use anyhow::{Context, Result, bail, ensure};
-use mvcc_range::{Outcome, Range, RangeError, Reason, Transaction, Write};
+use mvcc_range::{Outcome, Range, RangeFault, Reason, Transaction, Write};
 use std::alloc::Global;
 use std::fmt::InlineText;
 use std::str;
@@ -167,7 +167,7 @@ pub fn span(alloc: Global, keys: &str) -> Result<Span> {
 }
 
 /// A transaction whose read is refused has none more than before.
-fn read(range: &mut Range, reader: &mut Transaction, span: &Span) -> Result<Text, RangeError> {
+fn read(range: &mut Range, reader: &mut Transaction, span: &Span) -> Result<Text, RangeFault> {
     let count = reader.reads().len();
     let mut answer = Text::new();
     match range.read(reader, span, at(30, 0)) {
@@ -193,10 +193,10 @@ fn text_of(outcome: Outcome) -> Text {
     Text::of(format_args!("{word} {}.{}", at.wall(), at.logical()))
 }
 
-fn commit(range: &mut Range, writer: &Transaction) -> Result<Text, RangeError> {
+fn commit(range: &mut Range, writer: &Transaction) -> Result<Text, RangeFault> {
     match range.commit(writer, at(30, 0)) {
         Ok(outcome) => Ok(text_of(outcome)),
-        Err(error) => Err(error),
+        Err(fault) => Err(fault),
     }
 }
 
@@ -221,12 +221,12 @@ pub fn answer((range, begun): &mut Scene, call: &str) -> Result<Text> {
         }
         ("hand_on", _) => range
             .hand_on(config(first)?, second.parse()?, at(30, 0))
-            .map_err(RangeError::from)?,
+            .map_err(RangeFault::from)?,
         ("collect", _) => range.collect_garbage(time(first)?),
         _ => bail!("no such call"),
     }
     match reported {
-        Err(RangeError::TooEarly) => Ok(Text::of("too early")),
+        Err(RangeFault::TooEarly) => Ok(Text::of("too early")),
         reported => Ok(reported?),
     }
 }

@@ -1,7 +1,7 @@
 -- Proves the contract of `Served::commit`. A commit that is not refused is refused for no reason.
 use Rattle.std.proofs.Common.{ap}
 use Rattle.mvcc_range.specs.Serial.{Transaction}
-use Rattle.mvcc_range.specs.declared.error.RangeError.TheVariants.{OutOfRange, TooEarly, TooLarge}
+use Rattle.mvcc_range.specs.declared.fault.RangeFault.TheVariants.{OutOfRange, TooEarly, TooLarge}
 use Rattle.mvcc_shared.specs.History.{has_ended}
 use Rattle.mvcc_shared.proofs.Refusing.{still_not}
 use Rattle.mvcc_shared.proofs.served.Served.commit.Goals as goal

@@ -4,7 +4,7 @@ use timestamp_cache::{CacheFault, NoMemory};
 
 /// Why a call on a range was refused. The range and the transaction are then as before.
 #[derive(Clone, Copy, Debug, PartialEq, Eq, Error)]
-pub enum RangeError {
+pub enum RangeFault {
     /// A span that is read, or a key that is written, lies outside of the range's span.
     #[error("outside of the range")]
     OutOfRange,
@@ -19,27 +19,27 @@ pub enum RangeError {
     NoMemory,
 }
 
-impl From<NoMemory> for RangeError {
+impl From<NoMemory> for RangeFault {
     ghost use Rattle.std.specs.Prelude.{◌≡◌};
-    ghost use Rattle.mvcc_range.specs.declared.error.RangeError.TheVariants.{NoMemory};
+    ghost use Rattle.mvcc_range.specs.declared.fault.RangeFault.TheVariants.{NoMemory};
 
-    ghost from_gives = { λ _ error. error ≡ NoMemory };
+    ghost from_gives = { λ _ made. made ≡ NoMemory };
 
-    fn from(_refused: NoMemory) -> RangeError {
-        RangeError::NoMemory
+    fn from(_refused: NoMemory) -> RangeFault {
+        RangeFault::NoMemory
     }
 }
 
-impl From<CacheFault> for RangeError {
+impl From<CacheFault> for RangeFault {
     ghost use Rattle.std.specs.Prelude.{◌≡◌};
-    ghost use Rattle.mvcc_range.specs.Errors.{error_of};
+    ghost use Rattle.mvcc_range.specs.Faults.{fault_of};
 
-    ghost from_gives = { λ fault error. error ≡ error_of fault };
+    ghost from_gives = { λ fault made. made ≡ fault_of fault };
 
-    fn from(fault: CacheFault) -> RangeError {
+    fn from(fault: CacheFault) -> RangeFault {
         match fault {
-            CacheFault::TooLarge => RangeError::TooLarge,
-            CacheFault::NoMemory => RangeError::NoMemory,
+            CacheFault::TooLarge => RangeFault::TooLarge,
+            CacheFault::NoMemory => RangeFault::NoMemory,
         }
     }
 }
