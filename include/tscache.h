@@ -325,7 +325,7 @@ uint32_t tsc_figures_of(tsc_store *store, uint64_t handle, tsc_figures *out);
  * 8,264 bytes.
  *
  * It costs a lookup for each end key of a read within the span, and for each gap between two. With
- * TSC_SHORT it costs as much. While it runs it takes the memory of the marks, and up to some four
+ * TSC_SHORT it costs as much. While it runs it takes the memory of the marks, and up to some five
  * times that of the bytes. It is refused as a span to be added is, by TSC_ENDS, TSC_KEY_TOO_LONG
  * and TSC_INVERTED, and by TSC_NO_MEMORY and TSC_CLOSED: `out` and `*len` are as before then. A
  * shared cache is asked at a seat, by `tsc_seat_summary`. */
@@ -370,7 +370,7 @@ uint32_t tsc_move(tsc_store *store, uint64_t handle, tsc_store *other, uint64_t 
 /* Opens a cache that threads share, and writes its handle. Its `seats` have the handles behind
  * that, in their order: 1 to 64 of them. There may be `limit` Adds: take UINT64_MAX, which is
  * never reached, since a smaller limit is for tests. It takes the memory of two empty caches, and
- * some for each seat. What else it takes is as with `tsc_open`. */
+ * some for each seat. Its other arguments are those of `tsc_open`. */
 TSC_NODISCARD
 uint32_t tsc_open_shared(tsc_store *store, uint32_t page_first, uint32_t page_max,
                          uint32_t min_pages, uint64_t retention, const tsc_time *low_water,
@@ -381,8 +381,8 @@ uint32_t tsc_open_shared(tsc_store *store, uint32_t page_first, uint32_t page_ma
  * of its own, so Adds of threads that call different stripes do not wait for one another. A bound
  * is the next `lens[i]` bytes of `keys`, and together they use up `keys`. There are at most 1,023;
  * with none there is one stripe. Its `seats` have the handles behind that of the cache, in their
- * order: as many as there is memory for. What else it takes is as with `tsc_open`, for each stripe:
- * so there may be as many pages as stripes times those of one cache.
+ * order: as many as there is memory for. Its other arguments are those of `tsc_open`, for each
+ * stripe: so there may be as many pages as stripes times those of one cache.
  *
  * It is refused as `tsc_open` is, and then by TSC_SEATS, TSC_STRIPES, TSC_OUTSIDE, TSC_FULL,
  * TSC_KEY_TOO_LONG, TSC_BOUNDS, TSC_PAGE_SIZE and TSC_NO_MEMORY, in this order. Where memory is

@@ -18,7 +18,7 @@ import "runtime"
 //
 // It costs a lookup for each end key of a read within the span, and for each gap between two. A
 // summary of more than 4,096 bytes is made twice: at first to learn its length. Meanwhile the call
-// takes the memory of the marks, and up to some five times that of the bytes.
+// takes the memory of the marks, and up to some six times that of the bytes.
 func (c *Cache) Summary(span Span, most uint) ([]byte, error) {
 	in, err := c.take()
 	if err != nil {

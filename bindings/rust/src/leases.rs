@@ -18,7 +18,7 @@ impl Cache {
     ///
     /// The call costs a lookup for each end key of a read within the span, and for each gap
     /// between two. A summary of more than 4,096 bytes is made twice: at first to learn its
-    /// length. Meanwhile the call takes the memory of the marks, and up to some five times that of
+    /// length. Meanwhile the call takes the memory of the marks, and up to some six times that of
     /// the bytes.
     ///
     /// ```

@@ -1,12 +1,12 @@
 //! Two seats of a cache in stripes, which take turns, as a table of rows in the language of
 //! `test_support`.
 //!
-//! After each Add the other seat learns what it leads to, and makes the next call. A call that is
-//! refused has to leave all that is seen as it was. Beside the calls of all tables there are:
+//! After each Add the other seat learns what it leads to, and makes the next call. A refused
+//! Add, and a refused call of the table below, has to leave all that is seen as it was.
 //!
 //! | Row | What is done, or shown |
 //! |---|---|
-//! | `stripes ..` | As in `bindings/rows.txt`; a fault of the bounds has its text. |
+//! | `stripes ..` | As in `bindings/rows.txt`; a refused opening has the text of its fault. |
 //! | `tries 9 = done` | Later calls try 9 times. They wait before, and after `tries all`. |
 //! | `by gate = done` | Later Adds have a gate, which is told once of each; or `by plain`. |
 //! | `once = done` | Later calls are made once alone, also where memory is refused. |
@@ -22,14 +22,14 @@ use std::mem;
 use std::sync::Wait;
 use test_support::rows::{Refusal, Reported, SpanBytes, of_no_memory, span, span_bytes};
 use test_support::{Table, again_reported, at, opening, reported, reported_added, written};
-use timestamp_cache::{ReadSummary, Uuid, earliest_write_at};
+use timestamp_cache::{ReadSummary, Uuid, earliest_write_at, may_write_at};
 use tsc_cache::{Added, Config, Figures, Mark};
 use tsc_span::{Key, Span, SpanRef};
 use tsc_striped::TryAddFault::Refused;
-use tsc_striped::{
-    Busy, Dealer, OpenFault, Receipt, Seat, SnapshotFault, StripedCache, TryAddFault,
+use tsc_striped::{Dealer, OpenFault, Receipt, Seat, SnapshotFault, StripedCache, TryAddFault};
+use tsc_striped_leases::{
+    Trying, Waiting, apply_in_stripes, summary_in_stripes, try_apply_in_stripes,
 };
-use tsc_striped_leases::{Trying, apply_in_stripes, summary_in_stripes, try_apply_in_stripes};
 use tsc_time::{Timestamp, Value};
 
 /// A lookup that tries so often, or one that waits.
@@ -220,6 +220,20 @@ impl<'a, R: Wait> Seats<'a, R> {
         }
     }
 
+    /// Whether a transaction may write a span at a time.
+    fn may_write(&mut self, span: &Span, at: Timestamp, by: Uuid) -> Reported<bool> {
+        let (rt, cache, seat) = (self.rt, &self.striped, &mut self.seat);
+        match self.tries {
+            Some(tries) => may_write_at(&Trying { cache, tries }, seat, span, at, by).map_err(
+                |_| Refusal::Busy,
+            ),
+            None => match may_write_at(&Waiting { cache, rt }, seat, span, at, by) {
+                Ok(may) => Ok(may),
+                Err(none) => match none {},
+            },
+        }
+    }
+
     /// The seats meet, and tell how many Adds they count.
     fn meet(&mut self) -> u64 {
         self.striped.meet(&mut self.seat, &mut self.other);
@@ -314,17 +328,25 @@ impl<R: Wait> Table for Seats<'_, R> {
         looked_up!(self, try_figures, figures; self.stripe)
     }
 
-    /// Where calls wait, it tries 64 times.
     fn earliest(&mut self, spans: &[Span], at: Timestamp, by: Uuid) -> Reported<Option<Timestamp>> {
-        let (cache, tries) = (&self.striped, self.tries.unwrap_or(64));
-        match earliest_write_at(&Trying { cache, tries }, &mut self.seat, spans, at, by) {
-            Ok(free) => Ok(free),
-            Err(Busy) => Err(Refusal::Busy),
+        let (rt, cache, seat) = (self.rt, &self.striped, &mut self.seat);
+        match self.tries {
+            Some(tries) => earliest_write_at(&Trying { cache, tries }, seat, spans, at, by).map_err(
+                |_| Refusal::Busy,
+            ),
+            None => match earliest_write_at(&Waiting { cache, rt }, seat, spans, at, by) {
+                Ok(free) => Ok(free),
+                Err(none) => match none {},
+            },
         }
     }
 
     fn may(&mut self, spans: &[Span], at: Timestamp, by: Uuid) -> Reported<bool> {
-        Ok(self.earliest(spans, at, by)? == Some(at))
+        let mut all = true;
+        for span in spans {
+            all &= self.may_write(span, at, by)?;
+        }
+        Ok(all)
     }
 
     fn call(&mut self, words: &[&str]) -> Reported<String> {
