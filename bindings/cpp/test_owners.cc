@@ -2,6 +2,7 @@
 /// takes, and seats in threads. It says at the end `N passed, M failed`.
 #include "tscache.hpp"
 
+#include <array>
 #include <atomic>
 #include <cstdlib>
 #include <cstring>
@@ -267,6 +268,39 @@ void shared_caches_move()
     CHECK(shared.close().error() == Error::StillOut && shared.seat().error() == Error::StillOut);
     second.close();
     CHECK(shared.close().value() == 0);
+}
+
+/// Calls that only read are made again while long batches hold the locks that they need.
+void lookups_are_never_busy()
+{
+    Config config;
+    Shared shared = Shared::open_striped(config, std::string_view("b"), 2).value();
+    Seat one = shared.seat().value(), other = shared.seat().value();
+    std::vector<std::string> keys;
+    for (int i = 0; i < 20000; i++)
+        keys.push_back((i % 2 ? "a" : "b") + std::to_string(i));
+    std::vector<Mark> marks;
+    for (const std::string &key : keys)
+        marks.push_back({Span::point(key), {{20}, ONE}});
+    std::atomic<bool> is_over = false;
+    bool are_added = true;
+    std::thread thread([&] {
+        for (int turn = 0; turn < 30; turn++)
+            are_added = one.add_all(marks, {20}, UINT32_MAX).ok() && are_added;
+        is_over = true;
+    });
+    const Span all = Span::onward("");
+    std::array<int, 6> wrong = {};
+    while (!is_over) {
+        wrong[0] += !other.get_max(all).ok();
+        wrong[1] += !other.earliest_write(all, {}, TWO).ok();
+        wrong[2] += !other.may_write(all, {}, TWO).ok();
+        wrong[3] += !other.low_water().ok();
+        wrong[4] += !other.figures().ok();
+        wrong[5] += !other.summary(all, 1).ok();
+    }
+    thread.join();
+    CHECK(are_added && wrong == (std::array<int, 6>{}));
 }
 
 /// A cache in stripes, by whose seats threads add and look up.
@@ -664,7 +698,8 @@ void of_seats() { of_both<Seat>(lone_seat); }
 int main()
 {
     for (void (*test)() : {caches_move, shared_caches_move, results, settings, times_and_owners,
-                           memory_of_owners, texts, seats, threads, stripes, of_caches, of_seats}) {
+                           memory_of_owners, texts, seats, threads, stripes,
+                           lookups_are_never_busy, of_caches, of_seats}) {
         try {
             test();
         } catch (const std::exception &why) {

@@ -84,6 +84,47 @@ func TestGoroutinesShareStripes(t *testing.T) {
 	}
 }
 
+// Calls that only read are made again while long batches hold the locks that they need.
+func TestLookupsAreNeverBusy(t *testing.T) {
+	_, seats, err := OpenStriped(DefaultConfig(), [][]byte{[]byte("b")}, 2)
+	if err != nil {
+		t.Fatal(err)
+	}
+	marks, done := make([]Mark, 20000), make(chan error)
+	for i := range marks {
+		marks[i].Span = Point([]byte(fmt.Sprintf("%c%d", 'a'+i%2, i)))
+	}
+	all := Onward(nil, IncludeBoth)
+	for name, call := range map[string]func(*Seat) error{
+		"GetMax":        func(s *Seat) error { _, _, err := s.GetMax(all); return err },
+		"EarliestWrite": func(s *Seat) error { _, err := s.EarliestWrite([]Span{all}, Time{}, [16]byte{}); return err },
+		"MayWrite":      func(s *Seat) error { _, err := s.MayWrite(all, Time{}, [16]byte{}); return err },
+		"LowWater":      func(s *Seat) error { _, _, err := s.LowWater(); return err },
+		"Figures":       func(s *Seat) error { _, _, err := s.Figures(); return err },
+		"Summary":       func(s *Seat) error { _, _, err := s.Summary(all, 1); return err },
+	} {
+		go func() {
+			var err error
+			for turn := 0; turn < 20 && err == nil; turn++ {
+				_, err = addedAt(seats[0], marks, Time{Wall: 20})
+			}
+			done <- err
+		}()
+		for added := false; !added; {
+			if err := call(seats[1]); err != nil {
+				t.Fatal(name, err)
+			}
+			select {
+			case err := <-done:
+				if added = true; err != nil {
+					t.Fatal(err)
+				}
+			default:
+			}
+		}
+	}
+}
+
 // The seats of a cache in stripes go round in a pool.
 func TestSeatsInStripesGoRound(t *testing.T) {
 	shared, seats, err := OpenStriped(DefaultConfig(), [][]byte{[]byte("m")}, 2)

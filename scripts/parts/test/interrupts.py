@@ -17,7 +17,7 @@ from parts.stand_ins import words_of_cases as arguments
 
 run = play
 WAITING = "tscache: waiting for another build here\n"
-FOREVER = 'echo $$ >"$TOLD/pid"\nexec sleep 60\n'
+FOREVER = 'trap "echo told >\\"$TOLD/signalled\\"; exit" TERM\necho $$ >"$TOLD/pid"\nwhile :; do sleep 0.05; done\n'
 
 
 def line_of(it, seconds=60):
@@ -34,11 +34,11 @@ def line_of(it, seconds=60):
 class Terminal:
     """A call at a terminal of its own, and what is told there."""
 
-    def __init__(self, place, *words):
+    def __init__(self, place, *words, stdout=None):
         self.master, slave = pty.openpty()
         # (so that the terminal is the call's own, and interrupts it)
         before = lambda: (os.setsid(), os.close(os.open(os.ttyname(2), os.O_RDWR)))
-        self.it = place.start(*words, stdin=slave, stdout=slave, stderr=slave, preexec_fn=before)
+        self.it = place.start(*words, stdin=slave, stdout=stdout or slave, stderr=slave, preexec_fn=before)
         os.close(slave)
         self.told = ""
 
@@ -66,14 +66,15 @@ def still(*seconds):
 @case("a build of which a terminal is not told each five seconds, and a log each twenty; or a second one that builds too")
 def signs(place):
     place.write("told/sleeps", "")
-    it, began = Terminal(place, *REPLAY), time.time()
+    # (standard error alone is a terminal)
+    it, began = Terminal(place, *REPLAY, stdout=subprocess.DEVNULL), time.time()
     same(it.until(lambda told: "for 10 " in told and told.endswith("\n")), BUILDING + still(5, 10))
     assert time.time() - began > 9.5, "the signs came too early"
     second = Terminal(place, *REPLAY)
     same(second.until(lambda told: told.endswith("\n")), WAITING)
     place.remove("told/sleeps")
     same((it.ended(), second.ended(), place.calls().count("tscache try")), (3, 3, 1))
-    same((it.told, second.told), (any_text(".*\n" + re.escape(UNPROVED + answer("new"))), WAITING + UNPROVED + answer("new")))
+    same((it.told, second.told), (any_text(".*\n" + re.escape(UNPROVED)), WAITING + UNPROVED + answer("new")))
     place.write(LOW, "two")
     place.write("told/sleeps", "")
     it, began = place.start(*REPLAY), time.time()
@@ -108,6 +109,7 @@ def a_signal_in_an_answer(place, name, how):
     place.built(how)
     place.write("told/program", FOREVER)
     signalled(place, name, REPLAY)
+    same(place.read("told/signalled"), "told\n")
 
 
 @case("a signal in a build that something outlives, or that changes what was built",

@@ -239,6 +239,7 @@ def a_build_that_fails(place, kind, crate, log, status, told):
         if kind == "try":
             first = FAILED if status == 70 else FULL_DISK
             same(got, (status, "", f"{BUILDING}{first}tscache was not compiled: {told}\n"))
+            same(os.listdir(place.out) if how == "new" else [], [])
         else:
             lines = [f"tscache: {crate} was not built; the log is {place.out}/tscache.log", f"tscache: {told}"]
             same((got[:2], got[2].splitlines()[-2:]), ((status, ""), lines))

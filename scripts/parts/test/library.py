@@ -42,7 +42,7 @@ C_ONCE = [
 ]
 STRICT_CPP = ["-Wall", "-Wextra", "-Wpedantic", "-Werror", "-Wold-style-cast"]
 # The programs in C++: what each is about, and how many cases pass today at the least.
-CPP_PROGRAMS = {"test_rows.cc": ("rows", 2348), "test_owners.cc": ("owners", 503), "store.cc": ("a store with threads", 2)}
+CPP_PROGRAMS = {"test_rows.cc": ("rows", 2348), "test_owners.cc": ("owners", 504), "store.cc": ("a store with threads", 2)}
 LEAST_OF_RUST, LEAST_OF_GO = 172, 196
 # How many calls of the header have an answer that must be looked at.
 ANSWERS = 38
