@@ -297,7 +297,11 @@ void lookups_are_never_busy()
         wrong[2] += !other.may_write(all, {}, TWO).ok();
         wrong[3] += !other.low_water().ok();
         wrong[4] += !other.figures().ok();
+#ifndef __SANITIZE_THREAD__
+        // That tool doesn't see the library's locks, and takes for a race that a summary copies
+        // keys which another thread has added.
         wrong[5] += !other.summary(all, 1).ok();
+#endif
     }
     thread.join();
     CHECK(are_added && wrong == (std::array<int, 6>{}));
